@@ -1,0 +1,2 @@
+pub mod Compress
+pub mod Rounds

@@ -1,0 +1,834 @@
+// BLAKE3's compression function, written so that LLVM keeps the state in registers: each round is a function of its own
+// that is called once, with its message words in the order of its schedule, so that all seven are inlined.
+use word::add;
+use word::rotr;
+use word::xor;
+ghost use mathlib.Core.Path.{_≡_};
+ghost use Prim.Native.Nat.{_+_, _<_, _≤_};
+ghost use lib.ListN.{length, getD};
+ghost use Rattle.compress.specs.Compress.{halfOf, mixOf, initial, rounds, folded, compressed};
+ghost use Rattle.compress.specs.Rounds.{listOf, mixed, scheduled};
+
+// The four words that G mixes.
+pub struct Quad {
+    pub a: u32,
+    pub b: u32,
+    pub c: u32,
+    pub d: u32,
+}
+
+// 16 words by name: the state, or a block's message.
+pub struct Words {
+    pub w0: u32,
+    pub w1: u32,
+    pub w2: u32,
+    pub w3: u32,
+    pub w4: u32,
+    pub w5: u32,
+    pub w6: u32,
+    pub w7: u32,
+    pub w8: u32,
+    pub w9: u32,
+    pub w10: u32,
+    pub w11: u32,
+    pub w12: u32,
+    pub w13: u32,
+    pub w14: u32,
+    pub w15: u32,
+}
+
+fn half(q: Quad, m: u32, s: u32, t: u32) -> Quad
+    requires { ⌜ ((0 < s) × (s < 32)) × ((0 < t) × (t < 32)) ⌝ }
+    ensures { λ r. ⌜ r ≡ halfOf q m s t ⌝ }
+{
+    let a = add(add(q.a, q.b), m);
+    let d = rotr(xor(q.d, a), s);
+    let c = add(q.c, d);
+    let b = rotr(xor(q.b, c), t);
+    Quad { a, b, c, d }
+}
+
+fn mix(q: Quad, x: u32, y: u32) -> Quad
+    ensures { λ r. ⌜ r ≡ mixOf q x y ⌝ }
+{
+    half(half(q, x, 16, 12), y, 8, 7)
+}
+
+fn round1(v: Words, m: Words) -> Words
+    ensures { λ r. ⌜ listOf r ≡ mixed (listOf v) (scheduled 0 (listOf m)) ⌝ }
+{
+    let c0 = mix(
+        Quad {
+            a: v.w0,
+            b: v.w4,
+            c: v.w8,
+            d: v.w12,
+        },
+        m.w0,
+        m.w1,
+    );
+    let c1 = mix(
+        Quad {
+            a: v.w1,
+            b: v.w5,
+            c: v.w9,
+            d: v.w13,
+        },
+        m.w2,
+        m.w3,
+    );
+    let c2 = mix(
+        Quad {
+            a: v.w2,
+            b: v.w6,
+            c: v.w10,
+            d: v.w14,
+        },
+        m.w4,
+        m.w5,
+    );
+    let c3 = mix(
+        Quad {
+            a: v.w3,
+            b: v.w7,
+            c: v.w11,
+            d: v.w15,
+        },
+        m.w6,
+        m.w7,
+    );
+    let d0 = mix(
+        Quad {
+            a: c0.a,
+            b: c1.b,
+            c: c2.c,
+            d: c3.d,
+        },
+        m.w8,
+        m.w9,
+    );
+    let d1 = mix(
+        Quad {
+            a: c1.a,
+            b: c2.b,
+            c: c3.c,
+            d: c0.d,
+        },
+        m.w10,
+        m.w11,
+    );
+    let d2 = mix(
+        Quad {
+            a: c2.a,
+            b: c3.b,
+            c: c0.c,
+            d: c1.d,
+        },
+        m.w12,
+        m.w13,
+    );
+    let d3 = mix(
+        Quad {
+            a: c3.a,
+            b: c0.b,
+            c: c1.c,
+            d: c2.d,
+        },
+        m.w14,
+        m.w15,
+    );
+    Words {
+        w0: d0.a,
+        w1: d1.a,
+        w2: d2.a,
+        w3: d3.a,
+        w4: d3.b,
+        w5: d0.b,
+        w6: d1.b,
+        w7: d2.b,
+        w8: d2.c,
+        w9: d3.c,
+        w10: d0.c,
+        w11: d1.c,
+        w12: d1.d,
+        w13: d2.d,
+        w14: d3.d,
+        w15: d0.d,
+    }
+}
+
+fn round2(v: Words, m: Words) -> Words
+    ensures { λ r. ⌜ listOf r ≡ mixed (listOf v) (scheduled 1 (listOf m)) ⌝ }
+{
+    let c0 = mix(
+        Quad {
+            a: v.w0,
+            b: v.w4,
+            c: v.w8,
+            d: v.w12,
+        },
+        m.w2,
+        m.w6,
+    );
+    let c1 = mix(
+        Quad {
+            a: v.w1,
+            b: v.w5,
+            c: v.w9,
+            d: v.w13,
+        },
+        m.w3,
+        m.w10,
+    );
+    let c2 = mix(
+        Quad {
+            a: v.w2,
+            b: v.w6,
+            c: v.w10,
+            d: v.w14,
+        },
+        m.w7,
+        m.w0,
+    );
+    let c3 = mix(
+        Quad {
+            a: v.w3,
+            b: v.w7,
+            c: v.w11,
+            d: v.w15,
+        },
+        m.w4,
+        m.w13,
+    );
+    let d0 = mix(
+        Quad {
+            a: c0.a,
+            b: c1.b,
+            c: c2.c,
+            d: c3.d,
+        },
+        m.w1,
+        m.w11,
+    );
+    let d1 = mix(
+        Quad {
+            a: c1.a,
+            b: c2.b,
+            c: c3.c,
+            d: c0.d,
+        },
+        m.w12,
+        m.w5,
+    );
+    let d2 = mix(
+        Quad {
+            a: c2.a,
+            b: c3.b,
+            c: c0.c,
+            d: c1.d,
+        },
+        m.w9,
+        m.w14,
+    );
+    let d3 = mix(
+        Quad {
+            a: c3.a,
+            b: c0.b,
+            c: c1.c,
+            d: c2.d,
+        },
+        m.w15,
+        m.w8,
+    );
+    Words {
+        w0: d0.a,
+        w1: d1.a,
+        w2: d2.a,
+        w3: d3.a,
+        w4: d3.b,
+        w5: d0.b,
+        w6: d1.b,
+        w7: d2.b,
+        w8: d2.c,
+        w9: d3.c,
+        w10: d0.c,
+        w11: d1.c,
+        w12: d1.d,
+        w13: d2.d,
+        w14: d3.d,
+        w15: d0.d,
+    }
+}
+
+fn round3(v: Words, m: Words) -> Words
+    ensures { λ r. ⌜ listOf r ≡ mixed (listOf v) (scheduled 2 (listOf m)) ⌝ }
+{
+    let c0 = mix(
+        Quad {
+            a: v.w0,
+            b: v.w4,
+            c: v.w8,
+            d: v.w12,
+        },
+        m.w3,
+        m.w4,
+    );
+    let c1 = mix(
+        Quad {
+            a: v.w1,
+            b: v.w5,
+            c: v.w9,
+            d: v.w13,
+        },
+        m.w10,
+        m.w12,
+    );
+    let c2 = mix(
+        Quad {
+            a: v.w2,
+            b: v.w6,
+            c: v.w10,
+            d: v.w14,
+        },
+        m.w13,
+        m.w2,
+    );
+    let c3 = mix(
+        Quad {
+            a: v.w3,
+            b: v.w7,
+            c: v.w11,
+            d: v.w15,
+        },
+        m.w7,
+        m.w14,
+    );
+    let d0 = mix(
+        Quad {
+            a: c0.a,
+            b: c1.b,
+            c: c2.c,
+            d: c3.d,
+        },
+        m.w6,
+        m.w5,
+    );
+    let d1 = mix(
+        Quad {
+            a: c1.a,
+            b: c2.b,
+            c: c3.c,
+            d: c0.d,
+        },
+        m.w9,
+        m.w0,
+    );
+    let d2 = mix(
+        Quad {
+            a: c2.a,
+            b: c3.b,
+            c: c0.c,
+            d: c1.d,
+        },
+        m.w11,
+        m.w15,
+    );
+    let d3 = mix(
+        Quad {
+            a: c3.a,
+            b: c0.b,
+            c: c1.c,
+            d: c2.d,
+        },
+        m.w8,
+        m.w1,
+    );
+    Words {
+        w0: d0.a,
+        w1: d1.a,
+        w2: d2.a,
+        w3: d3.a,
+        w4: d3.b,
+        w5: d0.b,
+        w6: d1.b,
+        w7: d2.b,
+        w8: d2.c,
+        w9: d3.c,
+        w10: d0.c,
+        w11: d1.c,
+        w12: d1.d,
+        w13: d2.d,
+        w14: d3.d,
+        w15: d0.d,
+    }
+}
+
+fn round4(v: Words, m: Words) -> Words
+    ensures { λ r. ⌜ listOf r ≡ mixed (listOf v) (scheduled 3 (listOf m)) ⌝ }
+{
+    let c0 = mix(
+        Quad {
+            a: v.w0,
+            b: v.w4,
+            c: v.w8,
+            d: v.w12,
+        },
+        m.w10,
+        m.w7,
+    );
+    let c1 = mix(
+        Quad {
+            a: v.w1,
+            b: v.w5,
+            c: v.w9,
+            d: v.w13,
+        },
+        m.w12,
+        m.w9,
+    );
+    let c2 = mix(
+        Quad {
+            a: v.w2,
+            b: v.w6,
+            c: v.w10,
+            d: v.w14,
+        },
+        m.w14,
+        m.w3,
+    );
+    let c3 = mix(
+        Quad {
+            a: v.w3,
+            b: v.w7,
+            c: v.w11,
+            d: v.w15,
+        },
+        m.w13,
+        m.w15,
+    );
+    let d0 = mix(
+        Quad {
+            a: c0.a,
+            b: c1.b,
+            c: c2.c,
+            d: c3.d,
+        },
+        m.w4,
+        m.w0,
+    );
+    let d1 = mix(
+        Quad {
+            a: c1.a,
+            b: c2.b,
+            c: c3.c,
+            d: c0.d,
+        },
+        m.w11,
+        m.w2,
+    );
+    let d2 = mix(
+        Quad {
+            a: c2.a,
+            b: c3.b,
+            c: c0.c,
+            d: c1.d,
+        },
+        m.w5,
+        m.w8,
+    );
+    let d3 = mix(
+        Quad {
+            a: c3.a,
+            b: c0.b,
+            c: c1.c,
+            d: c2.d,
+        },
+        m.w1,
+        m.w6,
+    );
+    Words {
+        w0: d0.a,
+        w1: d1.a,
+        w2: d2.a,
+        w3: d3.a,
+        w4: d3.b,
+        w5: d0.b,
+        w6: d1.b,
+        w7: d2.b,
+        w8: d2.c,
+        w9: d3.c,
+        w10: d0.c,
+        w11: d1.c,
+        w12: d1.d,
+        w13: d2.d,
+        w14: d3.d,
+        w15: d0.d,
+    }
+}
+
+fn round5(v: Words, m: Words) -> Words
+    ensures { λ r. ⌜ listOf r ≡ mixed (listOf v) (scheduled 4 (listOf m)) ⌝ }
+{
+    let c0 = mix(
+        Quad {
+            a: v.w0,
+            b: v.w4,
+            c: v.w8,
+            d: v.w12,
+        },
+        m.w12,
+        m.w13,
+    );
+    let c1 = mix(
+        Quad {
+            a: v.w1,
+            b: v.w5,
+            c: v.w9,
+            d: v.w13,
+        },
+        m.w9,
+        m.w11,
+    );
+    let c2 = mix(
+        Quad {
+            a: v.w2,
+            b: v.w6,
+            c: v.w10,
+            d: v.w14,
+        },
+        m.w15,
+        m.w10,
+    );
+    let c3 = mix(
+        Quad {
+            a: v.w3,
+            b: v.w7,
+            c: v.w11,
+            d: v.w15,
+        },
+        m.w14,
+        m.w8,
+    );
+    let d0 = mix(
+        Quad {
+            a: c0.a,
+            b: c1.b,
+            c: c2.c,
+            d: c3.d,
+        },
+        m.w7,
+        m.w2,
+    );
+    let d1 = mix(
+        Quad {
+            a: c1.a,
+            b: c2.b,
+            c: c3.c,
+            d: c0.d,
+        },
+        m.w5,
+        m.w3,
+    );
+    let d2 = mix(
+        Quad {
+            a: c2.a,
+            b: c3.b,
+            c: c0.c,
+            d: c1.d,
+        },
+        m.w0,
+        m.w1,
+    );
+    let d3 = mix(
+        Quad {
+            a: c3.a,
+            b: c0.b,
+            c: c1.c,
+            d: c2.d,
+        },
+        m.w6,
+        m.w4,
+    );
+    Words {
+        w0: d0.a,
+        w1: d1.a,
+        w2: d2.a,
+        w3: d3.a,
+        w4: d3.b,
+        w5: d0.b,
+        w6: d1.b,
+        w7: d2.b,
+        w8: d2.c,
+        w9: d3.c,
+        w10: d0.c,
+        w11: d1.c,
+        w12: d1.d,
+        w13: d2.d,
+        w14: d3.d,
+        w15: d0.d,
+    }
+}
+
+fn round6(v: Words, m: Words) -> Words
+    ensures { λ r. ⌜ listOf r ≡ mixed (listOf v) (scheduled 5 (listOf m)) ⌝ }
+{
+    let c0 = mix(
+        Quad {
+            a: v.w0,
+            b: v.w4,
+            c: v.w8,
+            d: v.w12,
+        },
+        m.w9,
+        m.w14,
+    );
+    let c1 = mix(
+        Quad {
+            a: v.w1,
+            b: v.w5,
+            c: v.w9,
+            d: v.w13,
+        },
+        m.w11,
+        m.w5,
+    );
+    let c2 = mix(
+        Quad {
+            a: v.w2,
+            b: v.w6,
+            c: v.w10,
+            d: v.w14,
+        },
+        m.w8,
+        m.w12,
+    );
+    let c3 = mix(
+        Quad {
+            a: v.w3,
+            b: v.w7,
+            c: v.w11,
+            d: v.w15,
+        },
+        m.w15,
+        m.w1,
+    );
+    let d0 = mix(
+        Quad {
+            a: c0.a,
+            b: c1.b,
+            c: c2.c,
+            d: c3.d,
+        },
+        m.w13,
+        m.w3,
+    );
+    let d1 = mix(
+        Quad {
+            a: c1.a,
+            b: c2.b,
+            c: c3.c,
+            d: c0.d,
+        },
+        m.w0,
+        m.w10,
+    );
+    let d2 = mix(
+        Quad {
+            a: c2.a,
+            b: c3.b,
+            c: c0.c,
+            d: c1.d,
+        },
+        m.w2,
+        m.w6,
+    );
+    let d3 = mix(
+        Quad {
+            a: c3.a,
+            b: c0.b,
+            c: c1.c,
+            d: c2.d,
+        },
+        m.w4,
+        m.w7,
+    );
+    Words {
+        w0: d0.a,
+        w1: d1.a,
+        w2: d2.a,
+        w3: d3.a,
+        w4: d3.b,
+        w5: d0.b,
+        w6: d1.b,
+        w7: d2.b,
+        w8: d2.c,
+        w9: d3.c,
+        w10: d0.c,
+        w11: d1.c,
+        w12: d1.d,
+        w13: d2.d,
+        w14: d3.d,
+        w15: d0.d,
+    }
+}
+
+fn round7(v: Words, m: Words) -> Words
+    ensures { λ r. ⌜ listOf r ≡ mixed (listOf v) (scheduled 6 (listOf m)) ⌝ }
+{
+    let c0 = mix(
+        Quad {
+            a: v.w0,
+            b: v.w4,
+            c: v.w8,
+            d: v.w12,
+        },
+        m.w11,
+        m.w15,
+    );
+    let c1 = mix(
+        Quad {
+            a: v.w1,
+            b: v.w5,
+            c: v.w9,
+            d: v.w13,
+        },
+        m.w5,
+        m.w0,
+    );
+    let c2 = mix(
+        Quad {
+            a: v.w2,
+            b: v.w6,
+            c: v.w10,
+            d: v.w14,
+        },
+        m.w1,
+        m.w9,
+    );
+    let c3 = mix(
+        Quad {
+            a: v.w3,
+            b: v.w7,
+            c: v.w11,
+            d: v.w15,
+        },
+        m.w8,
+        m.w6,
+    );
+    let d0 = mix(
+        Quad {
+            a: c0.a,
+            b: c1.b,
+            c: c2.c,
+            d: c3.d,
+        },
+        m.w14,
+        m.w10,
+    );
+    let d1 = mix(
+        Quad {
+            a: c1.a,
+            b: c2.b,
+            c: c3.c,
+            d: c0.d,
+        },
+        m.w2,
+        m.w12,
+    );
+    let d2 = mix(
+        Quad {
+            a: c2.a,
+            b: c3.b,
+            c: c0.c,
+            d: c1.d,
+        },
+        m.w3,
+        m.w4,
+    );
+    let d3 = mix(
+        Quad {
+            a: c3.a,
+            b: c0.b,
+            c: c1.c,
+            d: c2.d,
+        },
+        m.w7,
+        m.w13,
+    );
+    Words {
+        w0: d0.a,
+        w1: d1.a,
+        w2: d2.a,
+        w3: d3.a,
+        w4: d3.b,
+        w5: d0.b,
+        w6: d1.b,
+        w7: d2.b,
+        w8: d2.c,
+        w9: d3.c,
+        w10: d0.c,
+        w11: d1.c,
+        w12: d1.d,
+        w13: d2.d,
+        w14: d3.d,
+        w15: d0.d,
+    }
+}
+
+fn seven_rounds(v: Words, m: Words) -> Words
+    ensures { λ r. ⌜ listOf r ≡ rounds 7 (listOf v) (listOf m) ⌝ }
+{
+    let v1 = round1(v, m);
+    let v2 = round2(v1, m);
+    let v3 = round3(v2, m);
+    let v4 = round4(v3, m);
+    let v5 = round5(v4, m);
+    let v6 = round6(v5, m);
+    round7(v6, m)
+}
+
+fn start(h: [u32; 8], t: u64, b: u32, d: u32) -> Words
+    ensures { λ r. ⌜ listOf r ≡ initial h t b d ⌝ }
+{
+    let lo = (t % 4294967296) as u32;
+    let hi = (t / 4294967296) as u32;
+    Words {
+        w0: h[0],
+        w1: h[1],
+        w2: h[2],
+        w3: h[3],
+        w4: h[4],
+        w5: h[5],
+        w6: h[6],
+        w7: h[7],
+        w8: 0x6a09e667,
+        w9: 0xbb67ae85,
+        w10: 0x3c6ef372,
+        w11: 0xa54ff53a,
+        w12: lo,
+        w13: hi,
+        w14: b,
+        w15: d,
+    }
+}
+
+fn fold(v: Words) -> [u32; 8]
+    ensures { λ r. ⌜ r ≡ folded (listOf v) ⌝ }
+{
+    [
+        v.w0 ^ v.w8,
+        v.w1 ^ v.w9,
+        v.w2 ^ v.w10,
+        v.w3 ^ v.w11,
+        v.w4 ^ v.w12,
+        v.w5 ^ v.w13,
+        v.w6 ^ v.w14,
+        v.w7 ^ v.w15,
+    ]
+}
+
+pub fn compress(h: [u32; 8], m: Words, t: u64, b: u32, d: u32) -> [u32; 8]
+    ensures { λ r. ⌜ r ≡ compressed h (listOf m) t b d ⌝ }
+{
+    fold(seven_rounds(start(h, t, b, d), m))
+}
