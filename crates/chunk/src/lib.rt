@@ -19,7 +19,7 @@ fn wide(x: u8) -> u32
 }
 
 // The word at i of a whole block.
-fn word_in(s: &[u8], i: usize) -> u32
+pub fn word_in(s: &[u8], i: usize) -> u32
     requires { ⌜ i + 4 ≤ length (now s) ⌝ }
     ensures { λ r. ⌜ r ≡ leWord (now (s .entry)) i ⌝ }
 {

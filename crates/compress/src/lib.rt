@@ -47,7 +47,7 @@ fn half(q: Quad, m: u32, s: u32, t: u32) -> Quad
     Quad { a, b, c, d }
 }
 
-fn mix(q: Quad, x: u32, y: u32) -> Quad
+pub fn mix(q: Quad, x: u32, y: u32) -> Quad
     ensures { λ r. ⌜ r ≡ mixOf q x y ⌝ }
 {
     half(half(q, x, 16, 12), y, 8, 7)
@@ -198,7 +198,7 @@ fn seven_rounds(v: Words, m: Words) -> Words
     state
 }
 
-fn start(h: [u32; 8], t: u64, b: u32, d: u32) -> Words
+pub fn start(h: [u32; 8], t: u64, b: u32, d: u32) -> Words
     ensures { λ r. ⌜ listOf r ≡ initial h t b d ⌝ }
 {
     let lo = (t % 4294967296) as u32;
@@ -223,7 +223,7 @@ fn start(h: [u32; 8], t: u64, b: u32, d: u32) -> Words
     }
 }
 
-fn fold(v: Words) -> [u32; 8]
+pub fn fold(v: Words) -> [u32; 8]
     ensures { λ r. ⌜ r ≡ folded (listOf v) ⌝ }
 {
     [

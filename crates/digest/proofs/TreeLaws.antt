@@ -5,10 +5,13 @@ use mathlib.Core.List.{List, _++_}
 use native.Mathlib.Omega.{arith}
 use native.Mathlib.Nat.{one-mul, mod-eq-of-lt, pow-succ', le-trans}
 use lib.Pow.{pow-mono}
-use lib.ListN.{length, take, drop, length-append}
+use lib.ListN.{length, take, drop, length-append, length-drop}
+use lib.Seq.{length-take-le, take-take, take-all, drop-drop}
 use borrow.Author.Tests.{le-leb, lt-leb}
 use Rattle.chunk.specs.Chunk.{chunk, parent}
-use Rattle.parts.proofs.Parts.{take-both, drop-both}
+use Rattle.lanes.specs.Lanes.{chunkAt, fourOf}
+use Rattle.lanes.proofs.Blocks.{drop-take}
+use Rattle.parts.proofs.Parts.{take-both, drop-both, empty-left}
 use Rattle.digest.specs.Blake3.{tree, hash, pick}
 
 pub shl-one : (j : ℕ) → j ≤ 6 → ((1 * 2 ^ j) % 2 ^ 64 ≡ 2 ^ j) × ((1 * 2 ^ j) % 2 ^ 64 ≤ 64)
@@ -72,3 +75,29 @@ tree-one (suc k) s t e h =
 pub hash-one : (f r : List ℕ) {v : List ℕ} → length f + length r ≤ 1024 → v ≡ chunk (f ++ r) 0 8 → v ≡ hash (f ++ r)
 unfolding hash
 hash-one f r h p = let n = length-append f r in p ∙ tree-one 7 (f ++ r) 0 8 (omega arith)
+
+-- two whole chunks
+pair : (s : List ℕ) (t e : ℕ) → length s ≡ 2048 → parent (chunk (take 1024 s) t 0) (chunk (drop 1024 s) (t + 1) 0) e ≡ tree 1 s t e
+unfolding tree
+pair s t e n = tree-made 1 s t e 1 (take 1024 s) (drop 1024 s) (λ z. omega arith) refl (omega arith) refl refl refl refl refl
+
+-- four whole chunks
+pub tree-four : (s : List ℕ) (t e : ℕ) → length s ≡ 4096 → fourOf s t e ≡ tree 2 s t e
+unfolding fourOf chunkAt
+tree-four s t e n =
+    let lt : length (take 2048 s) ≡ 2048 = length-take-le 2048 s (omega arith) in
+    let ld : length (drop 2048 s) ≡ 2048 = length-drop 2048 s ∙ ap (λ k. k - 2048) n in
+    let t0 : t + 0 ≡ t = omega arith in
+    let t3 : t + 3 ≡ t + 2 + 1 = omega arith in
+    let c0 : take 1024 (drop (1024 * 0) s) ≡ take 1024 (take 2048 s) = sym (take-take 1024 2048 s (omega arith)) in
+    let c1 : take 1024 (drop (1024 * 1) s) ≡ drop 1024 (take 2048 s) = sym (drop-take 1024 2048 s) in
+    let l3 : length (drop 3072 s) ≡ 1024 = length-drop 3072 s ∙ ap (λ k. k - 3072) n in
+    let c3 : take 1024 (drop (1024 * 3) s) ≡ drop 1024 (drop 2048 s) = take-all 1024 (drop 3072 s) (omega arith) ∙ sym (drop-drop 1024 2048 s) in
+    ap₂ (λ l r. parent l r e)
+    (ap₂ (λ x y. parent x y 0) (ap₂ (λ x k. chunk x k 0) c0 t0) (ap (λ x. chunk x (t + 1) 0) c1) ∙ pair (take 2048 s) t 0 lt)
+    (ap₂ (λ x y. parent x y 0) refl (ap₂ (λ x k. chunk x k 0) c3 t3) ∙ pair (drop 2048 s) (t + 2) 0 ld)
+    ∙ tree-made 2 s t e 2 (take 2048 s) (drop 2048 s) (λ z. omega arith) refl (omega arith) refl refl refl refl refl
+
+pub tree-whole : (k : ℕ) (h s : List ℕ) (t e : ℕ) {v : List ℕ} → k ≡ 2 → length h ≡ 0 → length s ≡ 4096 → v ≡ fourOf s t e → v ≡ tree k (h ++ s) t e
+tree-whole k h s t e p z n q =
+    q ∙ tree-four s t e n ∙ ap₂ (λ j l. tree j l t e) (sym p) (empty-left h s z)

@@ -1,10 +1,12 @@
 // BLAKE3 of up to 65,700 bytes: the tree over the chunks, and the digest of one slice and of two parts in a row.
 use chunk::chunk_value;
 use chunk::parent_value;
+use lanes::four;
 use parts::back;
 use parts::front;
 use parts::less;
 ghost use mathlib.Core.Path.{_≡_};
+ghost use mathlib.Core.Bool.{true};
 ghost use mathlib.Core.List.{_++_};
 ghost use Prim.Native.Nat.{_+_, _*_, _^_, _≤_};
 ghost use lib.ListN.{length};
@@ -28,6 +30,19 @@ fn chunks(j: u32) -> usize
     1 << (j as usize)
 }
 
+// Whether tail is four whole chunks, head empty and the tree of level 2.
+fn four_whole(head: &[u8], tail: &[u8], k: u32) -> bool
+    ensures { λ r. ⌜ (r ≡ true → (k ≡ 2) × (length (now (head .entry)) ≡ 0) × (length (now (tail .entry)) ≡ 4096)) ⌝ }
+{
+    if k != 2 {
+        return false;
+    }
+    if head.len() != 0 {
+        return false;
+    }
+    tail.len() == 4096
+}
+
 // The chaining value of the tree over up to 2^k chunks, from chunk t on.
 fn subtree(head: &[u8], tail: &[u8], k: u32, t: u64, e: u32) -> [u32; 8]
     requires { ⌜ (length (now head) + length (now tail) ≤ 1024 * 2 ^ k) × ((k ≤ 7) × ((t + 2 ^ k ≤ 128) × (e ≤ 8))) ⌝ }
@@ -35,6 +50,9 @@ fn subtree(head: &[u8], tail: &[u8], k: u32, t: u64, e: u32) -> [u32; 8]
 {
     if k == 0 {
         return chunk_value(head, tail, t, e);
+    }
+    if four_whole(head, tail, k) {
+        return four(tail, t, e);
     }
     let j = k - 1;
     let n = chunks(j);

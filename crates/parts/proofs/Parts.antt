@@ -21,7 +21,7 @@ none zero (x ∷ s) h = absurd (omega arith)
 none (suc n) [] h = refl
 none (suc n) (x ∷ s) h = none n s (omega arith)
 
-take-none : (n : ℕ) → _≡_ {A = List ℕ} (take n []) []
+pub take-none : (n : ℕ) → _≡_ {A = List ℕ} (take n []) []
 take-none zero = refl
 take-none (suc n) = refl
 
