@@ -153,8 +153,11 @@ module _ (m s : List ℕ) (i w0 w1 w2 w3 : ℕ) where
       ∙ getD-set-other (set (set m (4 * i + 0) w0) (4 * i + 1) w1) (4 * i + 2) (4 * i + 0) w2 0 (λ e. omega arith)
       ∙ getD-set-other (set m (4 * i + 0) w0) (4 * i + 1) (4 * i + 0) w1 0 (λ e. omega arith)
       ∙ getD-set-same m (4 * i + 0) w0 0 (omega arith) in
-      record { len = n4; word = below-more _ _ (λ j k l g. before (4 * j + l) (omega arith) ∙ ld .word j k l g)
-          (below-four (λ l. getD four-set (4 * i + l) 0 ≡ leWord s (4 * i + 1024 * l)) (a0 ∙ p0) (a1 ∙ p1) (a2 ∙ p2) (a3 ∙ p3)) }
+      record {
+        len = n4;
+        word = below-more _ _ (λ j k l g. before (4 * j + l) (omega arith) ∙ ld .word j k l g)
+            (below-four (λ l. getD four-set (4 * i + l) 0 ≡ leWord s (4 * i + 1024 * l)) (a0 ∙ p0) (a1 ∙ p1) (a2 ∙ p2) (a3 ∙ p3));
+      }
 
 -- every word is loaded
 pub loaded-words : (m s : List ℕ) (i : ℕ) → i ≡ 16 → Loaded m s i → (l : ℕ) → l < 4 → lane16 m l ≡ wordsOf (drop (1024 * l) s)

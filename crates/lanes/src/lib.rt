@@ -23,6 +23,48 @@ fn compress_block(h: [u32; 8], m: Words, t: u64, d: u32) -> [u32; 8]
     fold(seven_rounds(start(h, t, 64, d), m))
 }
 
+// The chaining value of lane l.
+fn lane(h: &[u32; 32], l: usize) -> [u32; 8]
+    requires { ⌜ l < 4 ⌝ }
+    ensures { λ r. ⌜ r ≡ lane8 (now (h .entry)) l ⌝ }
+{
+    [
+        h[0 + l],
+        h[4 + l],
+        h[8 + l],
+        h[12 + l],
+        h[16 + l],
+        h[20 + l],
+        h[24 + l],
+        h[28 + l],
+    ]
+}
+
+// The message words of lane l.
+fn message(m: &[u32; 64], l: usize) -> Words
+    requires { ⌜ l < 4 ⌝ }
+    ensures { λ r. ⌜ listOf r ≡ lane16 (now (m .entry)) l ⌝ }
+{
+    Words {
+        w0: m[0 + l],
+        w1: m[4 + l],
+        w2: m[8 + l],
+        w3: m[12 + l],
+        w4: m[16 + l],
+        w5: m[20 + l],
+        w6: m[24 + l],
+        w7: m[28 + l],
+        w8: m[32 + l],
+        w9: m[36 + l],
+        w10: m[40 + l],
+        w11: m[44 + l],
+        w12: m[48 + l],
+        w13: m[52 + l],
+        w14: m[56 + l],
+        w15: m[60 + l],
+    }
+}
+
 // One block of each lane.
 fn step(h: [u32; 32], m: [u32; 64], t: u64, d: u32) -> [u32; 32]
     requires { ⌜ t ≤ 2 ^ 32 ⌝ }
@@ -31,38 +73,7 @@ fn step(h: [u32; 32], m: [u32; 64], t: u64, d: u32) -> [u32; 32]
     let mut out = [0u32; 32];
     let mut l: usize = 0;
     while l < 4 {
-        let r = compress_block(
-            [
-                h[0 + l],
-                h[4 + l],
-                h[8 + l],
-                h[12 + l],
-                h[16 + l],
-                h[20 + l],
-                h[24 + l],
-                h[28 + l],
-            ],
-            Words {
-                w0: m[0 + l],
-                w1: m[4 + l],
-                w2: m[8 + l],
-                w3: m[12 + l],
-                w4: m[16 + l],
-                w5: m[20 + l],
-                w6: m[24 + l],
-                w7: m[28 + l],
-                w8: m[32 + l],
-                w9: m[36 + l],
-                w10: m[40 + l],
-                w11: m[44 + l],
-                w12: m[48 + l],
-                w13: m[52 + l],
-                w14: m[56 + l],
-                w15: m[60 + l],
-            },
-            t + l as u64,
-            d,
-        );
+        let r = compress_block(lane(&h, l), message(&m, l), t + l as u64, d);
         out[0 + l] = r[0];
         out[4 + l] = r[1];
         out[8 + l] = r[2];
@@ -133,23 +144,6 @@ fn iv_lanes() -> [u32; 32]
     ]
 }
 
-// The chaining value of lane l.
-fn lane(h: [u32; 32], l: usize) -> [u32; 8]
-    requires { ⌜ l < 4 ⌝ }
-    ensures { λ r. ⌜ r ≡ lane8 h l ⌝ }
-{
-    [
-        h[0 + l],
-        h[4 + l],
-        h[8 + l],
-        h[12 + l],
-        h[16 + l],
-        h[20 + l],
-        h[24 + l],
-        h[28 + l],
-    ]
-}
-
 // The chaining values of four chunks.
 fn chunks(s: &[u8], t: u64) -> [u32; 32]
     requires { ⌜ (length (now s) ≡ 4096) × (t ≤ 2 ^ 32) ⌝ }
@@ -174,7 +168,7 @@ pub fn four(s: &[u8], t: u64, e: u32) -> [u32; 8]
     ensures { λ r. ⌜ r ≡ fourOf (now (s .entry)) t e ⌝ }
 {
     let h = chunks(s, t);
-    let left = parent_value(lane(h, 0), lane(h, 1), 0);
-    let right = parent_value(lane(h, 2), lane(h, 3), 0);
+    let left = parent_value(lane(&h, 0), lane(&h, 1), 0);
+    let right = parent_value(lane(&h, 2), lane(&h, 3), 0);
     parent_value(left, right, e)
 }
