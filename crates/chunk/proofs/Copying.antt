@@ -10,7 +10,8 @@ use native.Mathlib.Omega.{arith}
 use borrow.Author.Count.{below-more}
 use borrow.Author.Tests.{ltb-true, ltb-false}
 use Rattle.parts.proofs.Parts.{byte-left, byte-right, byte-past}
-use Rattle.chunk.specs.Chunk.{leWord, wordsOf}
+use Rattle.chunk.specs.Chunk.{wordsOf}
+use Rattle.word.specs.Word.{leWord}
 use Rattle.chunk.specs.Copy.{Placed}
 
 -- i bytes of s are copied

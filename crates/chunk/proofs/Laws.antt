@@ -7,7 +7,8 @@ use lib.Seq.{getD-take}
 use native.Mathlib.Omega.{arith}
 use Rattle.compress.specs.Compress.{compressed}
 use Rattle.parts.proofs.Parts.{drop-both, empty-left}
-use Rattle.chunk.specs.Chunk.{blocks, leWord, wordsOf}
+use Rattle.chunk.specs.Chunk.{blocks, wordsOf}
+use Rattle.word.specs.Word.{leWord}
 
 -- a block's words stand in its first 64 bytes
 word-take : (s : List ℕ) (i : ℕ) → i + 3 < 64 → leWord (take 64 s) i ≡ leWord s i

@@ -1,7 +1,8 @@
 -- BLAKE3, specification sections 2.4 and 2.5: chaining values of chunks and of parent nodes.
-use Prim.Native.Nat.{ℕ, zero, suc, _+_, _-_, _*_, _/_}
+use Prim.Native.Nat.{ℕ, zero, suc, _+_, _-_, _/_}
 use mathlib.Core.List.{List, [], _∷_, _++_}
-use lib.ListN.{getD, take, drop, length}
+use lib.ListN.{take, drop, length}
+use Rattle.word.specs.Word.{leWord}
 use Rattle.compress.specs.Compress.{iv, compressed}
 
 -- 2.2, table 3: flags
@@ -24,10 +25,7 @@ blockBytes = 64
 abbrev pub chunkBytes : ℕ
 chunkBytes = 1024
 
--- the little-endian word at byte i; a byte past the end is 0, which pads a short block
-unfoldable pub leWord : List ℕ → ℕ → ℕ
-leWord s i = getD s i 0 + 256 * getD s (i + 1) 0 + 65536 * getD s (i + 2) 0 + 16777216 * getD s (i + 3) 0
-
+-- the 16 words of a block
 unfoldable pub wordsOf : List ℕ → List ℕ
 wordsOf s =
     leWord s 0 ∷ leWord s 4 ∷ leWord s 8 ∷ leWord s 12 ∷ leWord s 16 ∷ leWord s 20 ∷ leWord s 24 ∷ leWord s 28

@@ -3,54 +3,38 @@ use compress::Words;
 use compress::compress;
 use parts::back;
 use parts::less;
+use word::le_word;
 ghost use mathlib.Core.Path.{_≡_};
 ghost use mathlib.Core.List.{_++_};
 ghost use Prim.Native.Nat.{ℕ, _+_, _-_, _<_, _≤_};
 ghost use lib.ListN.{length, getD};
 ghost use Rattle.compress.specs.Compress.{iv};
 ghost use Rattle.compress.specs.Words.{listOf};
-ghost use Rattle.chunk.specs.Chunk.{leWord, wordsOf, chunk, parent};
+ghost use Rattle.chunk.specs.Chunk.{wordsOf, chunk, parent};
 ghost use Rattle.chunk.specs.Copy.{Placed};
 
-fn wide(x: u8) -> u32
-    ensures { λ r. ⌜ (r ≡ x) × (r < 256) ⌝ }
-{
-    x as u32
-}
-
-// The word at i of a whole block.
-pub fn word_in(s: &[u8], i: usize) -> u32
-    requires { ⌜ i + 4 ≤ length (now s) ⌝ }
-    ensures { λ r. ⌜ r ≡ leWord (now (s .entry)) i ⌝ }
-{
-    let a = wide(s[i]);
-    let b = wide(s[i + 1]);
-    let c = wide(s[i + 2]);
-    let d = wide(s[i + 3]);
-    a + 256 * b + 65536 * c + 16777216 * d
-}
-
+// The words of a whole block.
 fn words_whole(s: &[u8]) -> Words
     requires { ⌜ 64 ≤ length (now s) ⌝ }
     ensures { λ r. ⌜ listOf r ≡ wordsOf (now (s .entry)) ⌝ }
 {
     Words {
-        w0: word_in(s, 0),
-        w1: word_in(s, 4),
-        w2: word_in(s, 8),
-        w3: word_in(s, 12),
-        w4: word_in(s, 16),
-        w5: word_in(s, 20),
-        w6: word_in(s, 24),
-        w7: word_in(s, 28),
-        w8: word_in(s, 32),
-        w9: word_in(s, 36),
-        w10: word_in(s, 40),
-        w11: word_in(s, 44),
-        w12: word_in(s, 48),
-        w13: word_in(s, 52),
-        w14: word_in(s, 56),
-        w15: word_in(s, 60),
+        w0: le_word(s, 0),
+        w1: le_word(s, 4),
+        w2: le_word(s, 8),
+        w3: le_word(s, 12),
+        w4: le_word(s, 16),
+        w5: le_word(s, 20),
+        w6: le_word(s, 24),
+        w7: le_word(s, 28),
+        w8: le_word(s, 32),
+        w9: le_word(s, 36),
+        w10: le_word(s, 40),
+        w11: le_word(s, 44),
+        w12: le_word(s, 48),
+        w13: le_word(s, 52),
+        w14: le_word(s, 56),
+        w15: le_word(s, 60),
     }
 }
 

@@ -4,7 +4,8 @@ use mathlib.Core.Path.{_≡_, refl}
 use mathlib.Core.List.{List, [], _∷_}
 use Rattle.word.specs.Word.{add32, xor32, rotr32}
 use Rattle.compress.specs.Compress.{iv, halfOf, mixOf, putQuad, mixAt, columns, diagonals, permuted, roundOf, rounds, initial, folded, compressed}
-use Rattle.chunk.specs.Chunk.{leWord, wordsOf, blocks, chunk, parent}
+use Rattle.chunk.specs.Chunk.{wordsOf, blocks, chunk, parent}
+use Rattle.word.specs.Word.{leWord}
 use Rattle.digest.specs.Blake3.{tree, hash}
 
 -- n bytes, from the number i on

@@ -8,7 +8,8 @@ use native.Mathlib.Omega.{arith}
 use borrow.Author.Count.{below-more}
 use Rattle.word.proofs.Lists.{eight, list16}
 use Rattle.compress.specs.Compress.{iv, compressed, folded, roundOf, rounds}
-use Rattle.chunk.specs.Chunk.{leWord, wordsOf, blocks, chunk}
+use Rattle.chunk.specs.Chunk.{wordsOf, blocks, chunk}
+use Rattle.word.specs.Word.{leWord}
 use Rattle.lanes.specs.Schedule.{scheduled}
 use Rattle.lanes.specs.Lanes.{lane8, lane16, chunkAt}
 

@@ -2,12 +2,12 @@
 mod rounds;
 
 use chunk::parent_value;
-use chunk::word_in;
 use compress::Words;
 use compress::fold;
 use compress::start;
 use parts::back;
 use rounds::seven_rounds;
+use word::le_word;
 ghost use mathlib.Core.Path.{_≡_};
 ghost use Prim.Native.Nat.{ℕ, _+_, _*_, _<_, _≤_, _^_};
 ghost use lib.ListN.{length, drop};
@@ -95,10 +95,10 @@ fn load(s: &[u8]) -> [u32; 64]
     let mut m = [0u32; 64];
     let mut i: usize = 0;
     while i < 16 {
-        m[4 * i + 0] = word_in(s, 4 * i + 0);
-        m[4 * i + 1] = word_in(s, 4 * i + 1024);
-        m[4 * i + 2] = word_in(s, 4 * i + 2048);
-        m[4 * i + 3] = word_in(s, 4 * i + 3072);
+        m[4 * i + 0] = le_word(s, 4 * i + 0);
+        m[4 * i + 1] = le_word(s, 4 * i + 1024);
+        m[4 * i + 2] = le_word(s, 4 * i + 2048);
+        m[4 * i + 3] = le_word(s, 4 * i + 3072);
         i += 1;
     }
     m

@@ -7,7 +7,7 @@ use Rattle.lanes.proofs.load.Statement.{statement}
 use Rattle.lanes.proofs.load.Tie as tie
 use Rattle.lanes.proofs.load.Reads as reads
 use Rattle.lanes.proofs.load.Lts as lts
-use Rattle.chunk.proofs.word_in.Reads as word-in-reads
+use Rattle.word.proofs.le_word.Reads as le-word-reads
 
 abbrev Inv-loop : tie.InvT-loop
 Inv-loop s m₀ i₀ m i = (i ≤ 16) × Loaded m s i
@@ -20,16 +20,16 @@ loop-holds : tie.Need-loop-holds Inv-loop μ-loop
 loop-holds c = (omega arith, loaded-none _ _ refl)
 
 -- src/lib.rt:87:35
-mul-word-in : tie.Need-mul-word-in Inv-loop μ-loop
-mul-word-in c = search needs
+mul-le-word : tie.Need-mul-le-word Inv-loop μ-loop
+mul-le-word c = search needs
 
 -- src/lib.rt:87:35
-add-word-in : tie.Need-add-word-in Inv-loop μ-loop
-add-word-in c = search needs
+add-le-word : tie.Need-add-le-word Inv-loop μ-loop
+add-le-word c = search needs
 
 -- src/lib.rt:87:24
-word-in-requires : tie.Need-word-in-requires Inv-loop μ-loop
-word-in-requires c κs = search needs
+le-word-requires : tie.Need-le-word-requires Inv-loop μ-loop
+le-word-requires c κs = search needs
 
 -- src/lib.rt:87:11
 mul-m : tie.Need-mul-m Inv-loop μ-loop
@@ -48,16 +48,16 @@ array-write-m : tie.Need-array-write-m Inv-loop μ-loop
 array-write-m c = search needs
 
 -- src/lib.rt:88:35
-mul-word-in-2 : tie.Need-mul-word-in-2 Inv-loop μ-loop
-mul-word-in-2 c = search needs
+mul-le-word-2 : tie.Need-mul-le-word-2 Inv-loop μ-loop
+mul-le-word-2 c = search needs
 
 -- src/lib.rt:88:35
-add-word-in-2 : tie.Need-add-word-in-2 Inv-loop μ-loop
-add-word-in-2 c = search needs
+add-le-word-2 : tie.Need-add-le-word-2 Inv-loop μ-loop
+add-le-word-2 c = search needs
 
 -- src/lib.rt:88:24
-word-in-requires-2 : tie.Need-word-in-requires-2 Inv-loop μ-loop
-word-in-requires-2 c κs = search needs
+le-word-requires-2 : tie.Need-le-word-requires-2 Inv-loop μ-loop
+le-word-requires-2 c κs = search needs
 
 -- src/lib.rt:88:11
 mul-m-3 : tie.Need-mul-m-3 Inv-loop μ-loop
@@ -76,16 +76,16 @@ array-write-m-2 : tie.Need-array-write-m-2 Inv-loop μ-loop
 array-write-m-2 c = search needs
 
 -- src/lib.rt:89:35
-mul-word-in-3 : tie.Need-mul-word-in-3 Inv-loop μ-loop
-mul-word-in-3 c = search needs
+mul-le-word-3 : tie.Need-mul-le-word-3 Inv-loop μ-loop
+mul-le-word-3 c = search needs
 
 -- src/lib.rt:89:35
-add-word-in-3 : tie.Need-add-word-in-3 Inv-loop μ-loop
-add-word-in-3 c = search needs
+add-le-word-3 : tie.Need-add-le-word-3 Inv-loop μ-loop
+add-le-word-3 c = search needs
 
 -- src/lib.rt:89:24
-word-in-requires-3 : tie.Need-word-in-requires-3 Inv-loop μ-loop
-word-in-requires-3 c κs = search needs
+le-word-requires-3 : tie.Need-le-word-requires-3 Inv-loop μ-loop
+le-word-requires-3 c κs = search needs
 
 -- src/lib.rt:89:11
 mul-m-5 : tie.Need-mul-m-5 Inv-loop μ-loop
@@ -104,16 +104,16 @@ array-write-m-3 : tie.Need-array-write-m-3 Inv-loop μ-loop
 array-write-m-3 c = search needs
 
 -- src/lib.rt:90:35
-mul-word-in-4 : tie.Need-mul-word-in-4 Inv-loop μ-loop
-mul-word-in-4 c = search needs
+mul-le-word-4 : tie.Need-mul-le-word-4 Inv-loop μ-loop
+mul-le-word-4 c = search needs
 
 -- src/lib.rt:90:35
-add-word-in-4 : tie.Need-add-word-in-4 Inv-loop μ-loop
-add-word-in-4 c = search needs
+add-le-word-4 : tie.Need-add-le-word-4 Inv-loop μ-loop
+add-le-word-4 c = search needs
 
 -- src/lib.rt:90:24
-word-in-requires-4 : tie.Need-word-in-requires-4 Inv-loop μ-loop
-word-in-requires-4 c κs = search needs
+le-word-requires-4 : tie.Need-le-word-requires-4 Inv-loop μ-loop
+le-word-requires-4 c κs = search needs
 
 -- src/lib.rt:90:11
 mul-m-7 : tie.Need-mul-m-7 Inv-loop μ-loop
@@ -141,7 +141,7 @@ loop-less c = search needs
 
 -- src/lib.rt:86:5
 loop-again : tie.Need-loop-again Inv-loop μ-loop
-loop-again c = let l = c .before .before .before .before .before .loop in (omega arith, load-turn (l .m) _ (l .i) _ _ _ _ (l .inv .1) (omega arith) (c .before .before .before .word-in .ensures) (c .before .before .word-in2 .ensures) (c .before .word-in3 .ensures) (c .word-in4 .ensures))
+loop-again c = let l = c .before .before .before .before .before .loop in (omega arith, load-turn (l .m) _ (l .i) _ _ _ _ (l .inv .1) (omega arith) (c .before .before .before .le-word .ensures) (c .before .before .le-word2 .ensures) (c .before .le-word3 .ensures) (c .le-word4 .ensures))
 
 -- src/lib.rt:80:1
 returns : tie.Need-returns Inv-loop μ-loop
@@ -154,30 +154,30 @@ load-spec =
     Inv-loop
     μ-loop
     loop-holds
-    mul-word-in
-    add-word-in
-    word-in-requires
+    mul-le-word
+    add-le-word
+    le-word-requires
     mul-m
     add-m
     mul-m-2
     array-write-m
-    mul-word-in-2
-    add-word-in-2
-    word-in-requires-2
+    mul-le-word-2
+    add-le-word-2
+    le-word-requires-2
     mul-m-3
     add-m-2
     mul-m-4
     array-write-m-2
-    mul-word-in-3
-    add-word-in-3
-    word-in-requires-3
+    mul-le-word-3
+    add-le-word-3
+    le-word-requires-3
     mul-m-5
     add-m-3
     mul-m-6
     array-write-m-3
-    mul-word-in-4
-    add-word-in-4
-    word-in-requires-4
+    mul-le-word-4
+    add-le-word-4
+    le-word-requires-4
     mul-m-7
     add-m-4
     mul-m-8

@@ -1,11 +1,11 @@
 use native.Mathlib.Omega.{arith}
-use Rattle.chunk.specs.Chunk.{leWord}
+use Rattle.word.specs.Word.{leWord}
 use borrow.Author.Needs.{needs}
-use Rattle.chunk.proofs.word_in.Statement.{statement}
-use Rattle.chunk.proofs.word_in.Tie as tie
-use Rattle.chunk.proofs.word_in.Reads as reads
-use Rattle.chunk.proofs.word_in.Lts as lts
-use Rattle.chunk.proofs.wide.Reads as wide-reads
+use Rattle.word.proofs.le_word.Statement.{statement}
+use Rattle.word.proofs.le_word.Tie as tie
+use Rattle.word.proofs.le_word.Reads as reads
+use Rattle.word.proofs.le_word.Lts as lts
+use Rattle.word.proofs.wide.Reads as wide-reads
 
 -- src/lib.rt:85:18
 shared-slice-read-wide : tie.Need-shared-slice-read-wide
@@ -80,8 +80,8 @@ returns : tie.Need-returns
 unfolding leWord
 returns c = omega arith
 
-pub word-in-spec : {M : Type 1} → statement M
-word-in-spec =
+pub le-word-spec : {M : Type 1} → statement M
+le-word-spec =
     tie.close
     (tie.spec
     shared-slice-read-wide
