@@ -40,9 +40,12 @@ loop-again : tie.Need-loop-again Inv-loop μ-loop
 loop-again c = let a = c .before .before .before .before .before .before .before .before .before .before .args in
     let at = c .before .before .before .before .before .before .loop in
     let n = c .before .before .before .before .before .before .before .before .before .before .pre .3 .counted in
-    let p = c .before .before .before .before .before .before .before .before .before .before .pre .2 in
-    (at .inv .0, omega arith, c .before .before .put .kept .0 ∙ at .inv .2,
-    c .before .before .put .ensures ∙ copied-more (a .capacity) (a .log .now) (a .out .now) (at .i) (c .before .before .before .before .oldest .result) (at .out) (omega arith) (c .before .before .before .before .oldest .ensures) (at .inv .3))
+    let p = c .before .before .before .before .before .before .before .before .before .before .pre .2 in (
+      at .inv .0,
+      omega arith,
+      c .before .before .put .kept .0 ∙ at .inv .2,
+      c .before .before .put .ensures ∙ copied-more (a .capacity) (a .log .now) (a .out .now) (at .i) (c .before .before .before .before .oldest .result) (at .out) (omega arith) (c .before .before .before .before .oldest .ensures) (at .inv .3),
+    )
 
 same-length : tie.Need-same-length Inv-loop μ-loop
 same-length c = omega arith
