@@ -9,11 +9,10 @@ use lib.ListN.{length, getD, take, drop, set, length-drop}
 use lib.Seq.{getD-take, getD-drop, drop-drop}
 use borrow.Author.Tests.{le-ltb, eqb-true, eqb-false}
 use Rattle.shift.specs.Shift.{putWords}
-use Rattle.rows.specs.Lists.{push}
 use Rattle.rows.specs.Table.{Form, rowsOf}
 use Rattle.rows.proofs.Table.{rows-within}
 use Rattle.ring.specs.declared.Push.{Push}
-use Rattle.ring.specs.Ring.{countAt, firstAt, soundAt, Sound, slotAt, nextAt, writtenAt, ring}
+use Rattle.ring.specs.Ring.{push, countAt, firstAt, soundAt, Sound, slotAt, nextAt, writtenAt, ring}
 use Rattle.ring.proofs.Laws.{length-from}
 use Rattle.ring.proofs.Table.{sound-true, sound-same, length-written, written-sound, ring-written, ring-elsewhere, before-slots}
 use Rattle.delivery.specs.declared.Delivery.{Delivery}

@@ -5,9 +5,8 @@ use Prim.Native.Nat.{ℕ, suc, _+_, _*_, _%_, _^_, _≤_, _<_}
 use lib.Dec.{ltb, eqb}
 use lib.ListN.{length, getD, set, drop, replicate}
 use Rattle.shift.specs.Shift.{putWords}
-use Rattle.rows.specs.Lists.{push}
 use Rattle.rows.specs.Table.{Form, rowsOf}
-use Rattle.ring.specs.Ring.{countAt, firstAt, soundAt, slotOf, slotAt, ringAt, writtenAt}
+use Rattle.ring.specs.Ring.{push, countAt, firstAt, soundAt, slotOf, slotAt, ringAt, writtenAt}
 use Rattle.delivery.specs.declared.Delivery.{Delivery}
 use Rattle.delivery.specs.Delivery as delivery
 use Rattle.log.specs.declared.Tally.{Tally}

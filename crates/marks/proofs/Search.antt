@@ -11,7 +11,7 @@ use borrow.Author.Tests.{lt-ltb, le-ltb, eq-eqb, ne-eqb}
 use Rattle.shift.specs.Shift.{putWords, opened, insertedWords, closed}
 use Rattle.shift.proofs.Laws.{opened-set}
 use Rattle.shift.proofs.Parts.{part-inserted, part-closed, is-put}
-use Rattle.marks.specs.Marks.{idsOf, halve, position, found, placed, removed}
+use Rattle.marks.specs.Marks.{idsOf, halve, position, found, placedAt, removed}
 
 pub record Searching (seen : List ℕ) (start count id lo n : ℕ) : Type 0 where
   pub within : lo + n ≤ count
@@ -111,11 +111,9 @@ module _ (seen : List ℕ) (start count id : ℕ) (fits : start + count ≤ leng
         )
 
 -- one id more
-pub added : (seen : List ℕ) (start count id p : ℕ) (l : List ℕ) → start + count + 1 ≤ length seen → p ≤ count → p ≡ position id (idsOf seen start count)
-    → l ≡ opened seen (start + p) (start + count) 1 → set l (start + p) id ≡ putWords seen start (placed id (idsOf seen start count))
-added seen start count id p l room h at e =
-    let ids : List ℕ = idsOf seen start count in
+pub added : (seen : List ℕ) (start count id p : ℕ) (l : List ℕ) → start + count + 1 ≤ length seen → p ≤ count
+    → l ≡ opened seen (start + p) (start + count) 1 → set l (start + p) id ≡ putWords seen start (placedAt p id (idsOf seen start count))
+added seen start count id p l room h e =
     ap (λ (x : List ℕ). set x (start + p) id) e
     ∙ opened-set seen (start + p) (start + count) id (omega arith) room
     ∙ part-inserted seen start count p (id ∷ []) h room
-    ∙ ap (λ (k : ℕ). putWords seen start (take k ids ++ (id ∷ drop k ids))) at

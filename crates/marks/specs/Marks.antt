@@ -25,9 +25,12 @@ position id ids = halve (length ids) ids id 0 (length ids)
 abbrev pub found : ℕ → List ℕ → Bool
 found id ids = ltb (position id ids) (length ids) && eqb (getD ids (position id ids) 0) id
 
--- one id more, at its place
+-- one id more, at place p, and at its own
+abbrev pub placedAt : ℕ → ℕ → List ℕ → List ℕ
+placedAt p id ids = take p ids ++ (id ∷ drop p ids)
+
 abbrev pub placed : ℕ → List ℕ → List ℕ
-placed id ids = take (position id ids) ids ++ (id ∷ drop (position id ids) ids)
+placed id ids = placedAt (position id ids) id ids
 
 -- one id less, if it is there
 abbrev pub removed : ℕ → List ℕ → List ℕ

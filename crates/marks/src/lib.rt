@@ -3,7 +3,7 @@ ghost use mathlib.Core.Path.{_≡_};
 ghost use Prim.Native.Nat.{_+_, _≤_};
 ghost use lib.ListN.{length};
 ghost use Rattle.shift.specs.Shift.{putWords};
-ghost use Rattle.marks.specs.Marks.{idsOf, position, found, placed, removed};
+ghost use Rattle.marks.specs.Marks.{idsOf, position, found, placedAt, placed, removed};
 
 // The place of id among the `count` ids from `start` on.
 pub fn find(seen: &[u64], start: usize, count: usize, id: u64) -> usize
@@ -35,15 +35,23 @@ pub fn has(seen: &[u64], start: usize, count: usize, id: u64) -> bool
     false
 }
 
-// One id more, at its place; those from there on move up.
+// id at place p; those from there on move up.
+pub fn insert_at(seen: &mut [u64], start: usize, count: usize, p: usize, id: u64)
+    requires { ⌜ (p ≤ count) × (start + count + 1 ≤ length (now seen)) ⌝ }
+    ensures { λ r. ⌜ now (seen .exit) ≡ putWords (now (seen .entry)) start (placedAt p id (idsOf (now (seen .entry)) start count)) ⌝ }
+{
+    let at = start + p;
+    shift::move_up(seen, at, start + count, 1);
+    seen[at] = id;
+}
+
+// One id more, at its place.
 pub fn insert(seen: &mut [u64], start: usize, count: usize, id: u64)
     requires { ⌜ start + count + 1 ≤ length (now seen) ⌝ }
     ensures { λ r. ⌜ now (seen .exit) ≡ putWords (now (seen .entry)) start (placed id (idsOf (now (seen .entry)) start count)) ⌝ }
 {
     let p = find(seen, start, count, id);
-    let at = start + p;
-    shift::move_up(seen, at, start + count, 1);
-    seen[at] = id;
+    insert_at(seen, start, count, p, id);
 }
 
 // One id less, if it stands there; those behind it move down. How many are left.

@@ -12,11 +12,10 @@ use borrow.Author.Tests.{ltb-true, ltb-false, leb-true, lt-ltb, le-ltb, le-leb, 
 use Rattle.shift.specs.Shift.{putWords}
 use Rattle.shift.proofs.Laws.{length-put}
 use Rattle.shift.proofs.Parts.{put-before, put-here, put-behind}
-use Rattle.rows.specs.Lists.{push}
 use Rattle.rows.specs.Table.{Form, Exact}
 use Rattle.rows.proofs.Table.{alone, read-within}
 use Rattle.ring.specs.declared.Push.{Push}
-use Rattle.ring.specs.Ring.{slotOf, pushSlot, ringFrom, ring, countAt, firstAt, soundAt, Sound, slotAt, ringAt, entryAt, nextAt, writtenAt, pushedAt}
+use Rattle.ring.specs.Ring.{push, slotOf, pushSlot, ringFrom, ring, countAt, firstAt, soundAt, Sound, slotAt, ringAt, entryAt, nextAt, writtenAt, pushedAt}
 use Rattle.ring.proofs.Laws.{slot-in, push-in, push-counts, push-ring, ring-same, ring-at, length-from}
 
 -- THE HEAD: the test and the facts

@@ -11,11 +11,11 @@ use lib.Seq.{getD-drop}
 use borrow.Author.Tests.{ltb-true, ltb-false, lt-ltb, le-ltb, not-true}
 use Rattle.shift.specs.Shift.{putWords}
 use Rattle.shift.proofs.Blocks.{cells, cells-eq}
-use Rattle.rows.specs.Lists.{push, upTo}
+use Rattle.rows.specs.Lists.{upTo}
 use Rattle.rows.specs.Table.{Form, Exact}
 use Rattle.rows.proofs.Lists.{upTo-set}
 use Rattle.ring.specs.declared.Push.{Push}
-use Rattle.ring.specs.Ring.{countAt, firstAt, soundAt, Sound, slotOf, slotAt, entryAt, nextAt, writtenAt, pushedAt}
+use Rattle.ring.specs.Ring.{push, countAt, firstAt, soundAt, Sound, slotOf, slotAt, entryAt, nextAt, writtenAt, pushedAt}
 use Rattle.ring.proofs.Table.{entry-oldest, sound-true, sound-same, pushed-is, length-written, written-sound, ring-written, ring-elsewhere, before-head, before-slots, behind-slots}
 use Rattle.rings.specs.declared.Entry.{Entry}
 use Rattle.rings.specs.Rings.{slots, width, headWidth, span, read, words, form, none, Fits, headOf, baseOf, countOf, SoundRing, entries, allRings, entryOf, pushed}

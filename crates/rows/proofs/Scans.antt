@@ -36,3 +36,11 @@ module _ {R : Type 0} (q : R → Bool) (d : R) where
   -- all have passed
   pub pass-all : (l : List R) (i : ℕ) → length l ≤ i → allOf q (take i l) ≡ true → true ≡ allOf q l
   pass-all l i h a = sym (ap (allOf q) (sym (take-all i l h)) ∙ a)
+
+  -- what a scan that passed says of each
+  pub pass-at : (l : List R) (i : ℕ) → i < length l → allOf q l ≡ true → q (getD l i d) ≡ true
+  pass-at l i h a = go (q (getD l i d)) refl
+    where
+      go : (b : Bool) → q (getD l i d) ≡ b → b ≡ true
+      go true e = refl
+      go false e = absurd (false≢true (pass-stop l i h e ∙ a))

@@ -1,19 +1,19 @@
 -- The tests of a row, and the turns of each scan: i rows have passed. Assumes nothing.
 use mathlib.Core.Path.{_≡_, refl, sym, ap, _∙_}
 use mathlib.Core.List.{List, [], _∷_}
-use mathlib.Core.Bool.{Bool, true, false, _&&_}
+use mathlib.Core.Bool.{Bool, true, false, _&&_, false≢true}
 use Prim.Native.Nat.{ℕ, zero, suc, _+_, _*_, _-_, _≤_, _<_}
 use native.Mathlib.Nat.{zero-add, add-mul, mul-le-mul-right, zero-mul, add-zero}
 use native.Mathlib.Omega.{arith}
 use lib.Dec.{ltb, leb}
 use lib.ListN.{length, getD, take, drop}
-use borrow.Author.Tests.{lt-ltb, le-ltb, le-leb, lt-leb}
+use borrow.Author.Tests.{ltb-true, leb-true, lt-ltb, le-ltb, le-leb, lt-leb}
 use Rattle.rows.specs.Rows.{allOf}
 use Rattle.rows.specs.Lists.{upTo}
 use Rattle.rows.proofs.Rows.{length-rows}
 use Rattle.rows.proofs.Table.{row-at}
 use Rattle.rows.proofs.Lists.{length-upTo, getD-upTo}
-use Rattle.rows.proofs.Scans.{pass-more, pass-stop, pass-all}
+use Rattle.rows.proofs.Scans.{pass-more, pass-stop, pass-all, pass-at}
 use Rattle.delivery.specs.declared.Delivery.{Delivery}
 use Rattle.delivery.specs.Delivery as delivery
 use Rattle.waiting.specs.declared.Copy.{Copy}
@@ -24,7 +24,8 @@ use Rattle.ring.proofs.Table.{true-sound}
 use Rattle.rings.specs.declared.Entry.{Entry}
 use Rattle.rings.specs.Rings.{slots, headOf, baseOf, countOf, none, form, SoundRing, entries, entryOf}
 use Rattle.rings.proofs.Laws.{get-oldest}
-use Rattle.log.specs.Log.{recordsAt, recordsOf, recordAt, soundLog}
+use Rattle.log.specs.Log.{recordsAt, recordsOf, recordAt, soundLog, SoundLog}
+use Rattle.log.proofs.Writing.{sound-log}
 use Rattle.scan.specs.declared.Limits.{Limits}
 use Rattle.scan.specs.Scan.{near, nearEntry, copiesNear, logNear, ringNear, ringsNear, column, columnWithin}
 
@@ -133,3 +134,48 @@ module _ (ws : List ℕ) (start stride n : ℕ) where
 
   pub column-in : (i at : ℕ) → i < n → at ≡ start + i * stride → 1 ≤ stride → start + n * stride ≤ length ws → at + stride ≤ length ws
   column-in i at h e s room = let u : (i + 1) * stride ≤ n * stride = mul-le-mul-right stride (omega arith) in omega (arith, add-mul i 1 stride)
+
+-- WHAT A TEST THAT PASSED SAYS
+both : (a b : Bool) → (a && b) ≡ true → (a ≡ true) × (b ≡ true)
+both true b e = (refl, e)
+both false b e = absurd (false≢true e)
+
+pub record Near (l : Limits) (d : Delivery) : Type 0 where
+  pub from : d .from < l .hosts
+  pub to : d .to < l .hosts
+  pub kind : d .kind < l .kinds
+  pub class : d .class < l .classes
+
+pub near-says : (l : Limits) (d : Delivery) → near l d ≡ true → Near l d
+unfolding near
+near-says l d e =
+    let a = both (ltb (d .from) (l .hosts)) (ltb (d .to) (l .hosts) && (ltb (d .kind) (l .kinds) && ltb (d .class) (l .classes))) e in
+    let b = both (ltb (d .to) (l .hosts)) (ltb (d .kind) (l .kinds) && ltb (d .class) (l .classes)) (a .1) in
+    let c = both (ltb (d .kind) (l .kinds)) (ltb (d .class) (l .classes)) (b .1) in
+    record { from = ltb-true _ _ (a .0); to = ltb-true _ _ (b .0); kind = ltb-true _ _ (c .0); class = ltb-true _ _ (c .1) }
+
+pub entry-says : (l : Limits) (e : Entry) → nearEntry l e ≡ true → (e .class < l .classes) × (e .wire ≤ l .wire)
+unfolding nearEntry
+entry-says l e h = let a = both (ltb (e .class) (l .classes)) (leb (e .wire) (l .wire)) h in (ltb-true _ _ (a .0), leb-true _ _ (a .1))
+
+pub copies-say : (l : Limits) (ws : List ℕ) (n i : ℕ) (c : Copy) → copiesNear l ws n ≡ true → i < n → Near l (getD (waiting.copies ws n) i c .delivery)
+unfolding copiesNear
+copies-say l ws n i c e h = near-says l (getD (waiting.copies ws n) i c .delivery) (pass-at (λ (x : Copy). near l (x .delivery)) c (waiting.copies ws n) i (let q = copies-long ws n in omega arith) e)
+
+pub log-says : (l : Limits) (m : ℕ) (ws : List ℕ) → logNear l m ws ≡ true → SoundLog m ws × (allOf (near l) (recordsOf m ws) ≡ true)
+unfolding logNear
+log-says l m ws e = let a = both (soundLog m ws) (allOf (near l) (recordsOf m ws)) e in (sound-log m ws (a .0), a .1)
+
+pub rings-say : (l : Limits) (rings : ℕ) (ws : List ℕ) (r : ℕ) → ringsNear l rings ws ≡ true → r < rings → SoundRing ws r × (allOf (nearEntry l) (entries rings ws r) ≡ true)
+unfolding ringsNear ringNear
+rings-say l rings ws r e h =
+    let at : getD (upTo rings (λ (k : ℕ). k)) r r ≡ r = number-row rings r r h in
+    let p = pass-at (ringNear l rings ws) r (upTo rings (λ (k : ℕ). k)) r (let q = numbers-long rings in omega arith) e in
+    let a = both (soundAt slots (headOf r) ws) (allOf (nearEntry l) (entries rings ws r)) (ap (ringNear l rings ws) (sym at) ∙ p) in
+    (true-sound slots (headOf r) ws (a .0), a .1)
+
+pub column-says : (ws : List ℕ) (start stride n limit i : ℕ) → columnWithin ws start stride n limit ≡ true → i < n → getD ws (start + i * stride) 0 ≤ limit
+unfolding columnWithin
+column-says ws start stride n limit i e h =
+    let p = pass-at (λ (c : ℕ). leb c limit) 0 (column ws start stride n) i (let q = column-long ws start stride n in omega arith) e in
+    leb-true (getD ws (start + i * stride) 0) limit (ap (λ (c : ℕ). leb c limit) (sym (getD-upTo n (λ k. getD ws (start + k * stride) 0) i 0 h)) ∙ p)
