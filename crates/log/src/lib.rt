@@ -14,9 +14,12 @@ const FORCED: usize = 2;
 
 const TALLIES: usize = 3;
 
-const RECORDS: usize = 19;
+pub const RECORDS: usize = 19;
 
 const CLASSES: u64 = 8;
+
+// No log has more slots.
+pub const MOST: usize = 4096;
 
 // Deliveries and bytes of a class.
 pub struct Tally {

@@ -17,6 +17,9 @@ const HEAD: usize = 2;
 
 const SPAN: usize = 192;
 
+// Words of a ring: its head and its entries.
+pub const SIZE: usize = 194;
+
 // Scopes of a type: a ring for each shard, and one for global.
 pub const SCOPES: usize = 17;
 
