@@ -1,7 +1,7 @@
 -- A decision on a message: the rules in install order, and the fault stream's words from its count on.
 use mathlib.Core.Bool.{Bool, true, false, cond, not}
 use mathlib.Core.List.{List, [], _∷_}
-use Prim.Native.Nat.{ℕ, suc, _+_}
+use Prim.Native.Nat.{ℕ, _+_}
 use lib.Ieee.{Float, le}
 use Rattle.streams.specs.Streams.{wordPair}
 use Rattle.draw.specs.Fraction.{fraction}

@@ -1,6 +1,6 @@
 use Rattle.decide.proofs.Laws.{passed-by, shot-at}
 use borrow.Author.Tests.{not-true, not-false}
-use mathlib.Core.Path.{refl, sym, _∙_, ap}
+use mathlib.Core.Path.{refl, _∙_, ap}
 use Rattle.decide.specs.Decide.{tryRule}
 use Rattle.rules.specs.declared.FaultRule.{FaultRule}
 use borrow.Author.Needs.{needs}
