@@ -11,12 +11,17 @@ mod text;
 use state::State;
 
 fn act(line: &[u8], rs: &mut [u64], bs: &mut [u64], st: State) -> State {
-    let w = text::word(line, 0);
-    if check::same(w, b"open") {
+    let which = state::call_of(text::word(line, 0));
+    if which == state::OPEN {
         return state::opened(line);
     }
-    let after = on_rules::call(line, rs, st);
-    on_blocks::call(line, bs, after)
+    if which <= state::LIST {
+        return on_rules::call(which, line, rs, st);
+    }
+    if which <= state::ASK {
+        return on_blocks::call(which, line, bs, st);
+    }
+    st
 }
 
 fn run(script: &[u8], rs: &mut [u64], bs: &mut [u64]) {

@@ -4,6 +4,7 @@ ghost use mathlib.Core.Bool.{true};
 ghost use Prim.Native.Nat.{_*_, _≤_};
 ghost use lib.ListN.{length};
 ghost use Rattle.blocks.specs.Blocks.{blockSlots, blockWidth};
+use crate::state;
 use crate::state::State;
 use crate::state::say;
 use crate::text;
@@ -84,20 +85,17 @@ fn is_blocked(line: &[u8], ws: &[u64], n: usize) {
     say(b"isblocked 0\n");
 }
 
-pub fn call(line: &[u8], ws: &mut [u64], st: State) -> State {
-    let w = text::word(line, 0);
+pub fn call(which: u64, line: &[u8], ws: &mut [u64], st: State) -> State {
     let n = st.blocks;
-    if check::same(w, b"block") {
+    if which == state::BLOCK {
         return with_blocks(st, block(line, ws, n));
     }
-    if check::same(w, b"blockd") {
+    if which == state::DURING {
         return with_blocks(st, block_during(line, ws, n));
     }
-    if check::same(w, b"unblock") {
+    if which == state::UNBLOCK {
         return with_blocks(st, unblock(line, ws, n));
     }
-    if check::same(w, b"isblocked") {
-        is_blocked(line, ws, n);
-    }
+    is_blocked(line, ws, n);
     st
 }

@@ -4,6 +4,7 @@ ghost use mathlib.Core.Bool.{true};
 ghost use Prim.Native.Nat.{_*_, _≤_};
 ghost use lib.ListN.{length};
 ghost use Rattle.rules.specs.Rules.{ruleSlots, ruleWidth};
+use crate::state;
 use crate::state::State;
 use crate::state::answer;
 use crate::state::say;
@@ -164,28 +165,25 @@ fn list(ws: &[u64], n: usize) {
     say(b"\n");
 }
 
-pub fn call(line: &[u8], ws: &mut [u64], st: State) -> State {
-    let w = text::word(line, 0);
-    if check::same(w, b"install") {
+pub fn call(which: u64, line: &[u8], ws: &mut [u64], st: State) -> State {
+    if which == state::INSTALL {
         return install(line, ws, st);
     }
-    if check::same(w, b"remove") {
+    if which == state::REMOVE {
         return remove(line, ws, st);
     }
-    if check::same(w, b"decide") {
+    if which == state::DECIDE {
         return decide(line, ws, st);
     }
     let n = st.rules;
-    if check::same(w, b"fired") {
+    if which == state::READ {
         fired(line, ws, n);
         return st;
     }
-    if check::same(w, b"setfired") {
+    if which == state::SET {
         set_fired(line, ws, n);
         return st;
     }
-    if check::same(w, b"rules") {
-        list(ws, n);
-    }
+    list(ws, n);
     st
 }

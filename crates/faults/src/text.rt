@@ -102,18 +102,26 @@ pub fn unhex(s: &[u8], out: &mut [u8]) -> usize {
 }
 
 // The byte at i, 0 past the end.
-fn byte(s: &[u8], i: usize) -> u32
-    ensures { λ r. ⌜ r < 256 ⌝ }
-{
+pub fn byte(s: &[u8], i: usize) -> u8 {
     if i < s.len() {
-        return s[i] as u32;
+        return s[i];
     }
     0
 }
 
-// The four bytes from i, little-endian.
-pub fn little(s: &[u8], i: usize) -> u32
-    requires { ⌜ i ≤ 64 ⌝ }
+// The byte of the two hexadecimal digits at i.
+fn pair(s: &[u8], i: usize) -> u32
+    requires { ⌜ i ≤ 100 ⌝ }
+    ensures { λ r. ⌜ r < 256 ⌝ }
 {
-    byte(s, i) + 256 * byte(s, i + 1) + 65536 * byte(s, i + 2) + 16777216 * byte(s, i + 3)
+    let high = digit(byte(s, i));
+    let low = digit(byte(s, i + 1));
+    (high * 16 + low) as u32
+}
+
+// The four bytes of the eight digits at i, little-endian.
+pub fn little(s: &[u8], i: usize) -> u32
+    requires { ⌜ i ≤ 90 ⌝ }
+{
+    pair(s, i) + 256 * pair(s, i + 2) + 65536 * pair(s, i + 4) + 16777216 * pair(s, i + 6)
 }
