@@ -35,11 +35,11 @@ blocks-added ws n e r z =
     ap (λ (l : List ℕ). blocksOf l (n + 1)) (sym (yes _ _ _ _ (lt-ltb n blockSlots h) refl)) ∙ rows-snoc blockWidth firstBlock alone ws (words e) n refl (omega (arith, h))
 
 -- a refusal leaves the table as found
-full : (ws : List ℕ) (n : ℕ) (e : BlockWindow) (b : Bool) → ltb n blockSlots ≡ b → (_≡_ {A = ℕ} (cond b 0 12) 0 → ⊥) → cond b (putAt ws (n * blockWidth) e) ws ≡ ws
+full : (ws : List ℕ) (n : ℕ) (e : BlockWindow) (b : Bool) → ltb n blockSlots ≡ b → (_≡_ {A = ℕ} (cond b 0 12) 0 → ⊥) → ws ≡ cond b (putAt ws (n * blockWidth) e) ws
 full ws n e true q h = absurd (h refl)
 full ws n e false q h = refl
 
-pub block-refused : (ws : List ℕ) (n : ℕ) (e : BlockWindow) → (blockNumber n ≡ 0 → ⊥) → blockTable ws n e ≡ ws
+pub block-refused : (ws : List ℕ) (n : ℕ) (e : BlockWindow) → (blockNumber n ≡ 0 → ⊥) → ws ≡ blockTable ws n e
 unfolding blockTable blockNumber
 block-refused ws n e h = full ws n e (ltb n blockSlots) refl h
 
