@@ -1,20 +1,22 @@
--- Accept: each recipient in host order. Assumes nothing.
+-- Accept: each recipient in host order.
 use Prim.Native.Nat.{ℕ, zero, suc, _+_, _*_}
 use mathlib.Core.Bool.{Bool, true, false, cond, not, _&&_, _||_}
 use mathlib.Core.List.{List, [], _∷_, _++_}
-use lib.Dec.{eqb, leb, ltb}
-use lib.ListN.{length, getD, set}
-use Rattle.network.specs.Lists.{bit, keep, some-of, upwards, push, bitAt}
-use Rattle.network.specs.Ids.{placed}
-use Rattle.network.specs.Opening.{Draw, Parts, Opening, link, global, ringOf, ringSlots, chance, echoing}
-use Rattle.network.specs.Live.{Delivery, Copy, Draft, numbered, Carried, Engine, Live, withSeen, withEngine, withRings, withWords, withWaiting, idsOf, marked, tillAt, stopped}
-use Rattle.network.specs.Decide.{Context, gossipTier, Verdict, decided, ruled}
+use lib.Dec.{eqb}
+use lib.ListN.{length, getD, set, take, drop}
+use Rattle.rows.specs.Rows.{keep}
+use Rattle.network.specs.Waiting.{placeOf}
+use Rattle.network.specs.Ring.{lastOf}
+use Rattle.network.specs.Fault.{Verdict, fireAt}
+use Rattle.network.specs.Lists.{bit, below, bitAt}
+use Rattle.network.specs.Opening.{Draw, Draws, Opening, link, global, ringAt, ringSlots}
+use Rattle.network.specs.Live.{Copy, numbered, Carried, Rule, Context, Engine, Live, withRules, withSeen, withEngine, withRings, withWords, withWaiting, placed, marked, tillAt, stopped}
 
 -- an outbox entry as the caller lends it; the tag stands for its payload
 pub record Entry : Type 0 where
   pub from : ℕ
   pub now : ℕ
-  pub type : ℕ
+  pub kind : ℕ
   pub class : ℕ
   pub scope : ℕ
   pub wire : List ℕ
@@ -24,7 +26,7 @@ pub record Entry : Type 0 where
 pub record Message : Type 0 where
   pub from : ℕ
   pub now : ℕ
-  pub type : ℕ
+  pub kind : ℕ
   pub class : ℕ
   pub scope : ℕ
   pub wire : ℕ
@@ -32,7 +34,7 @@ pub record Message : Type 0 where
   pub tag : ℕ
 
 abbrev pub messageOf : Opening → Entry → Message
-messageOf o e = record { from = e .from; now = e .now; type = e .type; class = e .class; scope = e .scope; wire = length (e .wire); id = o .parts .id (e .type) (e .scope) (e .wire); tag = e .tag }
+messageOf o e = record { from = e .from; now = e .now; kind = e .kind; class = e .class; scope = e .scope; wire = length (e .wire); id = o .draws .id (e .kind) (e .scope) (e .wire); tag = e .tag }
 
 -- ---- Recipients
 
@@ -40,15 +42,15 @@ messageOf o e = record { from = e .from; now = e .now; type = e .type; class = e
 abbrev pub receives : Live → ℕ → ℕ → Bool
 receives s scope t = eqb scope global || bitAt (tillAt s t .shards) scope
 
--- selected means recipients other than the sender
+-- selected means recipients other than the sender; in host order
 abbrev pub selected : Opening → Live → ℕ → ℕ → List ℕ
-selected o s scope from = keep (λ t. receives s scope t && not (eqb t from)) (upwards 0 o.tills)
+selected o s scope from = keep (λ t. receives s scope t && not (eqb t from)) (below (o .sizes .tills))
 
 -- ---- The draws for one recipient, in their order
 
 -- echoes with their latencies, and the link's word count after these
 pub record Echoes : Type 0 where
-  pub drafts : List Draft
+  pub copies : List Copy
   pub words : ℕ
 
 pub record Drawn : Type 0 where
@@ -61,26 +63,42 @@ abbrev pub carriedOf : Message → Carried
 carriedOf m = record { class = m .class; wire = m .wire; tag = m .tag }
 
 abbrev pub ringFor : Live → Message → List Carried
-ringFor s m = getD (s .rings) (ringOf (m .type) (m .scope)) []
+ringFor s m = getD (s .rings) (ringAt (m .kind) (m .scope)) []
 
 abbrev pub isEmpty : {A : Type 0} → List A → Bool
 isEmpty [] = true
 isEmpty (x ∷ xs) = false
 
--- the original: now plus latency
-abbrev pub original : Message → ℕ → ℕ → Draft
+-- the original: now plus latency. Its sequence comes when it is scheduled
+abbrev pub original : Message → ℕ → ℕ → Copy
 original m t latency = record {
-  delivery = record { from = m .from; to = t; type = m .type; class = m .class; sentAt = m .now; time = m .now + latency; scope = m .scope; wire = m .wire };
-  kind = 1;
+  time = m .now + latency;
+  sequence = 0;
+  from = m .from;
+  to = t;
+  kind = m .kind;
+  class = m .class;
+  shard = m .scope;
+  sent = m .now;
+  wire = m .wire;
+  original = 1;
   id = m .id;
   tag = m .tag;
 }
 
 -- an echo carries no id
-abbrev pub echo : Message → ℕ → Carried → ℕ → Draft
+abbrev pub echo : Message → ℕ → Carried → ℕ → Copy
 echo m t c latency = record {
-  delivery = record { from = m .from; to = t; type = m .type; class = c .class; sentAt = m .now; time = m .now + latency; scope = m .scope; wire = c .wire };
-  kind = 0;
+  time = m .now + latency;
+  sequence = 0;
+  from = m .from;
+  to = t;
+  kind = m .kind;
+  class = c .class;
+  shard = m .scope;
+  sent = m .now;
+  wire = c .wire;
+  original = 0;
   id = 0;
   tag = c .tag;
 }
@@ -88,17 +106,17 @@ echo m t c latency = record {
 module _ (o : Opening) (m : Message) (t : ℕ) where
   -- each echo's latency, one after the other
   abbrev pub timed : ℕ → List Carried → Echoes
-  timed words [] = record { drafts = []; words = words }
+  timed words [] = record { copies = []; words = words }
   timed words (c ∷ cs) =
-      let l = o .parts .latency (m .from) t (c .wire) words in
+      let l = o .draws .latency (m .from) t (c .wire) words in
       let rest = timed (l .words) cs in
-      record { drafts = echo m t c (l .value) ∷ rest .drafts; words = rest .words }
+      record { copies = echo m t c (l .value) ∷ rest .copies; words = rest .words }
 
   -- the replay draw; the ring index only after a hit on a ring that isn't empty
   abbrev pub replayed : List Carried → ℕ → Draw (List Carried)
   replayed ring words =
-      let hit = chance o (o .config .replay) (m .from) t words in
-      let at = o .parts .index (m .from) t (length ring) (hit .words) in
+      let hit = o .draws .replay (m .from) t words in
+      let at = o .draws .index (m .from) t (length ring) (hit .words) in
       cond (hit .value && not (isEmpty ring))
       (record { value = getD ring (at .value) (carriedOf m) ∷ []; words = at .words })
       (record { value = []; words = hit .words })
@@ -106,25 +124,35 @@ module _ (o : Opening) (m : Message) (t : ℕ) where
   -- duplicate draw, replay draw, ring index: what is echoed, duplicate first
   abbrev pub echoed : List Carried → ℕ → Draw (List Carried)
   echoed ring words =
-      let d = chance o (o .config .duplicate) (m .from) t words in
+      let d = o .draws .duplicate (m .from) t words in
       let r = replayed ring (d .words) in
       record { value = cond (d .value) (carriedOf m ∷ []) [] ++ r .value; words = r .words }
 
-  -- then the echoes' latencies
+  -- where either echo rate is above 0; then the echoes' latencies
   abbrev pub echoesOf : List Carried → ℕ → Echoes
   echoesOf ring words =
       let e = echoed ring words in
-      cond (echoing o) (timed (e .words) (e .value)) (record { drafts = []; words = words })
+      cond (o .draws .echoing) (timed (e .words) (e .value)) (record { copies = []; words = words })
 
+  -- what the rules are asked of: the tier is gossip's, 0
   abbrev pub context : Context
-  context = record { from = m .from; to = t; type = m .type; tier = gossipTier; now = m .now }
+  context = record { kind = m .kind; from = m .from; to = t; tier = 0; now = m .now }
 
   -- loss draw, latency, fault rules, echoes
   unfoldable pub drawn : Live → Drawn
   drawn s =
-      let l = chance o (o .config .loss) (m .from) t (getD (s .words) (link (m .from) t) 0) in
-      let d = o .parts .latency (m .from) t (m .wire) (l .words) in
-      record { loss = l; latency = d; verdict = decided (o .parts) (s .engine) context; echoes = echoesOf (ringFor s m) (d .words) }
+      let l = o .draws .loss (m .from) t (getD (s .words) (link (m .from) t) 0) in
+      let d = o .draws .latency (m .from) t (m .wire) (l .words) in
+      record { loss = l; latency = d; verdict = o .draws .decide context (s .engine .rules) (s .engine .words); echoes = echoesOf (ringFor s m) (d .words) }
+
+-- ---- Rules
+
+abbrev pub drops : Verdict → Bool
+drops v = not (eqb (v .drop) 0)
+
+-- the fault stream's word count moves, and the fired count of the rule that drops goes up
+abbrev pub ruled : Engine → Verdict → Engine
+ruled e v = withRules e (cond (drops v) (fireAt (v .row) (e .rules)) (e .rules)) (e .installed) (v .words)
 
 -- ---- One recipient
 
@@ -139,18 +167,9 @@ firstFit false false true f = loss
 firstFit false false false true = fault
 firstFit false false false false = sent
 
--- by time, then sequence
-abbrev pub before : Copy → Copy → Bool
-before a b = ltb (a .delivery .time) (b .delivery .time) || (eqb (a .delivery .time) (b .delivery .time) && ltb (a .sequence) (b .sequence))
-
--- some copy stands that c is not before
-abbrev pub somePasses : Copy → List Copy → Bool
-somePasses c w = some-of (λ x. not (before c x)) w
-
--- behind the last copy that c is not before: the place is found from the back, on any list
+-- into waiting, at its place
 abbrev pub insert : Copy → List Copy → List Copy
-insert c [] = c ∷ []
-insert c (x ∷ xs) = cond (somePasses c (x ∷ xs)) (x ∷ insert c xs) (c ∷ x ∷ xs)
+insert c w = take (placeOf (c .time) (c .sequence) w) w ++ (c ∷ drop (placeOf (c .time) (c .sequence) w) w)
 
 abbrev pub insertAll : List Copy → List Copy → List Copy
 insertAll [] w = w
@@ -163,18 +182,18 @@ module _ (o : Opening) (m : Message) where
   abbrev pub classOf : Live → ℕ → Class
   classOf s t =
       let d = drawn o m t s in
-      firstFit (marked s t (m .id)) (stopped s (m .from) t (m .now)) (d .loss .value) (d .verdict .drops)
+      firstFit (marked s t (m .id)) (stopped s (m .from) t (m .now)) (d .loss .value) (drops (d .verdict))
 
-  -- the copies of a sent recipient: the original, then its echoes
+  -- the copies of a sent recipient: the original, then its echoes; each takes the next sequence
   abbrev pub copies : Live → Drawn → ℕ → List Copy
-  copies s d t = numbered (s .sequence) (original m t (d .latency .value) ∷ d .echoes .drafts)
+  copies s d t = numbered (s .sequence) (original m t (d .latency .value) ∷ d .echoes .copies)
 
   abbrev pub wordsMoved : Live → ℕ → ℕ → Live
   wordsMoved s t n = withWords s (set (s .words) (link (m .from) t) n)
 
-  -- the ring takes the message
+  -- the ring takes the message, and gives up its oldest first
   abbrev pub remembered : List (List Carried) → List (List Carried)
-  remembered rings = let r = ringOf (m .type) (m .scope) in cond (echoing o) (set rings r (push ringSlots (getD rings r []) (carriedOf m))) rings
+  remembered rings = let r = ringAt (m .kind) (m .scope) in cond (o .draws .echoing) (set rings r (lastOf ringSlots (getD rings r [] ++ (carriedOf m ∷ [])))) rings
 
   -- sent sets the mark and puts the copies into waiting; then the ring takes the message
   abbrev pub effect : Class → Live → Drawn → ℕ → Live
@@ -197,11 +216,17 @@ module _ (o : Opening) (m : Message) where
   liveAfter s [] = s
   liveAfter s (t ∷ ts) = liveAfter (offered s t) ts
 
-  abbrev pub classes : Live → List ℕ → List Class
-  classes s [] = []
-  classes s (t ∷ ts) = classOf s t ∷ classes (offered s t) ts
-
 -- ---- The five counts
+
+-- a selected till, and what it goes under
+pub record Booked : Type 0 where
+  pub till : ℕ
+  pub class : Class
+
+module _ (o : Opening) (m : Message) where
+  abbrev pub booked : Live → List ℕ → List Booked
+  booked s [] = []
+  booked s (t ∷ ts) = record { till = t; class = classOf o m s t } ∷ booked (offered o m s t) ts
 
 pub record Counts : Type 0 where
   pub sent : ℕ
@@ -232,9 +257,9 @@ add k n = record {
   fault = bit (isClass k fault) + n .fault;
 }
 
-abbrev pub tally : List Class → Counts
+abbrev pub tally : List Booked → Counts
 tally [] = noCounts
-tally (k ∷ ks) = add k (tally ks)
+tally (b ∷ bs) = add (b .class) (tally bs)
 
 abbrev pub total : Counts → ℕ
 total n = n .sent + n .deduplicated + n .partition + n .loss + n .fault

@@ -1,23 +1,29 @@
--- The calls: what each does to the live part, and what it answers. Assumes nothing.
+-- The calls: what each does to the live part, and what it answers.
 use Prim.Native.Nat.{ℕ, zero, suc, _+_, _*_}
-use mathlib.Core.Bool.{Bool, true, false, cond, not, _&&_, _||_}
+use mathlib.Core.Bool.{Bool, true, false, cond, not}
 use mathlib.Core.List.{List, [], _∷_, _++_}
-use lib.Dec.{eqb, leb, ltb}
-use lib.ListN.{length, getD, set}
-use Rattle.network.specs.Lists.{bit, count, keep, some-of}
+use lib.Dec.{ltb}
+use lib.ListN.{length, getD, set, take, drop}
+use Rattle.rows.specs.Rows.{keep}
+use Rattle.digest.specs.Blake3.{hash}
+use Rattle.network.specs.Fault.{DropSpec, indexOf, fieldsOf, blocked, other}
+use Rattle.network.specs.Lists.{bit, count}
 use Rattle.network.specs.Opening.{Opening}
-use Rattle.network.specs.Live.{Copy, Till, downTill, Block, Log, emptyLog, Live, Engine, withBlocks, withTills, withSeen, withEngine, withLog, tillAt, isUp, blocked, inTransit}
-use Rattle.network.specs.Decide.{Context, decided, ruled, cardOf, ruleAdded, ruleRemoved, hasId, firedIn}
-use Rattle.network.specs.Accept.{Entry, messageOf, selected, liveAfter, classes, Counts, noCounts, tally}
+use Rattle.network.specs.Live.{Copy, Context, Till, downTill, upTill, Block, Rule, Tally, noTally, Log, emptyLog, Live, Engine, withBlocks, withRules, withTills, withSeen, withEngine, withLog, tillAt, idsAt, isUp, inTransit}
+use Rattle.network.specs.Accept.{Entry, messageOf, selected, liveAfter, booked, Counts, noCounts, tally, drops, ruled}
 use Rattle.network.specs.Flush.{Row, rowsOf, dropsOf, handled, due, flushed}
 
--- calls that only read
+-- calls that only read; `rows` and `places` are what the lent output has room for
 pub data Reading : Type 0 where
   isBlocked : (from to now : ℕ) → Reading
   transit : (t : ℕ) → Reading
   fired : (id : ℕ) → Reading
   isDown : (t : ℕ) → Reading
   nextTime : Reading
+  tallyOf : (class : ℕ) → Reading
+  waitingCopies : (rows : ℕ) → Reading
+  marksOf : (t places : ℕ) → Reading
+  digest : (input : List ℕ) → Reading
 
 pub data Call : Type 0 where
   accept : Entry → (opens : Bool) → Call
@@ -40,30 +46,52 @@ pub data Call : Type 0 where
 abbrev pub takenDown : ℕ → Live → Live
 takenDown t s = withSeen (withTills s (set s.tills t downTill)) (set s.seen t [])
 
--- up, with the shards given and no handlers
 abbrev pub broughtUp : ℕ → ℕ → Live → Live
-broughtUp t shards s = withTills s (set s.tills t (record { up = 1; gossip = 0; host = 0; shards = shards }))
+broughtUp t shards s = withTills s (set s.tills t (upTill shards))
+
+abbrev pub withHandlers : Till → ℕ → ℕ → Till
+withHandlers x gossip host = record { up = x .up; gossip = gossip; host = host; shards = x .shards }
 
 abbrev pub handling : ℕ → ℕ → ℕ → Live → Live
-handling t gossip host s = withTills s (set s.tills t (record { up = tillAt s t .up; gossip = gossip; host = host; shards = tillAt s t .shards }))
+handling t gossip host s = withTills s (set s.tills t (withHandlers (tillAt s t) gossip host))
 
 -- ---- Blocks
 
 abbrev pub always : ℕ → ℕ → Block
-always from to = record { from = from; to = to; windowed = 0; start = 0; end = 0 }
+always from to = record { from = from; to = to; bounded = 0; start = 0; end = 0 }
 
 abbrev pub during : ℕ → ℕ → ℕ → ℕ → Block
-during from to start end = record { from = from; to = to; windowed = 1; start = start; end = end }
+during from to start end = record { from = from; to = to; bounded = 1; start = start; end = end }
 
 abbrev pub blockAdded : Block → Live → Live
 blockAdded b s = withEngine s (withBlocks s.engine (s.engine .blocks ++ (b ∷ [])))
 
 -- every window of the pair goes
-abbrev pub onPair : ℕ → ℕ → Block → Bool
-onPair from to b = eqb (b .from) from && eqb (b .to) to
-
 abbrev pub unblocked : ℕ → ℕ → Live → Live
-unblocked from to s = withEngine s (withBlocks s.engine (keep (λ b. not (onPair from to b)) (s.engine .blocks)))
+unblocked from to s = withEngine s (withBlocks s.engine (keep (other from to) (s.engine .blocks)))
+
+-- ---- Rules
+
+-- a new rule stands last; ids count from 0
+abbrev pub ruleAdded : Engine → DropSpec → Engine
+ruleAdded e d = withRules e (e .rules ++ (record { id = e .installed; spec = d; fired = 0 } ∷ [])) (suc (e .installed)) (e .words)
+
+-- the rule with this id goes, if there is one; the others keep their order
+abbrev pub without : ℕ → List Rule → List Rule
+without i rs = take (indexOf i rs) rs ++ drop (suc (indexOf i rs)) rs
+
+abbrev pub ruleRemoved : Engine → ℕ → Engine
+ruleRemoved e i = withRules e (without i (e .rules)) (e .installed) (e .words)
+
+abbrev pub noRule : Rule
+noRule = record { id = 0; spec = record { map = 0; kind = 0; from = 0; to = 0; tier = 0; probability = 0; start = 0; end = 0 }; fired = 0 }
+
+-- is a rule with this id there, and its fired count
+abbrev pub installedNow : ℕ → List Rule → Bool
+installedNow i rs = ltb (indexOf i rs) (length rs)
+
+abbrev pub firedOf : ℕ → List Rule → ℕ
+firedOf i rs = getD rs (indexOf i rs) noRule .fired
 
 -- ---- The live part after a call that no number refused
 
@@ -78,64 +106,108 @@ module _ (o : Opening) where
   liveStep s (block from to) = blockAdded (always from to) s
   liveStep s (blockDuring from to start end) = blockAdded (during from to start end) s
   liveStep s (unblock from to) = unblocked from to s
-  liveStep s (install card) = withEngine s (ruleAdded s.engine (cardOf o.parts card))
+  liveStep s (install card) = withEngine s (ruleAdded s.engine (fieldsOf card))
   liveStep s (remove id) = withEngine s (ruleRemoved s.engine id)
-  liveStep s (decide x) = withEngine s (ruled s.engine (decided o.parts s.engine x))
-  liveStep s (drain rows) = withLog s (emptyLog o.classes)
+  liveStep s (decide x) = withEngine s (ruled s.engine (o .draws .decide x (s .engine .rules) (s .engine .words)))
+  liveStep s (drain rows) = withLog s (emptyLog (o .sizes .classes))
   liveStep s (reading r) = s
 
--- ---- Answers
+-- ---- Answers: what a call answers beside a refusal's number
 
--- what a call answers beside a refusal's number
-pub record Answer : Type 0 where
-  pub counts : Counts
-  pub rows : List Row
-  pub delivered : ℕ
-  pub drops : ℕ
-  pub found : ℕ
-  pub value : ℕ
-  pub log : Log
+pub data Answer : Type 0 where
+  silent : Answer
+  counted : Counts → Answer
+  moved : (rows : List Row) → (delivered drops : ℕ) → Answer
+  -- a number, and whether there is one (1 or 0)
+  number : (found value : ℕ) → Answer
+  tallied : Tally → Answer
+  drained : Log → Answer
+  copies : List Copy → Answer
+  ids : List ℕ → Answer
+  -- a digest's 8 words
+  words : List ℕ → Answer
 
-abbrev pub silent : Answer
-silent = record { counts = noCounts; rows = []; delivered = 0; drops = 0; found = 0; value = 0; log = emptyLog 0 }
-
-abbrev pub counted : Counts → Answer
-counted n = record { counts = n; rows = []; delivered = 0; drops = 0; found = 0; value = 0; log = emptyLog 0 }
-
-abbrev pub moved : List Row → ℕ → Answer
-moved rows drops = record { counts = noCounts; rows = rows; delivered = count handled rows; drops = drops; found = 0; value = 0; log = emptyLog 0 }
-
--- a number, and whether there is one
-abbrev pub number : Bool → ℕ → Answer
-number found value = record { counts = noCounts; rows = []; delivered = 0; drops = 0; found = bit found; value = value; log = emptyLog 0 }
-
-abbrev pub drained : Log → Answer
-drained log = record { counts = noCounts; rows = []; delivered = 0; drops = 0; found = 0; value = 0; log = log }
+-- the rule with this id: its fired count, or that it is gone
+abbrev pub firedAnswer : Bool → ℕ → Answer
+firedAnswer true n = number 1 n
+firedAnswer false n = number 0 0
 
 abbrev pub firstTime : List Copy → Answer
-firstTime [] = number false 0
-firstTime (c ∷ cs) = number true (c .delivery .time)
+firstTime [] = number 0 0
+firstTime (c ∷ cs) = number 1 (c .time)
 
 abbrev pub read : Live → Reading → Answer
-read s (isBlocked from to now) = number true (bit (blocked s from to now))
-read s (transit t) = number true (inTransit s t)
-read s (fired id) = number (some-of (hasId id) (s .engine .rules)) (firedIn id (s .engine .rules))
-read s (isDown t) = number true (bit (not (isUp s t)))
+read s (isBlocked from to now) = number 1 (bit (blocked from to now (s .engine .blocks)))
+read s (transit t) = number 1 (inTransit s t)
+read s (fired id) = firedAnswer (installedNow id (s .engine .rules)) (firedOf id (s .engine .rules))
+read s (isDown t) = number 1 (bit (not (isUp s t)))
 read s nextTime = firstTime (s .waiting)
+read s (tallyOf class) = tallied (getD (s .log .tallies) class noTally)
+read s (waitingCopies rows) = copies (s .waiting)
+read s (marksOf t places) = ids (idsAt s t)
+read s (digest input) = words (hash input)
+
+abbrev pub movedBy : List Row → ℕ → Answer
+movedBy rows n = moved rows (count handled rows) n
 
 module _ (o : Opening) where
   abbrev pub answerOf : Live → Call → Answer
-  answerOf s (accept e true) = counted (tally (classes o (messageOf o e) s (selected o s (e .scope) (e .from))))
-  answerOf s (accept e false) = silent
-  answerOf s (flush now rows) = moved (rowsOf s (due now s)) (dropsOf s (due now s))
+  answerOf s (accept e true) = counted (tally (booked o (messageOf o e) s (selected o s (e .scope) (e .from))))
+  answerOf s (accept e false) = counted noCounts
+  answerOf s (flush now rows) = movedBy (rowsOf s (due now s)) (dropsOf s (due now s))
   answerOf s (takeDown t) = silent
   answerOf s (bringUp t shards) = silent
   answerOf s (handlers t gossip host) = silent
   answerOf s (block from to) = silent
   answerOf s (blockDuring from to start end) = silent
   answerOf s (unblock from to) = silent
-  answerOf s (install card) = number true (s .engine .installed)
+  answerOf s (install card) = number 1 (s .engine .installed)
   answerOf s (remove id) = read s (fired id)
-  answerOf s (decide x) = number true (bit (decided o.parts s.engine x .drops))
+  answerOf s (decide x) = number 1 (bit (drops (o .draws .decide x (s .engine .rules) (s .engine .words))))
   answerOf s (drain rows) = drained s.log
   answerOf s (reading r) = read s r
+
+-- the counts, rows, handled rows and drops of an answer; none where it has none
+abbrev pub countsIn : Answer → Counts
+countsIn (counted n) = n
+countsIn silent = noCounts
+countsIn (moved rows delivered drops) = noCounts
+countsIn (number found value) = noCounts
+countsIn (tallied t) = noCounts
+countsIn (drained l) = noCounts
+countsIn (copies cs) = noCounts
+countsIn (ids is) = noCounts
+countsIn (words ws) = noCounts
+
+abbrev pub rowsIn : Answer → List Row
+rowsIn (moved rows delivered drops) = rows
+rowsIn silent = []
+rowsIn (counted n) = []
+rowsIn (number found value) = []
+rowsIn (tallied t) = []
+rowsIn (drained l) = []
+rowsIn (copies cs) = []
+rowsIn (ids is) = []
+rowsIn (words ws) = []
+
+abbrev pub deliveredIn : Answer → ℕ
+deliveredIn (moved rows delivered drops) = delivered
+deliveredIn silent = 0
+deliveredIn (counted n) = 0
+deliveredIn (number found value) = 0
+deliveredIn (tallied t) = 0
+deliveredIn (drained l) = 0
+deliveredIn (copies cs) = 0
+deliveredIn (ids is) = 0
+deliveredIn (words ws) = 0
+
+abbrev pub dropsIn : Answer → ℕ
+dropsIn (moved rows delivered drops) = drops
+dropsIn silent = 0
+dropsIn (counted n) = 0
+dropsIn (number found value) = 0
+dropsIn (tallied t) = 0
+dropsIn (drained l) = 0
+dropsIn (copies cs) = 0
+dropsIn (ids is) = 0
+dropsIn (words ws) = 0

@@ -1,27 +1,26 @@
--- Flush, the log, and its drain. Assumes nothing.
+-- Flush, the log, and its drain.
 use Prim.Native.Nat.{ℕ, zero, suc, _+_, _*_}
 use mathlib.Core.Bool.{Bool, true, false, cond, not, _&&_, _||_}
 use mathlib.Core.List.{List, [], _∷_, _++_, map}
 use lib.Dec.{eqb, leb, ltb}
-use lib.ListN.{length, getD, set}
-use Rattle.network.specs.Lists.{bit, count, keep, front, behind, push, wrap, bitAt}
-use Rattle.network.specs.Ids.{removed}
+use lib.ListN.{length, getD, set, take, drop}
+use Rattle.rows.specs.Rows.{keep}
+use Rattle.network.specs.Waiting.{dueCount}
+use Rattle.network.specs.Ring.{lastOf}
+use Rattle.network.specs.Lists.{bit, count, wrap, bitAt}
 use Rattle.network.specs.Opening.{Opening, global}
-use Rattle.network.specs.Live.{Delivery, Copy, Till, Tally, Log, Live, isOriginal, tillAt, stopped, withSeen, withWaiting, withLog}
-
-abbrev pub onTime : ℕ → Copy → Bool
-onTime now c = leb (c .delivery .time) now
+use Rattle.network.specs.Live.{Delivery, Copy, deliveryOf, Till, Tally, noTally, Log, Live, isOriginal, removed, tillAt, stopped, withSeen, withWaiting, withLog}
 
 -- the waiting copies with a time at or before now: a front part, since they stand by time, then sequence
 abbrev pub due : ℕ → Live → List Copy
-due now s = front (onTime now) s.waiting
+due now s = take (dueCount now s.waiting) s.waiting
 
 abbrev pub later : ℕ → Live → List Copy
-later now s = behind (onTime now) s.waiting
+later now s = drop (dueCount now s.waiting) s.waiting
 
 -- blocks at the copy's delivery time, down tills as they are now
 abbrev pub stops : Live → Copy → Bool
-stops s c = stopped s (c .delivery .from) (c .delivery .to) (c .delivery .time)
+stops s c = stopped s (c .from) (c .to) (c .time)
 
 abbrev pub unmark : ℕ → ℕ → List (List ℕ) → List (List ℕ)
 unmark t i seen = set seen t (removed i (getD seen t []))
@@ -29,7 +28,7 @@ unmark t i seen = set seen t (removed i (getD seen t []))
 -- a flush drop clears an original's mark
 abbrev pub clearing : Live → List Copy → List (List ℕ) → List (List ℕ)
 clearing s [] seen = seen
-clearing s (c ∷ cs) seen = clearing s cs (cond (stops s c && isOriginal c) (unmark (c .delivery .to) (c .id) seen) seen)
+clearing s (c ∷ cs) seen = clearing s cs (cond (stops s c && isOriginal c) (unmark (c .to) (c .id) seen) seen)
 
 -- ---- Rows
 
@@ -41,9 +40,11 @@ pub record Row : Type 0 where
 
 -- a host handler takes global entries only
 abbrev pub rowOf : Live → Copy → Row
-rowOf s c =
-    let d = c .delivery in
-    record { copy = c; gossip = bit (bitAt (tillAt s (d .to) .gossip) (d .type)); host = bit (eqb (d .scope) global && bitAt (tillAt s (d .to) .host) (d .type)) }
+rowOf s c = record {
+  copy = c;
+  gossip = bit (bitAt (tillAt s (c .to) .gossip) (c .kind));
+  host = bit (eqb (c .shard) global && bitAt (tillAt s (c .to) .host) (c .kind));
+}
 
 abbrev pub handled : Row → Bool
 handled r = not (eqb (r .gossip + r .host) 0)
@@ -59,27 +60,24 @@ dropsOf s cs = count (stops s) cs
 
 -- ---- The log
 
-abbrev pub noTally : Tally
-noTally = record { deliveries = 0; bytes = 0 }
-
 abbrev pub tallied : Tally → Delivery → Tally
-tallied t d = record { deliveries = wrap (suc (t .deliveries)); bytes = wrap (t .bytes + d .wire) }
+tallied t d = record { deliveries = wrap (t .deliveries + 1); bytes = wrap (t .bytes + d .wire) }
 
--- a log of capacity 0 keeps neither records nor tallies
+-- a log of capacity 0 keeps neither records nor tallies; where all places are taken, the oldest record is forced out
 abbrev pub logged : ℕ → Log → Delivery → Log
 logged zero l d = l
 logged (suc n) l d = record {
-  records = push (suc n) (l .records) d;
-  forced = cond (ltb (length (l .records)) (suc n)) (l .forced) (wrap (suc (l .forced)));
+  records = lastOf (suc n) (l .records ++ (d ∷ []));
+  forced = wrap (l .forced + cond (ltb (length (l .records)) (suc n)) 0 1);
   tallies = set (l .tallies) (d .class) (tallied (getD (l .tallies) (d .class) noTally) d);
 }
 
 abbrev pub loggedAll : ℕ → Log → List Copy → Log
 loggedAll places l [] = l
-loggedAll places l (c ∷ cs) = loggedAll places (logged places l (c .delivery)) cs
+loggedAll places l (c ∷ cs) = loggedAll places (logged places l (deliveryOf c)) cs
 
 abbrev pub flushed : Opening → ℕ → Live → Live
 flushed o now s =
     let s₁ = withSeen s (clearing s (due now s) s.seen) in
     let s₂ = withWaiting s₁ s.sequence (later now s) in
-    withLog s₂ (loggedAll o.logSlots s.log (lands s (due now s)))
+    withLog s₂ (loggedAll (o .sizes .logSlots) s.log (lands s (due now s)))

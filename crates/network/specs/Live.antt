@@ -1,54 +1,59 @@
--- What of the book the calls go by. Assumes nothing.
+-- What of the book the calls go by.
 use Prim.Native.Nat.{ℕ, zero, suc, _+_, _*_}
 use mathlib.Core.Bool.{Bool, true, false, cond, not, _&&_, _||_}
-use mathlib.Core.List.{List, [], _∷_, _++_, map}
-use lib.Dec.{eqb, leb, ltb}
-use lib.ListN.{length, getD, set, replicate}
-use Rattle.network.specs.Lists.{bit, count, keep, some-of, bitAt}
-use Rattle.network.specs.Ids.{found}
-use Rattle.network.specs.Opening.{Opening, ringOf, rings}
+use mathlib.Core.List.{List, [], _∷_, _++_}
+use lib.Dec.{eqb}
+use lib.ListN.{length, getD, set, take, drop, replicate}
+use Rattle.network.specs.Waiting as waiting
+use Rattle.network.specs.Marks.{placeOf, standsAt}
+use Rattle.network.specs.Rings as rings
+use Rattle.network.specs.Log as log
+use Rattle.network.specs.Fault as fault
+use Rattle.network.specs.Fault.{blocked}
+use Rattle.network.specs.Lists.{bit, count, listFrom, listOf}
+use Rattle.network.specs.Opening.{Sizes, links, ringCount}
 
 -- ---- Copies
 
--- `DeliveryRecord`; `time` is when it is delivered
-pub record Delivery : Type 0 where
-  pub from : ℕ
-  pub to : ℕ
-  pub type : ℕ
-  pub class : ℕ
-  pub sentAt : ℕ
-  pub time : ℕ
-  pub scope : ℕ
-  pub wire : ℕ
+-- A copy: the fields of `DeliveryRecord`, its sequence, whether it has an id (1, or 0), the id, and the tag. `time` is when it is delivered.
+abbrev pub Copy : Type 0
+Copy = waiting.Row
 
--- An original is a copy with an id: its kind is 1. An echo's kind is 0, and its id says nothing.
-pub record Copy : Type 0 where
-  pub delivery : Delivery
-  pub sequence : ℕ
-  pub kind : ℕ
-  pub id : ℕ
-  pub tag : ℕ
+-- an original is a copy with an id
+abbrev pub isOriginal : Copy → Bool
+isOriginal c = not (eqb (c .original) 0)
 
--- a copy that has no sequence yet
-pub record Draft : Type 0 where
-  pub delivery : Delivery
-  pub kind : ℕ
-  pub id : ℕ
-  pub tag : ℕ
+abbrev pub withSequence : Copy → ℕ → Copy
+withSequence c n = record {
+  time = c .time;
+  sequence = n;
+  from = c .from;
+  to = c .to;
+  kind = c .kind;
+  class = c .class;
+  shard = c .shard;
+  sent = c .sent;
+  wire = c .wire;
+  original = c .original;
+  id = c .id;
+  tag = c .tag;
+}
 
 -- each copy takes the next sequence; n is the last one given
-abbrev pub numbered : ℕ → List Draft → List Copy
+abbrev pub numbered : ℕ → List Copy → List Copy
 numbered n [] = []
-numbered n (d ∷ ds) = record { delivery = d .delivery; sequence = suc n; kind = d .kind; id = d .id; tag = d .tag } ∷ numbered (suc n) ds
+numbered n (c ∷ cs) = withSequence c (suc n) ∷ numbered (suc n) cs
 
-abbrev pub isOriginal : Copy → Bool
-isOriginal c = not (eqb (c .kind) 0)
+-- `DeliveryRecord`
+abbrev pub Delivery : Type 0
+Delivery = log.Record
+
+abbrev pub deliveryOf : Copy → Delivery
+deliveryOf c = record { from = c .from; to = c .to; kind = c .kind; class = c .class; sent = c .sent; delivered = c .time; shard = c .shard; wire = c .wire }
 
 -- what a ring keeps of a message; its type and scope are the ring's
-pub record Carried : Type 0 where
-  pub class : ℕ
-  pub wire : ℕ
-  pub tag : ℕ
+abbrev pub Carried : Type 0
+Carried = rings.Entry
 
 -- ---- Tills
 
@@ -62,35 +67,21 @@ pub record Till : Type 0 where
 abbrev pub downTill : Till
 downTill = record { up = 0; gossip = 0; host = 0; shards = 0 }
 
--- ---- Windows, blocks, rules
+-- up, with the shards given and no handlers
+abbrev pub upTill : ℕ → Till
+upTill shards = record { up = 1; gossip = 0; host = 0; shards = shards }
 
--- a window holds its start and not its end
-abbrev pub holds : ℕ → ℕ → ℕ → Bool
-holds start end at = leb start at && ltb at end
+-- ---- The fault engine
 
--- `windowed` is 0 for a block that always holds
-pub record Block : Type 0 where
-  pub from : ℕ
-  pub to : ℕ
-  pub windowed : ℕ
-  pub start : ℕ
-  pub end : ℕ
+abbrev pub Block : Type 0
+Block = fault.Block
 
--- a drop card's fields; the map says which of them stand, and the others are 0
-pub record Card : Type 0 where
-  pub map : ℕ
-  pub type : ℕ
-  pub from : ℕ
-  pub to : ℕ
-  pub tier : ℕ
-  pub probability : ℕ
-  pub start : ℕ
-  pub end : ℕ
+abbrev pub Rule : Type 0
+Rule = fault.Row
 
-pub record Rule : Type 0 where
-  pub id : ℕ
-  pub card : Card
-  pub fired : ℕ
+-- what the rules are asked of: `MessageContext`, and now
+abbrev pub Context : Type 0
+Context = fault.Message
 
 -- `Engine`: the fault stream's word count, and how many rules were ever installed
 pub record Engine : Type 0 where
@@ -107,6 +98,7 @@ withRules e x installed words = record { blocks = e .blocks; rules = x; installe
 
 -- ---- The log
 
+-- `ClassTally`
 pub record Tally : Type 0 where
   pub deliveries : ℕ
   pub bytes : ℕ
@@ -150,13 +142,27 @@ withWaiting s n x = record { tills = s .tills; seen = s .seen; engine = s .engin
 abbrev pub withLog : Live → Log → Live
 withLog s x = record { tills = s .tills; seen = s .seen; engine = s .engine; rings = s .rings; words = s .words; sequence = s .sequence; waiting = s .waiting; log = x }
 
+-- ---- Marks: ids in rising order, found by halving; each answer is what the halving gives on any list
+
+abbrev pub found : ℕ → List ℕ → Bool
+found i ids = standsAt ids (placeOf ids i) i
+
+-- one id more, at its place
+abbrev pub placed : ℕ → List ℕ → List ℕ
+placed i ids = take (placeOf ids i) ids ++ (i ∷ drop (placeOf ids i) ids)
+
+-- one id less, if it is there
+abbrev pub removed : ℕ → List ℕ → List ℕ
+removed i ids = cond (found i ids) (take (placeOf ids i) ids ++ drop (suc (placeOf ids i)) ids) ids
+
 -- ---- Readings
 
-abbrev pub idsOf : Live → ℕ → List ℕ
-idsOf s t = getD s.seen t []
+abbrev pub idsAt : Live → ℕ → List ℕ
+idsAt s t = getD s.seen t []
 
+-- does the mark (till, id) stand
 abbrev pub marked : Live → ℕ → ℕ → Bool
-marked s t i = found i (idsOf s t)
+marked s t i = found i (idsAt s t)
 
 abbrev pub tillAt : Live → ℕ → Till
 tillAt s t = getD s.tills t downTill
@@ -164,37 +170,33 @@ tillAt s t = getD s.tills t downTill
 abbrev pub isUp : Live → ℕ → Bool
 isUp s t = not (eqb (tillAt s t .up) 0)
 
-abbrev pub blocks? : ℕ → ℕ → ℕ → Block → Bool
-blocks? from to at b = eqb (b .from) from && eqb (b .to) to && (eqb (b .windowed) 0 || holds (b .start) (b .end) at)
-
-abbrev pub blocked : Live → ℕ → ℕ → ℕ → Bool
-blocked s from to at = some-of (blocks? from to at) (s .engine .blocks)
-
 -- stopped by a block at that time, or by an end that is down now
 abbrev pub stopped : Live → ℕ → ℕ → ℕ → Bool
-stopped s from to at = not (isUp s from) || not (isUp s to) || blocked s from to at
+stopped s from to at = not (isUp s from) || not (isUp s to) || blocked from to at (s .engine .blocks)
 
+-- in transit to a till is the number of copies waiting for it
 abbrev pub inTransit : Live → ℕ → ℕ
-inTransit s t = count (λ (c : Copy). eqb (c .delivery .to) t) s.waiting
+inTransit s t = count (λ (c : Copy). eqb (c .to) t) s.waiting
 
 -- ---- The opening: all tills up, shard masks as given, the rest empty or at its first number
 
-abbrev pub openTills : List ℕ → ℕ → List Till
-openTills masks zero = []
-openTills [] (suc n) = record { up = 1; gossip = 0; host = 0; shards = 0 } ∷ openTills [] n
-openTills (m ∷ ms) (suc n) = record { up = 1; gossip = 0; host = 0; shards = m } ∷ openTills ms n
+abbrev pub noTally : Tally
+noTally = record { deliveries = 0; bytes = 0 }
 
 abbrev pub emptyLog : ℕ → Log
-emptyLog classes = record { records = []; forced = 0; tallies = replicate classes (record { deliveries = 0; bytes = 0 }) }
+emptyLog classes = record { records = []; forced = 0; tallies = replicate classes noTally }
 
-abbrev pub openingLive : Opening → List ℕ → Live
-openingLive o masks = record {
-  tills = openTills masks o.tills;
-  seen = replicate o.tills [];
+abbrev pub openTills : List ℕ → ℕ → List Till
+openTills masks n = listOf n (λ t. upTill (getD masks t 0))
+
+abbrev pub openingLive : Sizes → List ℕ → Live
+openingLive z masks = record {
+  tills = openTills masks (z .tills);
+  seen = replicate (z .tills) [];
   engine = record { blocks = []; rules = []; installed = 0; words = 0 };
-  rings = replicate (rings o) [];
-  words = replicate 4096 0;
+  rings = replicate ringCount [];
+  words = replicate links 0;
   sequence = 0;
   waiting = [];
-  log = emptyLog o.classes;
+  log = emptyLog (z .classes);
 }
