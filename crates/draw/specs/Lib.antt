@@ -1,2 +1,4 @@
 pub mod Draw
 pub mod Fraction
+pub mod Real
+pub mod Marked
