@@ -11,7 +11,7 @@ use Rattle.shift.specs.Shift.{insertedWords, closed}
 use Rattle.rows.specs.Rows.{rows, allOf, pick, keep, flat, kept}
 
 -- k rows of n: the words of the others
-part : (k n S : ℕ) → k ≤ n → n * S ≡ k * S + (n - k) * S
+pub part : (k n S : ℕ) → k ≤ n → n * S ≡ k * S + (n - k) * S
 part k n S h = let e : n ≡ k + (n - k) = omega arith in ap (λ (m : ℕ). m * S) e ∙ add-mul k (n - k) S
 
 module _ {R : Type 0} (S : ℕ) (read : List ℕ → R) where
@@ -175,7 +175,7 @@ module _ {R : Type 0} (S : ℕ) (read : List ℕ → R) (words : R → List ℕ)
       go true h = ap (λ (t : List R). x ∷ t) h
       go false h = h
 
-  flat-append : (l m : List R) → flat words (l ++ m) ≡ flat words l ++ flat words m
+  pub flat-append : (l m : List R) → flat words (l ++ m) ≡ flat words l ++ flat words m
   flat-append [] m = refl
   flat-append (x ∷ l) m = ap (λ (t : List ℕ). words x ++ t) (flat-append l m) ∙ sym (append-assoc (words x) (flat words l) (flat words m))
 
@@ -256,7 +256,7 @@ module _ {R : Type 0} (S : ℕ) (read : List ℕ → R) (words : R → List ℕ)
         ∙ ap (λ (m : ℕ). flat words (l ++ (r ∷ [])) ++ drop m ws) (e ∙ ap (λ (m : ℕ). m * S) (sym ln))
         ∙ ap (λ (x : List R). flat words x ++ drop (length x * S) ws) (ap (λ (x : R). l ++ (x ∷ [])) er ∙ sym (kept-take i (ap q (sym er) ∙ h)))
 
-  rows-flat : (l : List R) (rest : List ℕ) → rows S read (flat words l ++ rest) (length l) ≡ l
+  pub rows-flat : (l : List R) (rest : List ℕ) → rows S read (flat words l ++ rest) (length l) ≡ l
   rows-flat [] rest = refl
   rows-flat (r ∷ l) rest =
       ap (λ (x : List ℕ). rows S read x (suc (length l))) (append-assoc (words r) (flat words l) rest)

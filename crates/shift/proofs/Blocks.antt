@@ -1,0 +1,122 @@
+-- Moves of words, a block at a time: a block, and moves that follow one another. Assumes nothing.
+use mathlib.Core.Path.{_≡_, refl, sym, ap, _∙_}
+use mathlib.Core.List.{List, [], _∷_, _++_, append-assoc}
+use Prim.Native.Nat.{ℕ, zero, suc, _+_, _-_, _≤_, _<_}
+use native.Mathlib.Nat.{add-zero}
+use native.Mathlib.Omega.{arith}
+use lib.ListN.{length, getD, take, drop, length-take, length-append, length-drop}
+use lib.Seq.{drop-cons, length-take-le, take-append-le, drop-append-le, take-take, drop-at, take-at, take-add, drop-drop}
+use Rattle.shift.specs.Shift.{opened, closed, putWords}
+use Rattle.shift.proofs.Laws.{drop-take, closed-behind}
+
+-- the words at b + k and after, n of them, read one by one
+abbrev pub cells : List ℕ → ℕ → ℕ → ℕ → List ℕ
+cells l b k zero = []
+cells l b k (suc n) = getD l (b + k) 0 ∷ cells l b (suc k) n
+
+pub cells-eq : (l : List ℕ) (b k n : ℕ) → b + k + n ≤ length l → cells l b k n ≡ take n (drop (b + k) l)
+cells-eq l b k zero h = refl
+cells-eq l b k (suc n) h =
+    let e : b + suc k ≡ suc (b + k) = omega arith in
+    ap (λ (x : List ℕ). getD l (b + k) 0 ∷ x) (cells-eq l b (suc k) n (omega arith) ∙ ap (λ (j : ℕ). take n (drop j l)) e)
+    ∙ sym (ap (take (suc n)) (drop-cons l (b + k) 0 (omega arith)))
+
+-- the word at b, and those after it
+pub cells-at : (l : List ℕ) (b n : ℕ) → b + suc n ≤ length l → getD l b 0 ∷ cells l b 1 n ≡ take (suc n) (drop b l)
+cells-at l b n h =
+    ap (λ (j : ℕ). getD l j 0 ∷ cells l b 1 n) (sym (add-zero b)) ∙ cells-eq l b 0 (suc n) (omega arith) ∙ ap (λ (j : ℕ). take (suc n) (drop j l)) (add-zero b)
+
+pub length-part : (l : List ℕ) (a m : ℕ) → a + m ≤ length l → length (take m (drop a l)) ≡ m
+length-part l a m h = length-take-le m (drop a l) (rw length-drop (omega arith))
+
+-- two parts that follow one another are one
+pub part-add : (l : List ℕ) (a k z : ℕ) → a ≤ k → k ≤ z → take (z - a) (drop a l) ≡ take (k - a) (drop a l) ++ take (z - k) (drop k l)
+part-add l a k z h q =
+    let m : z - a ≡ (k - a) + (z - k) = omega arith in
+    let n : a + (k - a) ≡ k = omega arith in
+    ap (λ (j : ℕ). take j (drop a l)) m
+    ∙ take-add (k - a) (z - k) (drop a l)
+    ∙ ap (λ (x : List ℕ). take (k - a) (drop a l) ++ take (z - k) x) (drop-drop (k - a) a l ∙ ap (λ (j : ℕ). drop j l) n)
+
+-- UP: a block of m words, and a move that goes on below another
+pub up-block : (l : List ℕ) (k m by : ℕ) → k + m ≤ length l → putWords l (k + by) (take m (drop k l)) ≡ opened l k (k + m) by
+unfolding putWords opened
+up-block l k m by h =
+    let n : k + m - k ≡ m = omega arith in
+    let q : k + by + length (take m (drop k l)) ≡ k + m + by = rw (length-part l k m h) (omega arith) in
+    ap (λ (j : ℕ). take (k + by) l ++ (take m (drop k l) ++ drop j l)) q
+    ∙ ap (λ (j : ℕ). take (k + by) l ++ (take j (drop k l) ++ drop (k + m + by) l)) (sym n)
+
+pub up-join : (l : List ℕ) (a k z by : ℕ) → a ≤ k → k ≤ z → z + by ≤ length l → opened (opened l k z by) a k by ≡ opened l a z by
+unfolding opened
+up-join l a k z by h q room =
+    let front : List ℕ = take (k + by) l in
+    let tail : List ℕ = take (z - k) (drop k l) ++ drop (z + by) l in
+    let lf : length front ≡ k + by = length-take-le (k + by) l (omega arith) in
+    let ld = length-drop a front in
+    let one : take (a + by) (front ++ tail) ≡ take (a + by) l = take-append-le (a + by) front tail (omega arith) ∙ take-take (a + by) (k + by) l (omega arith) in
+    let two : take (k - a) (drop a (front ++ tail)) ≡ take (k - a) (drop a l)
+    = ap (take (k - a)) (drop-append-le a front tail (omega arith)) ∙ take-append-le (k - a) (drop a front) tail (omega arith)
+    ∙ ap (take (k - a)) (drop-take a (k + by) l (omega arith) (omega arith)) ∙ take-take (k - a) (k + by - a) (drop a l) (omega arith) in
+    ap (λ (x : List ℕ). x ++ (take (k - a) (drop a (front ++ tail)) ++ drop (k + by) (front ++ tail))) one
+    ∙ ap (λ (x : List ℕ). take (a + by) l ++ (x ++ drop (k + by) (front ++ tail))) two
+    ∙ ap (λ (x : List ℕ). take (a + by) l ++ (take (k - a) (drop a l) ++ x)) (drop-at front tail (k + by) lf)
+    ∙ ap (λ (x : List ℕ). take (a + by) l ++ x) (sym (append-assoc (take (k - a) (drop a l)) (take (z - k) (drop k l)) (drop (z + by) l)))
+    ∙ ap (λ (x : List ℕ). take (a + by) l ++ (x ++ drop (z + by) l)) (sym (part-add l a k z h q))
+
+-- one block more is moved up
+pub up-part : (l : List ℕ) (k m z by : ℕ) → k + m ≤ z → z + by ≤ length l
+    → length (opened l (k + m) z by) ≡ length l
+    → putWords (opened l (k + m) z by) (k + by) (take m (drop k (opened l (k + m) z by))) ≡ opened l k z by
+up-part l k m z by h room long = up-block (opened l (k + m) z by) k m by (omega arith) ∙ up-join l k (k + m) z by (omega arith) h room
+
+-- DOWN: the same
+pub down-block : (l : List ℕ) (k m by : ℕ) → by ≤ k → k + m ≤ length l → putWords l (k - by) (take m (drop k l)) ≡ closed l k (k + m) by
+unfolding putWords closed
+down-block l k m by g h =
+    let n : k + m - k ≡ m = omega arith in
+    let q : k - by + length (take m (drop k l)) ≡ k + m - by = rw (length-part l k m h) (omega arith) in
+    ap (λ (j : ℕ). take (k - by) l ++ (take m (drop k l) ++ drop j l)) q
+    ∙ ap (λ (j : ℕ). take (k - by) l ++ (take j (drop k l) ++ drop (k + m - by) l)) (sym n)
+
+-- what lies from z - by on, and past it
+closed-past : (l : List ℕ) (a k by j : ℕ) → by ≤ a → a ≤ k → k ≤ length l → k - by ≤ j → drop j (closed l a k by) ≡ drop j l
+closed-past l a k by j g h room q =
+    let m : k - by + (j - (k - by)) ≡ j = omega arith in
+    ap (λ (i : ℕ). drop i (closed l a k by)) (sym m)
+    ∙ sym (drop-drop (j - (k - by)) (k - by) (closed l a k by))
+    ∙ ap (drop (j - (k - by))) (closed-behind l a k by g h room)
+    ∙ drop-drop (j - (k - by)) (k - by) l
+    ∙ ap (λ (i : ℕ). drop i l) m
+
+closed-front : (l : List ℕ) (a k by : ℕ) → by ≤ a → a ≤ k → k ≤ length l → take (k - by) (closed l a k by) ≡ take (a - by) l ++ take (k - a) (drop a l)
+unfolding closed
+closed-front l a k by g h room =
+    let front : List ℕ = take (a - by) l in
+    let moved : List ℕ = take (k - a) (drop a l) in
+    let lf : length front ≡ a - by = length-take-le (a - by) l (omega arith) in
+    let lm : length moved ≡ k - a = length-part l a (k - a) (omega arith) in
+    let ln : length (front ++ moved) ≡ k - by = length-append front moved ∙ (let e : a - by + (k - a) ≡ k - by = omega arith in rw (lf, lm) e) in
+    ap (take (k - by)) (sym (append-assoc front moved (drop (k - by) l))) ∙ take-at (front ++ moved) (drop (k - by) l) (k - by) ln
+
+shape : (w : List ℕ) (i j by : ℕ) → closed w i j by ≡ take (i - by) w ++ (take (j - i) (drop i w) ++ drop (j - by) w)
+unfolding closed
+shape w i j by = refl
+
+-- a move that goes on above another
+pub down-join : (l : List ℕ) (a k z by : ℕ) → by ≤ a → a ≤ k → k ≤ z → z ≤ length l → closed (closed l a k by) k z by ≡ closed l a z by
+down-join l a k z by g h q room =
+    shape (closed l a k by) k z by
+    ∙ ap (λ (x : List ℕ). x ++ (take (z - k) (drop k (closed l a k by)) ++ drop (z - by) (closed l a k by))) (closed-front l a k by g h (omega arith))
+    ∙ ap (λ (x : List ℕ). (take (a - by) l ++ take (k - a) (drop a l)) ++ (take (z - k) x ++ drop (z - by) (closed l a k by))) (closed-past l a k by k g h (omega arith) (omega arith))
+    ∙ ap (λ (x : List ℕ). (take (a - by) l ++ take (k - a) (drop a l)) ++ (take (z - k) (drop k l) ++ x)) (closed-past l a k by (z - by) g h (omega arith) (omega arith))
+    ∙ append-assoc (take (a - by) l) (take (k - a) (drop a l)) (take (z - k) (drop k l) ++ drop (z - by) l)
+    ∙ ap (λ (x : List ℕ). take (a - by) l ++ x) (sym (append-assoc (take (k - a) (drop a l)) (take (z - k) (drop k l)) (drop (z - by) l)))
+    ∙ ap (λ (x : List ℕ). take (a - by) l ++ (x ++ drop (z - by) l)) (sym (part-add l a k z h q))
+    ∙ sym (shape l a z by)
+
+-- one block more is moved down
+pub down-part : (l : List ℕ) (a k m by : ℕ) → by ≤ a → a ≤ k → k + m ≤ length l → length (closed l a k by) ≡ length l
+    → putWords (closed l a k by) (k - by) (take m (drop k (closed l a k by))) ≡ closed l a (k + m) by
+down-part l a k m by g h room long =
+    down-block (closed l a k by) k m by (omega arith) (omega arith) ∙ down-join l a k (k + m) by g h (omega arith) room
