@@ -3,14 +3,13 @@ use Prim.Native.Nat.{ℕ, zero, suc, _+_, _*_}
 use mathlib.Core.Bool.{Bool, true, false, cond, not, _&&_, _||_}
 use mathlib.Core.List.{List, [], _∷_, _++_}
 use lib.Dec.{eqb}
-use lib.ListN.{length, getD, set, take, drop}
+use lib.ListN.{length, getD, set}
 use Rattle.rows.specs.Rows.{keep}
-use Rattle.network.specs.Waiting.{placeOf}
-use Rattle.network.specs.Ring.{lastOf}
-use Rattle.network.specs.Fault.{Verdict, fireAt}
-use Rattle.network.specs.Lists.{bit, below, bitAt}
+use Rattle.network.specs.Waiting.{Copy, insertCopy}
+use Rattle.network.specs.Rules.{Verdict, fireAt}
+use Rattle.network.specs.Lists.{bit, push, below, bitAt}
 use Rattle.network.specs.Opening.{Draw, Draws, Opening, link, global, ringAt, ringSlots}
-use Rattle.network.specs.Live.{Copy, numbered, Carried, Rule, Context, Engine, Live, withRules, withSeen, withEngine, withRings, withWords, withWaiting, placed, marked, tillAt, stopped}
+use Rattle.network.specs.Live.{numbered, Carried, Context, Engine, Live, withRules, withSeen, withEngine, withRings, withWords, withWaiting, placed, marked, tillAt, stopped}
 
 -- an outbox entry as the caller lends it; the tag stands for its payload
 pub record Entry : Type 0 where
@@ -72,15 +71,8 @@ isEmpty (x ∷ xs) = false
 -- the original: now plus latency. Its sequence comes when it is scheduled
 abbrev pub original : Message → ℕ → ℕ → Copy
 original m t latency = record {
-  time = m .now + latency;
+  delivery = record { from = m .from; to = t; kind = m .kind; class = m .class; sent = m .now; time = m .now + latency; scope = m .scope; wire = m .wire };
   sequence = 0;
-  from = m .from;
-  to = t;
-  kind = m .kind;
-  class = m .class;
-  shard = m .scope;
-  sent = m .now;
-  wire = m .wire;
   original = 1;
   id = m .id;
   tag = m .tag;
@@ -89,15 +81,8 @@ original m t latency = record {
 -- an echo carries no id
 abbrev pub echo : Message → ℕ → Carried → ℕ → Copy
 echo m t c latency = record {
-  time = m .now + latency;
+  delivery = record { from = m .from; to = t; kind = m .kind; class = c .class; sent = m .now; time = m .now + latency; scope = m .scope; wire = c .wire };
   sequence = 0;
-  from = m .from;
-  to = t;
-  kind = m .kind;
-  class = c .class;
-  shard = m .scope;
-  sent = m .now;
-  wire = c .wire;
   original = 0;
   id = 0;
   tag = c .tag;
@@ -167,13 +152,9 @@ firstFit false false true f = loss
 firstFit false false false true = fault
 firstFit false false false false = sent
 
--- into waiting, at its place
-abbrev pub insert : Copy → List Copy → List Copy
-insert c w = take (placeOf (c .time) (c .sequence) w) w ++ (c ∷ drop (placeOf (c .time) (c .sequence) w) w)
-
 abbrev pub insertAll : List Copy → List Copy → List Copy
 insertAll [] w = w
-insertAll (c ∷ cs) w = insertAll cs (insert c w)
+insertAll (c ∷ cs) w = insertAll cs (insertCopy c w)
 
 abbrev pub mark : ℕ → ℕ → List (List ℕ) → List (List ℕ)
 mark t i seen = set seen t (placed i (getD seen t []))
@@ -193,7 +174,7 @@ module _ (o : Opening) (m : Message) where
 
   -- the ring takes the message, and gives up its oldest first
   abbrev pub remembered : List (List Carried) → List (List Carried)
-  remembered rings = let r = ringAt (m .kind) (m .scope) in cond (o .draws .echoing) (set rings r (lastOf ringSlots (getD rings r [] ++ (carriedOf m ∷ [])))) rings
+  remembered rings = let r = ringAt (m .kind) (m .scope) in cond (o .draws .echoing) (set rings r (push ringSlots (getD rings r []) (carriedOf m))) rings
 
   -- sent sets the mark and puts the copies into waiting; then the ring takes the message
   abbrev pub effect : Class → Live → Drawn → ℕ → Live

@@ -2,14 +2,18 @@
 use Prim.Native.Nat.{ℕ, zero, suc, _+_, _*_}
 use mathlib.Core.Bool.{Bool, true, false, cond, not}
 use mathlib.Core.List.{List, [], _∷_, _++_}
-use lib.Dec.{ltb}
-use lib.ListN.{length, getD, set, take, drop}
+use lib.ListN.{length, getD, set}
 use Rattle.rows.specs.Rows.{keep}
 use Rattle.digest.specs.Blake3.{hash}
-use Rattle.network.specs.Fault.{DropSpec, indexOf, fieldsOf, blocked, other}
+use Rattle.rule.specs.declared.DropSpec.{DropSpec}
+use Rattle.card.specs.Card.{fieldsOf}
+use Rattle.network.specs.Rules as rules
+use Rattle.network.specs.Rules.{withRule, without, readingOf}
+use Rattle.network.specs.Blocks.{Block, blocked, other}
+use Rattle.network.specs.Waiting.{Copy}
 use Rattle.network.specs.Lists.{bit, count}
 use Rattle.network.specs.Opening.{Opening}
-use Rattle.network.specs.Live.{Copy, Context, Till, downTill, upTill, Block, Rule, Tally, noTally, Log, emptyLog, Live, Engine, withBlocks, withRules, withTills, withSeen, withEngine, withLog, tillAt, idsAt, isUp, inTransit}
+use Rattle.network.specs.Live.{Context, Till, downTill, upTill, Tally, noTally, Log, emptyLog, Live, Engine, withBlocks, withRules, withTills, withSeen, withEngine, withLog, tillAt, idsAt, isUp, inTransit}
 use Rattle.network.specs.Accept.{Entry, messageOf, selected, liveAfter, booked, Counts, noCounts, tally, drops, ruled}
 use Rattle.network.specs.Flush.{Row, rowsOf, dropsOf, handled, due, flushed}
 
@@ -74,24 +78,11 @@ unblocked from to s = withEngine s (withBlocks s.engine (keep (other from to) (s
 
 -- a new rule stands last; ids count from 0
 abbrev pub ruleAdded : Engine → DropSpec → Engine
-ruleAdded e d = withRules e (e .rules ++ (record { id = e .installed; spec = d; fired = 0 } ∷ [])) (suc (e .installed)) (e .words)
+ruleAdded e d = withRules e (withRule (e .installed) d (e .rules)) (suc (e .installed)) (e .words)
 
 -- the rule with this id goes, if there is one; the others keep their order
-abbrev pub without : ℕ → List Rule → List Rule
-without i rs = take (indexOf i rs) rs ++ drop (suc (indexOf i rs)) rs
-
 abbrev pub ruleRemoved : Engine → ℕ → Engine
 ruleRemoved e i = withRules e (without i (e .rules)) (e .installed) (e .words)
-
-abbrev pub noRule : Rule
-noRule = record { id = 0; spec = record { map = 0; kind = 0; from = 0; to = 0; tier = 0; probability = 0; start = 0; end = 0 }; fired = 0 }
-
--- is a rule with this id there, and its fired count
-abbrev pub installedNow : ℕ → List Rule → Bool
-installedNow i rs = ltb (indexOf i rs) (length rs)
-
-abbrev pub firedOf : ℕ → List Rule → ℕ
-firedOf i rs = getD rs (indexOf i rs) noRule .fired
 
 -- ---- The live part after a call that no number refused
 
@@ -127,19 +118,18 @@ pub data Answer : Type 0 where
   -- a digest's 8 words
   words : List ℕ → Answer
 
--- the rule with this id: its fired count, or that it is gone
-abbrev pub firedAnswer : Bool → ℕ → Answer
-firedAnswer true n = number 1 n
-firedAnswer false n = number 0 0
+-- the fired count of a rule, and whether it is there
+abbrev pub firedOf : rules.Reading → Answer
+firedOf r = number (r .found) (r .fired)
 
 abbrev pub firstTime : List Copy → Answer
 firstTime [] = number 0 0
-firstTime (c ∷ cs) = number 1 (c .time)
+firstTime (c ∷ cs) = number 1 (c .delivery .time)
 
 abbrev pub read : Live → Reading → Answer
 read s (isBlocked from to now) = number 1 (bit (blocked from to now (s .engine .blocks)))
 read s (transit t) = number 1 (inTransit s t)
-read s (fired id) = firedAnswer (installedNow id (s .engine .rules)) (firedOf id (s .engine .rules))
+read s (fired id) = firedOf (readingOf id (s .engine .rules))
 read s (isDown t) = number 1 (bit (not (isUp s t)))
 read s nextTime = firstTime (s .waiting)
 read s (tallyOf class) = tallied (getD (s .log .tallies) class noTally)

@@ -3,24 +3,24 @@ use Prim.Native.Nat.{ℕ, zero, suc, _+_, _*_}
 use mathlib.Core.Bool.{Bool, true, false, cond, not, _&&_, _||_}
 use mathlib.Core.List.{List, [], _∷_, _++_, map}
 use lib.Dec.{eqb, leb, ltb}
-use lib.ListN.{length, getD, set, take, drop}
+use lib.ListN.{length, getD, set}
 use Rattle.rows.specs.Rows.{keep}
-use Rattle.network.specs.Waiting.{dueCount}
-use Rattle.network.specs.Ring.{lastOf}
-use Rattle.network.specs.Lists.{bit, count, wrap, bitAt}
+use Rattle.delivery.specs.declared.Delivery.{Delivery}
+use Rattle.network.specs.Waiting.{Copy, onTime}
+use Rattle.network.specs.Lists.{bit, count, front, behind, push, wrap, bitAt}
 use Rattle.network.specs.Opening.{Opening, global}
-use Rattle.network.specs.Live.{Delivery, Copy, deliveryOf, Till, Tally, noTally, Log, Live, isOriginal, removed, tillAt, stopped, withSeen, withWaiting, withLog}
+use Rattle.network.specs.Live.{Till, Tally, noTally, Log, Live, isOriginal, removed, tillAt, stopped, withSeen, withWaiting, withLog}
 
 -- the waiting copies with a time at or before now: a front part, since they stand by time, then sequence
 abbrev pub due : ℕ → Live → List Copy
-due now s = take (dueCount now s.waiting) s.waiting
+due now s = front (onTime now) s.waiting
 
 abbrev pub later : ℕ → Live → List Copy
-later now s = drop (dueCount now s.waiting) s.waiting
+later now s = behind (onTime now) s.waiting
 
 -- blocks at the copy's delivery time, down tills as they are now
 abbrev pub stops : Live → Copy → Bool
-stops s c = stopped s (c .from) (c .to) (c .time)
+stops s c = stopped s (c .delivery .from) (c .delivery .to) (c .delivery .time)
 
 abbrev pub unmark : ℕ → ℕ → List (List ℕ) → List (List ℕ)
 unmark t i seen = set seen t (removed i (getD seen t []))
@@ -28,7 +28,7 @@ unmark t i seen = set seen t (removed i (getD seen t []))
 -- a flush drop clears an original's mark
 abbrev pub clearing : Live → List Copy → List (List ℕ) → List (List ℕ)
 clearing s [] seen = seen
-clearing s (c ∷ cs) seen = clearing s cs (cond (stops s c && isOriginal c) (unmark (c .to) (c .id) seen) seen)
+clearing s (c ∷ cs) seen = clearing s cs (cond (stops s c && isOriginal c) (unmark (c .delivery .to) (c .id) seen) seen)
 
 -- ---- Rows
 
@@ -42,8 +42,8 @@ pub record Row : Type 0 where
 abbrev pub rowOf : Live → Copy → Row
 rowOf s c = record {
   copy = c;
-  gossip = bit (bitAt (tillAt s (c .to) .gossip) (c .kind));
-  host = bit (eqb (c .shard) global && bitAt (tillAt s (c .to) .host) (c .kind));
+  gossip = bit (bitAt (tillAt s (c .delivery .to) .gossip) (c .delivery .kind));
+  host = bit (eqb (c .delivery .scope) global && bitAt (tillAt s (c .delivery .to) .host) (c .delivery .kind));
 }
 
 abbrev pub handled : Row → Bool
@@ -67,14 +67,14 @@ tallied t d = record { deliveries = wrap (t .deliveries + 1); bytes = wrap (t .b
 abbrev pub logged : ℕ → Log → Delivery → Log
 logged zero l d = l
 logged (suc n) l d = record {
-  records = lastOf (suc n) (l .records ++ (d ∷ []));
+  records = push (suc n) (l .records) d;
   forced = wrap (l .forced + cond (ltb (length (l .records)) (suc n)) 0 1);
   tallies = set (l .tallies) (d .class) (tallied (getD (l .tallies) (d .class) noTally) d);
 }
 
 abbrev pub loggedAll : ℕ → Log → List Copy → Log
 loggedAll places l [] = l
-loggedAll places l (c ∷ cs) = loggedAll places (logged places l (deliveryOf c)) cs
+loggedAll places l (c ∷ cs) = loggedAll places (logged places l (c .delivery)) cs
 
 abbrev pub flushed : Opening → ℕ → Live → Live
 flushed o now s =

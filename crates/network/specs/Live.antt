@@ -4,52 +4,29 @@ use mathlib.Core.Bool.{Bool, true, false, cond, not, _&&_, _||_}
 use mathlib.Core.List.{List, [], _∷_, _++_}
 use lib.Dec.{eqb}
 use lib.ListN.{length, getD, set, take, drop, replicate}
-use Rattle.network.specs.Waiting as waiting
+use Rattle.delivery.specs.declared.Delivery.{Delivery}
+use Rattle.network.specs.Waiting.{Copy}
 use Rattle.network.specs.Marks.{placeOf, standsAt}
 use Rattle.network.specs.Rings as rings
-use Rattle.network.specs.Log as log
-use Rattle.network.specs.Fault as fault
-use Rattle.network.specs.Fault.{blocked}
-use Rattle.network.specs.Lists.{bit, count, listFrom, listOf}
+use Rattle.rule.specs.declared.Message as rule
+use Rattle.network.specs.Rules.{FaultRule}
+use Rattle.network.specs.Blocks.{Block, blocked}
+use Rattle.network.specs.Lists.{bit, count, listOf}
 use Rattle.network.specs.Opening.{Sizes, links, ringCount}
 
 -- ---- Copies
-
--- A copy: the fields of `DeliveryRecord`, its sequence, whether it has an id (1, or 0), the id, and the tag. `time` is when it is delivered.
-abbrev pub Copy : Type 0
-Copy = waiting.Row
 
 -- an original is a copy with an id
 abbrev pub isOriginal : Copy → Bool
 isOriginal c = not (eqb (c .original) 0)
 
 abbrev pub withSequence : Copy → ℕ → Copy
-withSequence c n = record {
-  time = c .time;
-  sequence = n;
-  from = c .from;
-  to = c .to;
-  kind = c .kind;
-  class = c .class;
-  shard = c .shard;
-  sent = c .sent;
-  wire = c .wire;
-  original = c .original;
-  id = c .id;
-  tag = c .tag;
-}
+withSequence c n = record { delivery = c .delivery; sequence = n; original = c .original; id = c .id; tag = c .tag }
 
 -- each copy takes the next sequence; n is the last one given
 abbrev pub numbered : ℕ → List Copy → List Copy
 numbered n [] = []
 numbered n (c ∷ cs) = withSequence c (suc n) ∷ numbered (suc n) cs
-
--- `DeliveryRecord`
-abbrev pub Delivery : Type 0
-Delivery = log.Record
-
-abbrev pub deliveryOf : Copy → Delivery
-deliveryOf c = record { from = c .from; to = c .to; kind = c .kind; class = c .class; sent = c .sent; delivered = c .time; shard = c .shard; wire = c .wire }
 
 -- what a ring keeps of a message; its type and scope are the ring's
 abbrev pub Carried : Type 0
@@ -73,27 +50,21 @@ upTill shards = record { up = 1; gossip = 0; host = 0; shards = shards }
 
 -- ---- The fault engine
 
-abbrev pub Block : Type 0
-Block = fault.Block
-
-abbrev pub Rule : Type 0
-Rule = fault.Row
-
 -- what the rules are asked of: `MessageContext`, and now
 abbrev pub Context : Type 0
-Context = fault.Message
+Context = rule.Message
 
 -- `Engine`: the fault stream's word count, and how many rules were ever installed
 pub record Engine : Type 0 where
   pub blocks : List Block
-  pub rules : List Rule
+  pub rules : List FaultRule
   pub installed : ℕ
   pub words : ℕ
 
 abbrev pub withBlocks : Engine → List Block → Engine
 withBlocks e x = record { blocks = x; rules = e .rules; installed = e .installed; words = e .words }
 
-abbrev pub withRules : Engine → List Rule → ℕ → ℕ → Engine
+abbrev pub withRules : Engine → List FaultRule → ℕ → ℕ → Engine
 withRules e x installed words = record { blocks = e .blocks; rules = x; installed = installed; words = words }
 
 -- ---- The log
@@ -176,7 +147,7 @@ stopped s from to at = not (isUp s from) || not (isUp s to) || blocked from to a
 
 -- in transit to a till is the number of copies waiting for it
 abbrev pub inTransit : Live → ℕ → ℕ
-inTransit s t = count (λ (c : Copy). eqb (c .to) t) s.waiting
+inTransit s t = count (λ (c : Copy). eqb (c .delivery .to) t) s.waiting
 
 -- ---- The opening: all tills up, shard masks as given, the rest empty or at its first number
 

@@ -5,24 +5,9 @@ use Prim.Native.Nat.{ℕ, _+_, _*_, _%_, _^_}
 use lib.Dec.{ltb, eqb}
 use lib.ListN.{length, getD, set, drop}
 use Rattle.shift.specs.Shift.{putWords}
+use Rattle.delivery.specs.declared.Delivery.{Delivery}
+use Rattle.delivery.specs.Delivery.{read, words}
 use Rattle.network.specs.Ring.{Push, slotOf, pushSlot, ring, slotAt}
-
-pub record Record : Type 0 where
-  pub from : ℕ
-  pub to : ℕ
-  pub kind : ℕ
-  pub class : ℕ
-  pub sent : ℕ
-  pub delivered : ℕ
-  pub shard : ℕ
-  pub wire : ℕ
-
--- the record at the head of a list
-abbrev pub read : List ℕ → Record
-read l = record { from = getD l 0 0; to = getD l 1 0; kind = getD l 2 0; class = getD l 3 0; sent = getD l 4 0; delivered = getD l 5 0; shard = getD l 6 0; wire = getD l 7 0 }
-
-abbrev pub words : Record → List ℕ
-words e = e .from ∷ e .to ∷ e .kind ∷ e .class ∷ e .sent ∷ e .delivered ∷ e .shard ∷ e .wire ∷ []
 
 abbrev pub countOf : List ℕ → ℕ
 countOf log = getD log 0 0
@@ -31,7 +16,7 @@ abbrev pub firstOf : List ℕ → ℕ
 firstOf log = getD log 1 0
 
 -- the records, oldest first
-abbrev pub logOf : ℕ → List ℕ → List Record
+abbrev pub logOf : ℕ → List ℕ → List Delivery
 logOf capacity log = ring (slotAt 8 read 19 log) capacity (firstOf log) (countOf log)
 
 unfoldable pub tallied : List ℕ → ℕ → ℕ → List ℕ
@@ -44,10 +29,10 @@ goneOf count capacity = cond (ltb count capacity) 0 1
 abbrev pub nextOf : ℕ → List ℕ → Push
 nextOf capacity log = pushSlot capacity (countOf log) (firstOf log)
 
-unfoldable pub kept : ℕ → List ℕ → Record → List ℕ
+unfoldable pub kept : ℕ → List ℕ → Delivery → List ℕ
 kept capacity log e =
     set (set (set (putWords log (19 + nextOf capacity log .slot * 8) (words e)) 0 (nextOf capacity log .count)) 1 (nextOf capacity log .first))
     2 ((getD log 2 0 + goneOf (countOf log) capacity) % 2 ^ 64)
 
-unfoldable pub logged : ℕ → List ℕ → Record → List ℕ
+unfoldable pub logged : ℕ → List ℕ → Delivery → List ℕ
 logged capacity log e = cond (eqb capacity 0) log (kept capacity (tallied log (e .class) (e .wire)) e)

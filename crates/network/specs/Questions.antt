@@ -5,7 +5,7 @@ use mathlib.Core.List.{List, [], _∷_, _++_}
 use lib.Dec.{eqb, leb, ltb}
 use lib.ListN.{length, getD}
 use Rattle.rows.specs.Rows.{allOf}
-use Rattle.network.specs.Fault.{exact}
+use Rattle.card.specs.Card.{exact}
 use Rattle.network.specs.Lists.{within}
 use Rattle.network.specs.Opening.{Opening, link, global, blockSlots, ruleSlots, longestWire, longestInput, latestNow, mostWords, lastNumber}
 use Rattle.network.specs.Live.{Live, marked, idsAt}
