@@ -29,9 +29,9 @@ own n = go (closest n 1) (closest-near n 1 (lit≤ tt) .0)
 
 pub grid-below : (a c q j : ℕ) → 0 < c → q < 2 ^ 53 → a * Q ≤ q * 2 ^ j * c → grid binary64 a c ≤ q * 2 ^ j
 grid-below a c q j C s h = elim (le-or-lt (drop 53 (a * Q) c) j) [
-    | inl le ↦ fine (drop 53 (a * Q) c) (j - drop 53 (a * Q) c) (back (drop 53 (a * Q) c) le)
-    | inr gt ↦ absurd (not-le-of-lt (low (drop 53 (a * Q) c) gt) (le-trans (size-reaches (a * Q / c) (52 + drop 53 (a * Q) c) (digits (size (a * Q / c)) gt)) (div-le-of-le-mul c {m = a * Q} {n = q * 2 ^ j} (le-trans h (le-of-eq (mul-comm (q * 2 ^ j) c))))))
-  ]
+  | inl le ↦ fine (drop 53 (a * Q) c) (j - drop 53 (a * Q) c) (back (drop 53 (a * Q) c) le)
+  | inr gt ↦ absurd (not-le-of-lt (low (drop 53 (a * Q) c) gt) (le-trans (size-reaches (a * Q / c) (52 + drop 53 (a * Q) c) (digits (size (a * Q / c)) gt)) (div-le-of-le-mul c {m = a * Q} {n = q * 2 ^ j} (le-trans h (le-of-eq (mul-comm (q * 2 ^ j) c))))))
+]
   where
     back : (k : ℕ) → k ≤ j → j ≡ j - k + k
     back k le = omega arith
@@ -220,9 +220,9 @@ digits-of z l = (omega arith, omega arith)
 
 size-from : (w : ℕ) → 2 ^ 52 ≤ w → 53 ≤ size w
 size-from w big = elim (le-or-lt 53 (size w)) [
-    | inl l ↦ l
-    | inr l ↦ absurd (not-le-of-lt (lt-of-lt-of-le (size-lt w) (pow-mono (down-one (size w) l))) big)
-  ]
+  | inl l ↦ l
+  | inr l ↦ absurd (not-le-of-lt (lt-of-lt-of-le (size-lt w) (pow-mono (down-one (size w) l))) big)
+]
   where
     down-one : (z : ℕ) → z < 53 → z ≤ 52
     down-one z l = omega arith
@@ -248,9 +248,9 @@ module _ (a c : ℕ) (C : 0 < c) (h : 2 ^ 52 * c ≤ a * Q) where
 
   pub full-grid : (m : ℕ) × (i : ℕ) × (grid binary64 a c ≡ m * 2 ^ i) × (2 ^ 52 ≤ m) × (m < 2 ^ 53)
   full-grid = elim (le-or-lt (2 ^ 53) (kept 53 (a * Q) c)) [
-      | inl top ↦ (2 ^ 52, shift + 1, ap (λ (z : ℕ). z * 2 ^ shift) (le-antisymm kept-high top) ∙ carry (2 ^ shift) (2 ^ (shift + 1)) (pow-add 2 shift 1), lit≤ tt, lit≤ tt)
-      | inr less ↦ (kept 53 (a * Q) c, shift, refl, kept-low, less)
-    ]
+    | inl top ↦ (2 ^ 52, shift + 1, ap (λ (z : ℕ). z * 2 ^ shift) (le-antisymm kept-high top) ∙ carry (2 ^ shift) (2 ^ (shift + 1)) (pow-add 2 shift 1), lit≤ tt, lit≤ tt)
+    | inr less ↦ (kept 53 (a * Q) c, shift, refl, kept-low, less)
+  ]
     where
       carry : (x y : ℕ) → y ≡ x * 2 → 2 ^ 53 * x ≡ 2 ^ 52 * y
       carry x y e = omega arith

@@ -46,7 +46,6 @@ factor d W =
     b5 : (p t q e : ℕ) → e ≤ q → p + 10 * q ≤ t + e → 9 * q ≤ t
     b5 p t q e m h = omega arith
 
-
 -- it is below 50
 pub factor-below : (d y : ℕ) → d < 2 ^ 64 → Val (realOf (whole 10) (whole 50) d) y → y < 50 * Q
 factor-below d y W v = go (lt (realOf (whole 10) (whole 50) d) (whole 50)) (lt-value (realOf (whole 10) (whole 50) d) (whole 50) y (50 * Q) v (of-units 50 (lit≤ tt))) (spike-below d W)

@@ -11,7 +11,9 @@ pub struct Time {
 
 impl Time {
     pub const ZERO: Time = Time { ns: 0 };
+
     pub const MILLISECOND: Time = Time { ns: 1_000_000 };
+
     pub const SECOND: Time = Time { ns: 1_000_000_000 };
 
     pub fn from_nanos(ns: u64) -> Time

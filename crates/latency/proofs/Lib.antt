@@ -1,0 +1,3 @@
+pub mod Admit
+pub mod Laws
+mod Tests

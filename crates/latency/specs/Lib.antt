@@ -1,0 +1,3 @@
+pub mod Latency
+pub mod Admitted
+pub mod Marked
