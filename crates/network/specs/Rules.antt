@@ -7,6 +7,7 @@ use lib.Dec.{eqb, ltb}
 use Rattle.shift.specs.Shift.{putWords, closed}
 use Rattle.rows.specs.Rows.{rows}
 use Rattle.rule.specs.declared.DropSpec.{DropSpec}
+use Rattle.rule.specs.declared.Message.{Message}
 use Rattle.card.specs.Card.{exact, fieldsOf}
 
 pub record FaultRule : Type 0 where
@@ -126,3 +127,6 @@ removeTable ws n id =
 -- a store past the table changes nothing
 unfoldable pub fireTable : List ℕ → ℕ → List ℕ
 fireTable ws p = set ws (p * ruleWidth + firedWord) ((getD ws (p * ruleWidth + firedWord) 0 + 1) % 2 ^ 64)
+
+unfoldable pub decideOf : List ℕ → Message → List FaultRule → ℕ → Verdict
+decideOf key m rs w = record { drop = 0; row = 0; words = w }
