@@ -113,3 +113,20 @@ module _ (s : List ℕ) (m : ℕ) (first : m ≡ mapOf s) where
       pub exactly : d .tier ≤ 3 → Exact d ≡ cardOf s
       unfolding cardOf exact
       exactly h = yes _ _ _ _ (all-three _ _ _ clear fits (le-leb (fieldsOf s .tier) 3 (omega (arith, tier-is)))) (ap Exact on)
+
+-- ---- a card's answer says whether it is exact, and what it carries
+answered : (s : List ℕ) (b : Bool) (d : DropSpec) → exact s ≡ b → cond b (Exact (fieldsOf s)) Inexact ≡ Exact d → (exact s ≡ true) × (d ≡ fieldsOf s)
+answered s true d e h = (e, cc)
+answered s false d e h = let z : _≡_ {A = ℕ} 0 1 = cc in absurd (omega arith)
+
+pub exact-card : (s : List ℕ) (d : DropSpec) → cardOf s ≡ Exact d → (exact s ≡ true) × (d ≡ fieldsOf s)
+unfolding cardOf
+exact-card s d h = answered s (exact s) d refl h
+
+refused : (s : List ℕ) (b : Bool) → exact s ≡ b → cond b (Exact (fieldsOf s)) Inexact ≡ Inexact → exact s ≡ false
+refused s true e h = let z : _≡_ {A = ℕ} 0 1 = cc in absurd (omega arith)
+refused s false e h = e
+
+pub inexact-card : (s : List ℕ) → cardOf s ≡ Inexact → exact s ≡ false
+unfolding cardOf
+inexact-card s h = refused s (exact s) refl h
