@@ -8,7 +8,7 @@ use native.Mathlib.Omega.{arith}
 use lib.ListN.{length, getD, take, drop, length-append, length-take, length-drop, take-append-drop}
 use lib.Seq.{drop-drop, take-add}
 use Rattle.shift.specs.Shift.{insertedWords, closed, putWords}
-use Rattle.shift.proofs.Laws.{length-inserted, length-closed}
+use Rattle.shift.proofs.Laws.{region-before}
 use Rattle.rows.specs.Rows.{rows, flat}
 use Rattle.rows.specs.Table.{Form, Exact, rowsOf, over}
 use Rattle.rows.proofs.Rows.{part, length-rows, take-rows, drop-rows, length-flat, flat-append, rows-flat}
@@ -20,6 +20,15 @@ alone f x l m h =
     = ap (λ (w : List ℕ). w ++ m) (sym (take-append-drop (f .width) l)) ∙ append-assoc (take (f .width) l) (drop (f .width) l) m
     ∙ ap (λ (w : List ℕ). w ++ (drop (f .width) l ++ m)) (sym (x .whole l h)) in
     ap (f .read) e ∙ x .back (f .read l) (drop (f .width) l ++ m)
+
+-- a row that stands in a part which two tables share
+pub read-within : {R : Type 0} (f : Form R) → Exact f → (l l' : List ℕ) (m b : ℕ) → take m l' ≡ take m l → b + f .width ≤ m → m ≤ length l → m ≤ length l' → f .read (drop b l') ≡ f .read (drop b l)
+read-within f x l l' m b e h k k' =
+    let own : (w : List ℕ) → b + f .width ≤ length w → f .read (drop b w) ≡ f .read (take (f .width) (drop b w)) = λ w q.
+    (let ld = length-drop b w in
+    let lt : f .width ≤ length (take (f .width) (drop b w)) = rw length-take (omega arith) in
+    ap (f .read) (sym (take-append-drop (f .width) (drop b w))) ∙ alone f x (take (f .width) (drop b w)) (drop (f .width) (drop b w)) lt) in
+    own l' (omega arith) ∙ ap (f .read) (region-before l l' m b (f .width) e h k k') ∙ sym (own l (omega arith))
 
 module _ {R : Type 0} (f : Form R) (x : Exact f) where
   pub length-words : (rs : List R) → length (flat (f .words) rs) ≡ length rs * f .width

@@ -7,7 +7,7 @@ use native.Mathlib.Omega.{arith}
 use lib.ListN.{length, getD, take, drop, length-take, length-append, length-drop}
 use lib.Seq.{drop-cons, length-take-le, take-append-le, drop-append-le, take-take, drop-at, take-at, take-add, drop-drop}
 use Rattle.shift.specs.Shift.{opened, closed, putWords}
-use Rattle.shift.proofs.Laws.{drop-take, closed-behind}
+use Rattle.shift.proofs.Laws.{drop-take, closed-behind, length-put, stores, stores-eq}
 
 -- the words at b + k and after, n of them, read one by one
 abbrev pub cells : List ℕ → ℕ → ℕ → ℕ → List ℕ
@@ -63,6 +63,13 @@ up-join l a k z by h q room =
     ∙ ap (λ (x : List ℕ). take (a + by) l ++ (take (k - a) (drop a l) ++ x)) (drop-at front tail (k + by) lf)
     ∙ ap (λ (x : List ℕ). take (a + by) l ++ x) (sym (append-assoc (take (k - a) (drop a l)) (take (z - k) (drop k l)) (drop (z + by) l)))
     ∙ ap (λ (x : List ℕ). take (a + by) l ++ (x ++ drop (z + by) l)) (sym (part-add l a k z h q))
+
+-- what lies before a move stays
+pub opened-before : (l : List ℕ) (a z by : ℕ) → a + by ≤ length l → take a (opened l a z by) ≡ take a l
+unfolding opened
+opened-before l a z by h =
+    let t = length-take-le (a + by) l h in
+    take-append-le a (take (a + by) l) (take (z - a) (drop a l) ++ drop (z + by) l) (omega arith) ∙ take-take a (a + by) l (omega arith)
 
 -- one block more is moved up
 pub up-part : (l : List ℕ) (k m z by : ℕ) → k + m ≤ z → z + by ≤ length l
@@ -120,3 +127,22 @@ pub down-part : (l : List ℕ) (a k m by : ℕ) → by ≤ a → a ≤ k → k +
     → putWords (closed l a k by) (k - by) (take m (drop k (closed l a k by))) ≡ closed l a (k + m) by
 down-part l a k m by g h room long =
     down-block (closed l a k by) k m by (omega arith) (omega arith) ∙ down-join l a k (k + m) by g h (omega arith) room
+
+-- words that go on behind others that were put
+pub put-stores : (l : List ℕ) (b n : ℕ) (v vs : List ℕ) → length v ≡ n → b + n + length vs ≤ length l → stores (putWords l b v) b n vs ≡ putWords l b (v ++ vs)
+unfolding putWords
+put-stores l b n v vs lv room =
+    let put : List ℕ = take b l ++ (v ++ drop (b + length v) l) in
+    let lp : length put ≡ length l = length-put l b v (omega arith) in
+    let lf : length (take b l ++ v) ≡ b + n = length-append (take b l) v ∙ (let t = length-take-le b l (omega arith) in omega arith) in
+    let is : put ≡ (take b l ++ v) ++ drop (b + length v) l = sym (append-assoc (take b l) v (drop (b + length v) l)) in
+    let front : take (b + n) put ≡ take b l ++ v = ap (take (b + n)) is ∙ take-at (take b l ++ v) (drop (b + length v) l) (b + n) lf in
+    let e : b + length v + length vs ≡ b + length (v ++ vs) = rw length-append (omega arith) in
+    let rest : drop (b + n + length vs) put ≡ drop (b + length (v ++ vs)) l
+    = sym (drop-drop (length vs) (b + n) put) ∙ ap (drop (length vs)) (ap (drop (b + n)) is ∙ drop-at (take b l ++ v) (drop (b + length v) l) (b + n) lf)
+    ∙ drop-drop (length vs) (b + length v) l ∙ ap (λ (j : ℕ). drop j l) e in
+    stores-eq vs put b n (omega arith)
+    ∙ ap (λ (w : List ℕ). w ++ (vs ++ drop (b + n + length vs) put)) front
+    ∙ ap (λ (w : List ℕ). (take b l ++ v) ++ (vs ++ w)) rest
+    ∙ append-assoc (take b l) v (vs ++ drop (b + length (v ++ vs)) l)
+    ∙ ap (λ (w : List ℕ). take b l ++ w) (sym (append-assoc v vs (drop (b + length (v ++ vs)) l)))

@@ -1,0 +1,25 @@
+-- Small functions on the lists that tables hold.
+use mathlib.Core.List.{List, [], _∷_, _++_}
+use mathlib.Core.Bool.{Bool, true, false, cond}
+use Prim.Native.Nat.{ℕ}
+use lib.Dec.{ltb}
+use lib.ListN.{length, drop}
+
+module _ {A : Type 0} where
+  -- a fact at each element
+  abbrev pub Each : (A → Type 0) → List A → Type 0
+  Each P [] = Unit {0}
+  Each P (a ∷ l) = P a × Each P l
+
+  -- the longest front part whose elements all pass, and what is left
+  abbrev pub front : (A → Bool) → List A → List A
+  front q [] = []
+  front q (a ∷ l) = cond (q a) (a ∷ front q l) []
+
+  abbrev pub behind : (A → Bool) → List A → List A
+  behind q [] = []
+  behind q (a ∷ l) = cond (q a) (behind q l) (a ∷ l)
+
+  -- one more at the end; where the places are taken, the oldest is given up
+  abbrev pub push : ℕ → List A → A → List A
+  push places l a = cond (ltb (length l) places) (l ++ (a ∷ [])) (drop 1 (l ++ (a ∷ [])))
