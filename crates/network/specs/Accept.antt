@@ -5,9 +5,12 @@ use mathlib.Core.List.{List, [], _∷_, _++_}
 use lib.Dec.{eqb}
 use lib.ListN.{length, getD, set}
 use Rattle.rows.specs.Rows.{keep}
-use Rattle.network.specs.Waiting.{Copy, insertCopy}
-use Rattle.network.specs.Rules.{Verdict, fireAt}
-use Rattle.network.specs.Lists.{bit, push, below, bitAt}
+use Rattle.waiting.specs.declared.Copy.{Copy}
+use Rattle.waiting.specs.Waiting.{insertCopy}
+use Rattle.network.specs.Decide.{Verdict}
+use Rattle.rules.specs.Rules.{fireAt}
+use Rattle.rows.specs.Lists.{push}
+use Rattle.network.specs.Lists.{bit, below, bitAt}
 use Rattle.network.specs.Opening.{Draw, Draws, Opening, link, global, ringAt, ringSlots}
 use Rattle.network.specs.Live.{numbered, Carried, Context, Engine, Live, withRules, withSeen, withEngine, withRings, withWords, withWaiting, placed, marked, tillAt, stopped}
 

@@ -2,17 +2,18 @@
 use Prim.Native.Nat.{ℕ, zero, suc, _+_, _*_}
 use mathlib.Core.Bool.{Bool, true, false, cond, not}
 use mathlib.Core.List.{List, [], _∷_, _++_}
-use lib.ListN.{length, getD, set}
+use lib.Dec.{leb}
+use lib.ListN.{length, getD, set, replicate}
 use Rattle.rows.specs.Rows.{keep}
 use Rattle.digest.specs.Blake3.{hash}
 use Rattle.rule.specs.declared.DropSpec.{DropSpec}
 use Rattle.card.specs.Card.{fieldsOf}
-use Rattle.network.specs.Rules as rules
-use Rattle.network.specs.Rules.{withRule, without, readingOf}
+use Rattle.rules.specs.declared.Reading as rules
+use Rattle.rules.specs.Rules.{withRule, without, readingOf}
 use Rattle.network.specs.Blocks.{Block, blocked, other}
-use Rattle.network.specs.Waiting.{Copy}
+use Rattle.waiting.specs.declared.Copy.{Copy}
 use Rattle.network.specs.Lists.{bit, count}
-use Rattle.network.specs.Opening.{Opening}
+use Rattle.network.specs.Opening.{Opening, longestInput}
 use Rattle.network.specs.Live.{Context, Till, downTill, upTill, Tally, noTally, Log, emptyLog, Live, Engine, withBlocks, withRules, withTills, withSeen, withEngine, withLog, tillAt, idsAt, isUp, inTransit}
 use Rattle.network.specs.Accept.{Entry, messageOf, selected, liveAfter, booked, Counts, noCounts, tally, drops, ruled}
 use Rattle.network.specs.Flush.{Row, rowsOf, dropsOf, handled, due, flushed}
@@ -27,7 +28,6 @@ pub data Reading : Type 0 where
   tallyOf : (class : ℕ) → Reading
   waitingCopies : (rows : ℕ) → Reading
   marksOf : (t places : ℕ) → Reading
-  digest : (input : List ℕ) → Reading
 
 pub data Call : Type 0 where
   accept : Entry → (opens : Bool) → Call
@@ -115,8 +115,6 @@ pub data Answer : Type 0 where
   drained : Log → Answer
   copies : List Copy → Answer
   ids : List ℕ → Answer
-  -- a digest's 8 words
-  words : List ℕ → Answer
 
 -- the fired count of a rule, and whether it is there
 abbrev pub firedOf : rules.Reading → Answer
@@ -135,7 +133,6 @@ read s nextTime = firstTime (s .waiting)
 read s (tallyOf class) = tallied (getD (s .log .tallies) class noTally)
 read s (waitingCopies rows) = copies (s .waiting)
 read s (marksOf t places) = ids (idsAt s t)
-read s (digest input) = words (hash input)
 
 abbrev pub movedBy : List Row → ℕ → Answer
 movedBy rows n = moved rows (count handled rows) n
@@ -167,7 +164,6 @@ countsIn (tallied t) = noCounts
 countsIn (drained l) = noCounts
 countsIn (copies cs) = noCounts
 countsIn (ids is) = noCounts
-countsIn (words ws) = noCounts
 
 abbrev pub rowsIn : Answer → List Row
 rowsIn (moved rows delivered drops) = rows
@@ -178,7 +174,6 @@ rowsIn (tallied t) = []
 rowsIn (drained l) = []
 rowsIn (copies cs) = []
 rowsIn (ids is) = []
-rowsIn (words ws) = []
 
 abbrev pub deliveredIn : Answer → ℕ
 deliveredIn (moved rows delivered drops) = delivered
@@ -189,7 +184,6 @@ deliveredIn (tallied t) = 0
 deliveredIn (drained l) = 0
 deliveredIn (copies cs) = 0
 deliveredIn (ids is) = 0
-deliveredIn (words ws) = 0
 
 abbrev pub dropsIn : Answer → ℕ
 dropsIn (moved rows delivered drops) = drops
@@ -200,4 +194,12 @@ dropsIn (tallied t) = 0
 dropsIn (drained l) = 0
 dropsIn (copies cs) = 0
 dropsIn (ids is) = 0
-dropsIn (words ws) = 0
+
+-- ---- The digest by itself: no table is lent, and nothing of the network is asked. 6: is the input at most 65,700 bytes?
+
+pub record Digested : Type 0 where
+  pub number : ℕ
+  pub words : List ℕ
+
+abbrev pub digestReply : List ℕ → Digested
+digestReply input = cond (leb (length input) longestInput) (record { number = 0; words = hash input }) (record { number = 6; words = replicate 8 0 })

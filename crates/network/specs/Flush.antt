@@ -6,8 +6,10 @@ use lib.Dec.{eqb, leb, ltb}
 use lib.ListN.{length, getD, set}
 use Rattle.rows.specs.Rows.{keep}
 use Rattle.delivery.specs.declared.Delivery.{Delivery}
-use Rattle.network.specs.Waiting.{Copy, onTime}
-use Rattle.network.specs.Lists.{bit, count, front, behind, push, wrap, bitAt}
+use Rattle.waiting.specs.declared.Copy.{Copy}
+use Rattle.waiting.specs.Waiting.{onTime}
+use Rattle.rows.specs.Lists.{front, behind, push}
+use Rattle.network.specs.Lists.{bit, count, wrap, bitAt}
 use Rattle.network.specs.Opening.{Opening, global}
 use Rattle.network.specs.Live.{Till, Tally, noTally, Log, Live, isOriginal, removed, tillAt, stopped, withSeen, withWaiting, withLog}
 

@@ -10,8 +10,8 @@ use Rattle.rows.specs.Table.{rowsOf}
 use Rattle.delivery.specs.declared.Delivery.{Delivery}
 use Rattle.delivery.specs.Delivery as delivery
 use Rattle.latency.specs.Admitted.{latencyAdmitted}
-use Rattle.network.specs.Waiting as waiting
-use Rattle.network.specs.Waiting.{Copy}
+use Rattle.waiting.specs.Waiting as waiting
+use Rattle.waiting.specs.declared.Copy.{Copy}
 use Rattle.network.specs.Rings as rings
 use Rattle.network.specs.Log as log
 use Rattle.network.specs.Blocks.{Block}
@@ -19,7 +19,7 @@ use Rattle.network.specs.Geography.{atLeastOne}
 use Rattle.network.specs.Lists.{every, below, within}
 use Rattle.network.specs.Opening.{Sizes, Settings, links, ringCount, ringSlots, blockSlots, ruleSlots, longestWire}
 use Rattle.network.specs.Live.{Carried, Till}
-use Rattle.network.specs.Calls.{Call, Reading, isBlocked, transit, fired, isDown, nextTime, tallyOf, waitingCopies, marksOf, digest, accept, flush, takeDown, bringUp, handlers, block, blockDuring, unblock, install, remove, decide, drain, reading}
+use Rattle.network.specs.Calls.{Call, Reading, isBlocked, transit, fired, isDown, nextTime, tallyOf, waitingCopies, marksOf, accept, flush, takeDown, bringUp, handlers, block, blockDuring, unblock, install, remove, decide, drain, reading}
 use Rattle.network.specs.Tables.{cell, Tables, setupWidth, sizesAt, settingsAt, netWidth, waitingAt, rulesAt, blocksAt, namesWidth, tillForm, ruleForm, blockForm}
 use Rattle.network.specs.Limits.{sizeTests, textTests, rangeTests}
 use Rattle.network.specs.Real.{keyWidth, pairCells, pricesWidth}
@@ -31,6 +31,30 @@ hasLength xs n = eqb (length xs) n
 abbrev pub setupTests : Tables → List Bool
 setupTests T = hasLength (T .setup) setupWidth ∷ every (sizeTests (settingsAt (T .setup))) ∷ every (rangeTests (settingsAt (T .setup) .config)) ∷ []
 
+-- bytes a second, of the slowest link that a plan has
+abbrev pub slowest : ℕ
+slowest = 100000000
+
+-- ---- Rows in range
+
+module _ (z : Sizes) where
+  abbrev pub nearTill : Till → Bool
+  nearTill t = within (t .gossip) (z .types) && within (t .host) (z .types) && within (t .shards) (z .shards)
+
+  abbrev pub nearDelivery : Delivery → Bool
+  nearDelivery d = ltb (d .from) (z .tills) && ltb (d .to) (z .tills) && ltb (d .kind) (z .types) && ltb (d .class) (z .classes)
+
+  abbrev pub nearCopy : Copy → Bool
+  nearCopy c = nearDelivery (c .delivery)
+
+  abbrev pub nearBlock : Block → Bool
+  nearBlock b = ltb (b .from) (z .tills) && ltb (b .to) (z .tills)
+
+  abbrev pub nearCarried : Carried → Bool
+  nearCarried c = ltb (c .class) (z .classes) && leb (c .wire) longestWire
+
+-- ---- Each table
+
 module _ (z : Sizes) (T : Tables) where
   abbrev pub netTests : List Bool
   netTests =
@@ -39,11 +63,8 @@ module _ (z : Sizes) (T : Tables) where
   abbrev pub namesTests : List Bool
   namesTests = hasLength (T .names) namesWidth ∷ every (textTests z (T .names)) ∷ []
 
-  abbrev pub nearTill : Till → Bool
-  nearTill t = within (t .gossip) (z .types) && within (t .host) (z .types) && within (t .shards) (z .shards)
-
   abbrev pub tillsTests : List Bool
-  tillsTests = hasLength (T .tills) (z .tills * tillForm .width) ∷ allOf nearTill (rowsOf tillForm (T .tills) (z .tills)) ∷ []
+  tillsTests = hasLength (T .tills) (z .tills * tillForm .width) ∷ allOf (nearTill z) (rowsOf tillForm (T .tills) (z .tills)) ∷ []
 
   abbrev pub wordsTests : List Bool
   wordsTests = hasLength (T .words) links ∷ []
@@ -54,11 +75,70 @@ module _ (z : Sizes) (T : Tables) where
   abbrev pub seenTests : List Bool
   seenTests = hasLength (T .seen) (z .tills + z .tills * z .seenSlots) ∷ allOf (λ t. leb (cell (T .seen) t) (z .seenSlots)) (below (z .tills)) ∷ []
 
-  abbrev pub nearDelivery : Delivery → Bool
-  nearDelivery d = ltb (d .from) (z .tills) && ltb (d .to) (z .tills) && ltb (d .kind) (z .types) && ltb (d .class) (z .classes)
-
-  abbrev pub nearCopy : Copy → Bool
-  nearCopy c = nearDelivery (c .delivery)
-
   abbrev pub waitingTests : List Bool
-  waitingTests = hasLength (T .waiting) (z .waitSlots * waiting.width) ∷ allOf nearCopy (rowsOf waiting.form (T .waiting) (cell (T .net) waitingAt)) ∷ []
+  waitingTests = hasLength (T .waiting) (z .waitSlots * waiting.width) ∷ allOf (nearCopy z) (rowsOf waiting.form (T .waiting) (cell (T .net) waitingAt)) ∷ []
+
+  abbrev pub ringsTests : List Bool
+  ringsTests =
+      hasLength (T .rings) rings.size ∷ allOf (λ r. leb (rings.countOf (T .rings) r) ringSlots) (below ringCount) ∷ allOf (λ r. ltb (rings.firstOf (T .rings) r) ringSlots) (below ringCount)
+      ∷ allOf (λ r. allOf (nearCarried z) (rings.ringOf (T .rings) r)) (below ringCount) ∷ []
+
+  -- a card may name a till or a type that doesn't exist
+  abbrev pub rulesTests : List Bool
+  rulesTests = hasLength (T .rules) (ruleSlots * ruleForm .width) ∷ []
+
+  abbrev pub blocksTests : List Bool
+  blocksTests = hasLength (T .blocks) (blockSlots * blockForm .width) ∷ allOf (nearBlock z) (rowsOf blockForm (T .blocks) (cell (T .net) blocksAt)) ∷ []
+
+  abbrev pub logTests : List Bool
+  logTests =
+      hasLength (T .log) (log.size (z .logSlots)) ∷ leb (log.countOf (T .log)) (z .logSlots) ∷ leb (log.firstOf (T .log)) (z .logSlots - 1)
+      ∷ allOf (nearDelivery z) (log.logOf (z .logSlots) (T .log)) ∷ []
+
+-- the prices of a plan: a base of up to 60 s, a rate of 100,000,000 or more, regions below their number
+abbrev pub pricesTests : Tables → List Bool
+pricesTests T =
+    let x = settingsAt (T .setup) in
+    let p = x .plan in
+    let r = atLeastOne (p .regions) in
+    hasLength (T .prices) (pricesWidth p (x .sizes .tills))
+    ∷ cond (eqb (p .planned) 0) true (every (
+      allOf (λ i. latencyAdmitted (cell (T .prices) (2 * i))) (below (r * r)) ∷ allOf (λ i. leb slowest (cell (T .prices) (suc (2 * i)))) (below (r * r))
+      ∷ allOf (λ t. ltb (cell (T .prices) (pairCells p + t)) r) (below (x .sizes .tills)) ∷ []))
+    ∷ []
+
+-- ---- The tables that are lent to a call
+
+abbrev pub readingTests : Sizes → Tables → Reading → List (List Bool)
+readingTests z T (isBlocked from to now) = netTests z T ∷ blocksTests z T ∷ []
+readingTests z T (transit t) = netTests z T ∷ waitingTests z T ∷ []
+readingTests z T (fired id) = netTests z T ∷ rulesTests z T ∷ []
+readingTests z T (isDown t) = tillsTests z T ∷ []
+readingTests z T nextTime = netTests z T ∷ waitingTests z T ∷ []
+readingTests z T (tallyOf class) = logTests z T ∷ []
+readingTests z T (waitingCopies rows) = netTests z T ∷ waitingTests z T ∷ []
+readingTests z T (marksOf t places) = seenTests z T ∷ []
+
+abbrev pub lentTests : Sizes → Tables → Call → List (List Bool)
+lentTests z T (accept e opens) =
+    netTests z T ∷ namesTests z T ∷ tillsTests z T ∷ wordsTests z T ∷ keysTests z T ∷ pricesTests T ∷ seenTests z T ∷ waitingTests z T ∷ ringsTests z T ∷ rulesTests z T ∷ blocksTests z T ∷ []
+lentTests z T (flush now rows) = netTests z T ∷ tillsTests z T ∷ seenTests z T ∷ waitingTests z T ∷ blocksTests z T ∷ logTests z T ∷ []
+lentTests z T (takeDown t) = tillsTests z T ∷ seenTests z T ∷ []
+lentTests z T (bringUp t shards) = tillsTests z T ∷ []
+lentTests z T (handlers t gossip host) = tillsTests z T ∷ []
+lentTests z T (block from to) = netTests z T ∷ blocksTests z T ∷ []
+lentTests z T (blockDuring from to start end) = netTests z T ∷ blocksTests z T ∷ []
+lentTests z T (unblock from to) = netTests z T ∷ blocksTests z T ∷ []
+lentTests z T (install card) = netTests z T ∷ rulesTests z T ∷ []
+lentTests z T (remove id) = netTests z T ∷ rulesTests z T ∷ []
+lentTests z T (decide x) = netTests z T ∷ rulesTests z T ∷ []
+lentTests z T (drain rows) = logTests z T ∷ []
+lentTests z T (reading r) = readingTests z T r
+
+abbrev pub everyOf : List (List Bool) → Bool
+everyOf [] = true
+everyOf (bs ∷ more) = every bs && everyOf more
+
+-- `setup` is lent to every call
+abbrev pub question1 : Sizes → Tables → Call → Bool
+question1 z T c = everyOf (setupTests T ∷ lentTests z T c)

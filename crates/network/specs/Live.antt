@@ -5,11 +5,11 @@ use mathlib.Core.List.{List, [], _∷_, _++_}
 use lib.Dec.{eqb}
 use lib.ListN.{length, getD, set, take, drop, replicate}
 use Rattle.delivery.specs.declared.Delivery.{Delivery}
-use Rattle.network.specs.Waiting.{Copy}
+use Rattle.waiting.specs.declared.Copy.{Copy}
 use Rattle.network.specs.Marks.{placeOf, standsAt}
 use Rattle.network.specs.Rings as rings
 use Rattle.rule.specs.declared.Message as rule
-use Rattle.network.specs.Rules.{FaultRule}
+use Rattle.rules.specs.declared.FaultRule.{FaultRule}
 use Rattle.network.specs.Blocks.{Block, blocked}
 use Rattle.network.specs.Lists.{bit, count, listOf}
 use Rattle.network.specs.Opening.{Sizes, links, ringCount}

@@ -15,6 +15,12 @@ countOf log = getD log 0 0
 abbrev pub firstOf : List ℕ → ℕ
 firstOf log = getD log 1 0
 
+abbrev pub head : ℕ
+head = 19
+
+abbrev pub size : ℕ → ℕ
+size capacity = head + capacity * 8
+
 -- the records, oldest first
 abbrev pub logOf : ℕ → List ℕ → List Delivery
 logOf capacity log = ring (slotAt 8 read 19 log) capacity (firstOf log) (countOf log)

@@ -7,11 +7,11 @@ use lib.ListN.{length, getD}
 use Rattle.rows.specs.Rows.{allOf}
 use Rattle.card.specs.Card.{exact}
 use Rattle.network.specs.Lists.{within}
-use Rattle.network.specs.Opening.{Opening, link, global, blockSlots, ruleSlots, longestWire, longestInput, latestNow, mostWords, lastNumber}
+use Rattle.network.specs.Opening.{Opening, link, global, blockSlots, ruleSlots, longestWire, latestNow, mostWords, lastNumber}
 use Rattle.network.specs.Live.{Live, marked, idsAt}
 use Rattle.network.specs.Accept.{Entry, Message, messageOf, selected}
 use Rattle.network.specs.Flush.{due}
-use Rattle.network.specs.Calls.{Call, Reading, isBlocked, transit, fired, isDown, nextTime, tallyOf, waitingCopies, marksOf, digest, accept, flush, takeDown, bringUp, handlers, block, blockDuring, unblock, install, remove, decide, drain, reading}
+use Rattle.network.specs.Calls.{Call, Reading, isBlocked, transit, fired, isDown, nextTime, tallyOf, waitingCopies, marksOf, accept, flush, takeDown, bringUp, handlers, block, blockDuring, unblock, install, remove, decide, drain, reading}
 
 -- a question that a call meets, and its answer
 pub record Asked : Type 0 where
@@ -89,7 +89,6 @@ module _ (o : Opening) where
   askedReading (tallyOf class) = ask 5 (ltb class (o .sizes .classes)) ∷ []
   askedReading (waitingCopies rows) = ask 1 (leb (o .sizes .waitSlots) rows) ∷ []
   askedReading (marksOf t places) = ask 1 (leb (o .sizes .seenSlots) places) ∷ ask4 t ∷ []
-  askedReading (digest input) = ask 6 (leb (length input) longestInput) ∷ []
 
   abbrev pub asked : Live → Call → List Asked
   asked s (accept e true) = ask4 (e .from) ∷ ask5 e ∷ ask6 e ∷ ask7 (e .now) ∷ ask8 s e ∷ ask9 s e ∷ ask10 s e ∷ ask11 s e ∷ []

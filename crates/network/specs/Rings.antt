@@ -22,6 +22,12 @@ countOf ws r = getD ws (r * 2) 0
 abbrev pub firstOf : List ℕ → ℕ → ℕ
 firstOf ws r = getD ws (r * 2 + 1) 0
 
+abbrev pub head : ℕ
+head = 544
+
+abbrev pub size : ℕ
+size = 52768
+
 -- ring r, oldest first
 abbrev pub ringOf : List ℕ → ℕ → List Entry
 ringOf ws r = ring (slotAt 3 read (544 + r * 192) ws) 64 (firstOf ws r) (countOf ws r)

@@ -7,19 +7,18 @@ use lib.ListN.{length, getD, take, drop}
 use Rattle.rows.specs.Rows.{allOf}
 use Rattle.rows.specs.Table.{Form, rowsOf}
 use Rattle.delivery.specs.declared.Delivery.{Delivery}
-use Rattle.network.specs.Waiting as waiting
-use Rattle.network.specs.Waiting.{Copy}
+use Rattle.waiting.specs.Waiting as waiting
+use Rattle.waiting.specs.declared.Copy.{Copy}
 use Rattle.network.specs.Marks.{idsOf}
 use Rattle.network.specs.Rings as rings
 use Rattle.network.specs.Log as log
-use Rattle.network.specs.Rules as rules
-use Rattle.network.specs.Rules.{FaultRule}
+use Rattle.rules.specs.Rules as rules
+use Rattle.rules.specs.declared.FaultRule.{FaultRule}
 use Rattle.network.specs.Blocks as blocks
 use Rattle.network.specs.Blocks.{Block}
 use Rattle.network.specs.Lists.{every, listOf, within}
 use Rattle.network.specs.Opening.{Sizes, Config, Plan, Settings, links, ringCount, ringSlots, blockSlots, ruleSlots, longestWire, longestName, longestKey, mostTypes, mostShards}
 use Rattle.network.specs.Live.{Carried, Till, Tally, Live}
-use Rattle.network.specs.Calls.{Call, Reading, isBlocked, transit, fired, isDown, nextTime, tallyOf, waitingCopies, marksOf, digest, accept, flush, takeDown, bringUp, handlers, block, blockDuring, unblock, install, remove, decide, drain, reading}
 
 abbrev pub cell : List ℕ → ℕ → ℕ
 cell xs i = getD xs i 0
