@@ -1,9 +1,10 @@
--- Document 01's book: its live part, and all that happened. Assumes nothing.
+-- Document 01's book: its live part, and all that happened. It is fed a call and whether a number refused it, nothing else.
 use Prim.Native.Nat.{ℕ, zero, suc, _+_}
 use mathlib.Core.Bool.{Bool, true, false, cond}
 use mathlib.Core.List.{List, [], _∷_}
 use Rattle.network.specs.Opening.{Opening}
-use Rattle.network.specs.Live.{Copy, Live, openingLive}
+use Rattle.waiting.specs.declared.Copy.{Copy}
+use Rattle.network.specs.Live.{Live, openingLive}
 use Rattle.network.specs.Accept.{Message, messageOf, selected, Drawn, drawn, Class, deduplicated, partition, loss, fault, sent, classOf, copies, offered}
 use Rattle.network.specs.Flush.{due, stops}
 use Rattle.network.specs.Calls.{Call, Answer, silent, liveStep, answerOf, accept, flush, takeDown, bringUp, handlers, block, blockDuring, unblock, install, remove, decide, drain, reading}
@@ -88,7 +89,7 @@ module _ (o : Opening) where
   -- ---- The book, fed the call and whether a number refused it
 
   abbrev pub opened : List ℕ → Book
-  opened masks = record { live = openingLive o masks; past = [] }
+  opened masks = record { live = openingLive (o .sizes) masks; past = [] }
 
   abbrev pub bookStep : Book → Call → Bool → Book
   bookStep b c true = b

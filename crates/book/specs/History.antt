@@ -1,11 +1,10 @@
--- The words of demand 3 on what happened. Assumes nothing.
-use mathlib.Core.Path.{_≡_}
+-- The words of demand 3 on what happened.
 use Prim.Native.Nat.{ℕ, suc}
-use mathlib.Core.Bool.{Bool, true, false, _&&_}
+use mathlib.Core.Bool.{Bool, true, false, not, _&&_, _||_}
 use mathlib.Core.List.{List, [], _∷_}
 use lib.Dec.{eqb, leb, ltb}
-use Rattle.network.specs.Live.{Copy, isOriginal}
-use Rattle.network.specs.Accept.{before}
+use Rattle.waiting.specs.declared.Copy.{Copy}
+use Rattle.network.specs.Live.{isOriginal}
 use Rattle.book.specs.Book.{Event, scheduled, landed, dropped, down}
 
 abbrev pub hasSequence : ℕ → Copy → Bool
@@ -26,12 +25,10 @@ clears t i (landed c) = false
 clears t i (dropped c) = originalOf t i c
 clears t i (down u) = eqb t u
 
--- a fact at each element of a list
-abbrev pub Each : {A : Type 0} → (A → Type 0) → List A → Type 0
-Each P [] = Unit {0}
-Each P (a ∷ l) = P a × Each P l
-
--- none of the copies behind one is before it
-abbrev pub Sorted : List Copy → Type 0
-Sorted [] = Unit {0}
-Sorted (c ∷ w) = Each (λ (x : Copy). before x c ≡ false) w × Sorted w
+-- an original of id i for till t was scheduled, and nothing has cleared it since
+abbrev pub standing : ℕ → ℕ → List Event → Bool
+standing t i [] = false
+standing t i (scheduled c ∷ es) = originalOf t i c || standing t i es
+standing t i (landed c ∷ es) = standing t i es
+standing t i (dropped c ∷ es) = not (originalOf t i c) && standing t i es
+standing t i (down u ∷ es) = not (eqb t u) && standing t i es

@@ -7,12 +7,12 @@ use lib.ListN.{length, getD, set}
 use Rattle.rows.specs.Rows.{keep}
 use Rattle.waiting.specs.declared.Copy.{Copy}
 use Rattle.waiting.specs.Waiting.{insertCopy}
-use Rattle.network.specs.Decide.{Verdict}
-use Rattle.rules.specs.Rules.{fireAt}
+use Rattle.decide.specs.Decide.{Decision, rulesAfter}
 use Rattle.rows.specs.Lists.{push}
 use Rattle.network.specs.Lists.{bit, below, bitAt}
+use Rattle.network.specs.Marks.{placed}
 use Rattle.network.specs.Opening.{Draw, Draws, Opening, link, global, ringAt, ringSlots}
-use Rattle.network.specs.Live.{numbered, Carried, Context, Engine, Live, withRules, withSeen, withEngine, withRings, withWords, withWaiting, placed, marked, tillAt, stopped}
+use Rattle.network.specs.Live.{numbered, Carried, Context, Engine, Live, withRules, withSeen, withEngine, withRings, withWords, withWaiting, marked, tillAt, stopped}
 
 -- an outbox entry as the caller lends it; the tag stands for its payload
 pub record Entry : Type 0 where
@@ -58,7 +58,7 @@ pub record Echoes : Type 0 where
 pub record Drawn : Type 0 where
   pub loss : Draw Bool
   pub latency : Draw ℕ
-  pub verdict : Verdict
+  pub verdict : Decision
   pub echoes : Echoes
 
 abbrev pub carriedOf : Message → Carried
@@ -135,12 +135,9 @@ module _ (o : Opening) (m : Message) (t : ℕ) where
 
 -- ---- Rules
 
-abbrev pub drops : Verdict → Bool
-drops v = not (eqb (v .drop) 0)
-
 -- the fault stream's word count moves, and the fired count of the rule that drops goes up
-abbrev pub ruled : Engine → Verdict → Engine
-ruled e v = withRules e (cond (drops v) (fireAt (v .row) (e .rules)) (e .rules)) (e .installed) (v .words)
+abbrev pub ruled : Engine → Decision → Engine
+ruled e v = withRules e (rulesAfter v (e .rules)) (e .installed) (v .words)
 
 -- ---- One recipient
 
@@ -166,7 +163,7 @@ module _ (o : Opening) (m : Message) where
   abbrev pub classOf : Live → ℕ → Class
   classOf s t =
       let d = drawn o m t s in
-      firstFit (marked s t (m .id)) (stopped s (m .from) t (m .now)) (d .loss .value) (drops (d .verdict))
+      firstFit (marked s t (m .id)) (stopped s (m .from) t (m .now)) (d .loss .value) (d .verdict .drops)
 
   -- the copies of a sent recipient: the original, then its echoes; each takes the next sequence
   abbrev pub copies : Live → Drawn → ℕ → List Copy

@@ -15,7 +15,7 @@ use Rattle.waiting.specs.declared.Copy.{Copy}
 use Rattle.network.specs.Lists.{bit, count}
 use Rattle.network.specs.Opening.{Opening, longestInput}
 use Rattle.network.specs.Live.{Context, Till, downTill, upTill, Tally, noTally, Log, emptyLog, Live, Engine, withBlocks, withRules, withTills, withSeen, withEngine, withLog, tillAt, idsAt, isUp, inTransit}
-use Rattle.network.specs.Accept.{Entry, messageOf, selected, liveAfter, booked, Counts, noCounts, tally, drops, ruled}
+use Rattle.network.specs.Accept.{Entry, messageOf, selected, liveAfter, booked, Counts, noCounts, tally, ruled}
 use Rattle.network.specs.Flush.{Row, rowsOf, dropsOf, handled, due, flushed}
 
 -- calls that only read; `rows` and `places` are what the lent output has room for
@@ -150,7 +150,7 @@ module _ (o : Opening) where
   answerOf s (unblock from to) = silent
   answerOf s (install card) = number 1 (s .engine .installed)
   answerOf s (remove id) = read s (fired id)
-  answerOf s (decide x) = number 1 (bit (drops (o .draws .decide x (s .engine .rules) (s .engine .words))))
+  answerOf s (decide x) = number 1 (bit (o .draws .decide x (s .engine .rules) (s .engine .words) .drops))
   answerOf s (drain rows) = drained s.log
   answerOf s (reading r) = read s r
 

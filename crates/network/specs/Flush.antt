@@ -10,8 +10,9 @@ use Rattle.waiting.specs.declared.Copy.{Copy}
 use Rattle.waiting.specs.Waiting.{onTime}
 use Rattle.rows.specs.Lists.{front, behind, push}
 use Rattle.network.specs.Lists.{bit, count, wrap, bitAt}
+use Rattle.network.specs.Marks.{removed}
 use Rattle.network.specs.Opening.{Opening, global}
-use Rattle.network.specs.Live.{Till, Tally, noTally, Log, Live, isOriginal, removed, tillAt, stopped, withSeen, withWaiting, withLog}
+use Rattle.network.specs.Live.{Till, Tally, noTally, Log, Live, isOriginal, tillAt, stopped, withSeen, withWaiting, withLog}
 
 -- the waiting copies with a time at or before now: a front part, since they stand by time, then sequence
 abbrev pub due : ℕ → Live → List Copy

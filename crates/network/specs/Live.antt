@@ -3,10 +3,10 @@ use Prim.Native.Nat.{ℕ, zero, suc, _+_, _*_}
 use mathlib.Core.Bool.{Bool, true, false, cond, not, _&&_, _||_}
 use mathlib.Core.List.{List, [], _∷_, _++_}
 use lib.Dec.{eqb}
-use lib.ListN.{length, getD, set, take, drop, replicate}
+use lib.ListN.{length, getD, replicate}
 use Rattle.delivery.specs.declared.Delivery.{Delivery}
 use Rattle.waiting.specs.declared.Copy.{Copy}
-use Rattle.network.specs.Marks.{placeOf, standsAt}
+use Rattle.network.specs.Marks.{found}
 use Rattle.network.specs.Rings as rings
 use Rattle.rule.specs.declared.Message as rule
 use Rattle.rules.specs.declared.FaultRule.{FaultRule}
@@ -112,19 +112,6 @@ withWaiting s n x = record { tills = s .tills; seen = s .seen; engine = s .engin
 
 abbrev pub withLog : Live → Log → Live
 withLog s x = record { tills = s .tills; seen = s .seen; engine = s .engine; rings = s .rings; words = s .words; sequence = s .sequence; waiting = s .waiting; log = x }
-
--- ---- Marks: ids in rising order, found by halving; each answer is what the halving gives on any list
-
-abbrev pub found : ℕ → List ℕ → Bool
-found i ids = standsAt ids (placeOf ids i) i
-
--- one id more, at its place
-abbrev pub placed : ℕ → List ℕ → List ℕ
-placed i ids = take (placeOf ids i) ids ++ (i ∷ drop (placeOf ids i) ids)
-
--- one id less, if it is there
-abbrev pub removed : ℕ → List ℕ → List ℕ
-removed i ids = cond (found i ids) (take (placeOf ids i) ids ++ drop (suc (placeOf ids i)) ids) ids
 
 -- ---- Readings
 

@@ -12,7 +12,7 @@ use Rattle.draw.specs.Draw.{whole32At, words32At}
 use Rattle.draw.specs.Fraction.{hitsAt, hitWords}
 use Rattle.latency.specs.Latency.{latencyAt, latencyWords}
 use Rattle.network.specs.Geography.{atLeastOne, bytes8, regionOf, transmissionOf, pricesOf}
-use Rattle.network.specs.Decide.{decideOf}
+use Rattle.decide.specs.Decide.{decideOf}
 use Rattle.network.specs.Lists.{listOf}
 use Rattle.network.specs.Opening.{Sizes, Config, Plan, Settings, Draw, Draws, Opening, global}
 use Rattle.network.specs.Limits.{rateOf}

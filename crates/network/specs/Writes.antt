@@ -16,13 +16,14 @@ use Rattle.waiting.specs.declared.Copy.{Copy}
 use Rattle.rule.specs.declared.DropSpec.{DropSpec}
 use Rattle.card.specs.Card.{fieldsOf}
 use Rattle.rules.specs.Rules.{ruleWidth, putAt, newRule, without, removeTable, fireTable}
-use Rattle.network.specs.Decide.{Verdict}
+use Rattle.decide.specs.Decide.{Decision}
+use Rattle.network.specs.Marks.{placed, removed}
 use Rattle.network.specs.Rings as rings
 use Rattle.network.specs.Log as log
 use Rattle.network.specs.Blocks.{Block, other}
 use Rattle.network.specs.Opening.{Sizes, Opening, link, ringAt}
-use Rattle.network.specs.Live.{Till, downTill, upTill, Live, isOriginal, placed, removed, idsAt, tillAt}
-use Rattle.network.specs.Accept.{Message, messageOf, selected, Drawn, drawn, Class, deduplicated, partition, loss, fault, sent, classOf, copies, carriedOf, drops}
+use Rattle.network.specs.Live.{Till, downTill, upTill, Live, isOriginal, idsAt, tillAt}
+use Rattle.network.specs.Accept.{Message, messageOf, selected, Drawn, drawn, Class, deduplicated, partition, loss, fault, sent, classOf, copies, carriedOf}
 use Rattle.network.specs.Flush.{Row, due, later, stops, lands}
 use Rattle.network.specs.Calls as calls
 use Rattle.network.specs.Calls.{Call, Answer, silent, answerOf, accept, flush, takeDown, bringUp, handlers, block, blockDuring, unblock, install, remove, decide, drain, reading, withHandlers, always, during}
@@ -94,8 +95,8 @@ abbrev pub removeT : Sizes → Tables → ℕ → Tables
 removeT z T id = setRules (netT T rulesAt (length (without id (live z T .engine .rules)))) (removeTable (T .rules) (cell (T .net) rulesAt) id)
 
 -- what a verdict changes: the fault stream's word count, and the fired count of the rule that drops
-abbrev pub ruledT : Tables → Verdict → Tables
-ruledT T v = let T₁ = netT T faultWordsAt (v .words) in cond (drops v) (setRules T₁ (fireTable (T .rules) (v .row))) T₁
+abbrev pub ruledT : Tables → Decision → Tables
+ruledT T v = let T₁ = netT T faultWordsAt (v .words) in cond (v .drops) (setRules T₁ (fireTable (T .rules) (v .place))) T₁
 
 -- a delivery into the log
 abbrev pub recordT : Sizes → Tables → Delivery → Tables
