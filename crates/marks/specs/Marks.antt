@@ -1,0 +1,43 @@
+-- The ids that a till has seen, in rising order. On any list each answer is what the halving gives.
+use mathlib.Core.List.{List, [], _∷_, _++_}
+use mathlib.Core.Bool.{Bool, true, false, cond, _&&_, _||_}
+use Prim.Native.Nat.{ℕ, zero, suc, _+_, _/_, _<_}
+use lib.Dec.{ltb, eqb}
+use lib.ListN.{length, getD, take, drop}
+use Rattle.rows.specs.Lists.{Each}
+
+-- the `count` ids from `start` on
+abbrev pub idsOf : List ℕ → ℕ → ℕ → List ℕ
+idsOf seen start count = take count (drop start seen)
+
+-- the place of id, known to be one of lo .. lo + n, in at most `turns` halvings
+unfoldable pub halve : ℕ → List ℕ → ℕ → ℕ → ℕ → ℕ
+halve zero ids id lo n = lo
+halve (suc turns) ids id lo zero = lo
+halve (suc turns) ids id lo (suc m) =
+    let half = m / 2 in
+    halve turns ids id (cond (ltb (getD ids (lo + half) 0) id) (lo + half + 1) lo) (suc m / 2)
+
+-- the place of the first id that is not below id
+unfoldable pub position : ℕ → List ℕ → ℕ
+position id ids = halve (length ids) ids id 0 (length ids)
+
+abbrev pub found : ℕ → List ℕ → Bool
+found id ids = ltb (position id ids) (length ids) && eqb (getD ids (position id ids) 0) id
+
+-- one id more, at its place
+abbrev pub placed : ℕ → List ℕ → List ℕ
+placed id ids = take (position id ids) ids ++ (id ∷ drop (position id ids) ids)
+
+-- one id less, if it is there
+abbrev pub removed : ℕ → List ℕ → List ℕ
+removed id ids = cond (found id ids) (take (position id ids) ids ++ drop (suc (position id ids)) ids) ids
+
+-- THE ORDER: each id is below those behind it
+abbrev pub Rises : List ℕ → Type 0
+Rises [] = Unit {0}
+Rises (i ∷ l) = Each (λ (j : ℕ). i < j) l × Rises l
+
+abbrev pub member : ℕ → List ℕ → Bool
+member id [] = false
+member id (i ∷ l) = eqb id i || member id l
