@@ -10,7 +10,7 @@ use Rattle.waiting.specs.Waiting.{insertCopy}
 use Rattle.decide.specs.Decide.{Decision, rulesAfter}
 use Rattle.rows.specs.Lists.{push}
 use Rattle.network.specs.Lists.{bit, below, bitAt}
-use Rattle.network.specs.Marks.{placed}
+use Rattle.marks.specs.Marks.{placed}
 use Rattle.network.specs.Opening.{Draw, Draws, Opening, link, global, ringAt, ringSlots}
 use Rattle.network.specs.Live.{numbered, Carried, Context, Engine, Live, withRules, withSeen, withEngine, withRings, withWords, withWaiting, marked, tillAt, stopped}
 

@@ -10,7 +10,7 @@ use Rattle.waiting.specs.declared.Copy.{Copy}
 use Rattle.waiting.specs.Waiting.{onTime}
 use Rattle.rows.specs.Lists.{front, behind, push}
 use Rattle.network.specs.Lists.{bit, count, wrap, bitAt}
-use Rattle.network.specs.Marks.{removed}
+use Rattle.marks.specs.Marks.{removed}
 use Rattle.network.specs.Opening.{Opening, global}
 use Rattle.network.specs.Live.{Till, Tally, noTally, Log, Live, isOriginal, tillAt, stopped, withSeen, withWaiting, withLog}
 

@@ -6,7 +6,7 @@ use lib.Dec.{eqb}
 use lib.ListN.{length, getD, replicate}
 use Rattle.delivery.specs.declared.Delivery.{Delivery}
 use Rattle.waiting.specs.declared.Copy.{Copy}
-use Rattle.network.specs.Marks.{found}
+use Rattle.marks.specs.Marks.{found}
 use Rattle.network.specs.Rings as rings
 use Rattle.rule.specs.declared.Message as rule
 use Rattle.rules.specs.declared.FaultRule.{FaultRule}

@@ -9,7 +9,7 @@ use Rattle.rows.specs.Table.{Form, rowsOf}
 use Rattle.delivery.specs.declared.Delivery.{Delivery}
 use Rattle.waiting.specs.Waiting as waiting
 use Rattle.waiting.specs.declared.Copy.{Copy}
-use Rattle.network.specs.Marks.{idsOf}
+use Rattle.marks.specs.Marks.{idsOf}
 use Rattle.network.specs.Rings as rings
 use Rattle.network.specs.Log as log
 use Rattle.rules.specs.Rules as rules

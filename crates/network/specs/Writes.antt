@@ -17,7 +17,7 @@ use Rattle.rule.specs.declared.DropSpec.{DropSpec}
 use Rattle.card.specs.Card.{fieldsOf}
 use Rattle.rules.specs.Rules.{ruleWidth, putAt, newRule, without, removeTable, fireTable}
 use Rattle.decide.specs.Decide.{Decision}
-use Rattle.network.specs.Marks.{placed, removed}
+use Rattle.marks.specs.Marks.{placed, removed}
 use Rattle.network.specs.Rings as rings
 use Rattle.network.specs.Log as log
 use Rattle.network.specs.Blocks.{Block, other}
