@@ -1,3 +1,4 @@
 pub mod Admit
 pub mod Laws
+pub mod Limits
 mod Tests
