@@ -105,9 +105,10 @@ module _ (seen : List ℕ) (start count id : ℕ) (fits : start + count ≤ leng
         let n : p + 1 ≡ suc p = omega arith in
         let one-less : take p ids ++ drop (suc p) ids ≡ removed id ids
         = ap (λ (k : ℕ). take k ids ++ drop (suc k) ids) at ∙ ap (λ (b : Bool). cond b (take (position id ids) ids ++ drop (suc (position id ids)) ids) ids) f in
-        let ln : length (take p ids ++ drop (suc p) ids) ≡ count - 1 = simp (length-append, length-take, length-drop) (omega (arith, length-ids)) in
-        (sym ln ∙ ap length one-less,
-        e ∙ part-closed seen start count p 1 (omega arith) fits ∙ ap (λ (k : ℕ). putWords seen start (take p ids ++ drop k ids)) n ∙ ap (putWords seen start) one-less)
+        let ln : length (take p ids ++ drop (suc p) ids) ≡ count - 1 = simp (length-append, length-take, length-drop) (omega (arith, length-ids)) in (
+          sym ln ∙ ap length one-less,
+          e ∙ part-closed seen start count p 1 (omega arith) fits ∙ ap (λ (k : ℕ). putWords seen start (take p ids ++ drop k ids)) n ∙ ap (putWords seen start) one-less,
+        )
 
 -- one id more
 pub added : (seen : List ℕ) (start count id p : ℕ) (l : List ℕ) → start + count + 1 ≤ length seen → p ≤ count → p ≡ position id (idsOf seen start count)

@@ -1,7 +1,7 @@
 -- Small functions on the lists that tables hold.
 use mathlib.Core.List.{List, [], _∷_, _++_}
 use mathlib.Core.Bool.{Bool, true, false, cond}
-use Prim.Native.Nat.{ℕ}
+use Prim.Native.Nat.{ℕ, zero, suc}
 use lib.Dec.{ltb}
 use lib.ListN.{length, drop}
 
@@ -23,3 +23,8 @@ module _ {A : Type 0} where
   -- one more at the end; where the places are taken, the oldest is given up
   abbrev pub push : ℕ → List A → A → List A
   push places l a = cond (ltb (length l) places) (l ++ (a ∷ [])) (drop 1 (l ++ (a ∷ [])))
+
+  -- f at 0, 1, .. : n of them
+  abbrev pub upTo : ℕ → (ℕ → A) → List A
+  upTo zero f = []
+  upTo (suc n) f = f 0 ∷ upTo n (λ k. f (suc k))

@@ -6,7 +6,6 @@ ghost use Rattle.shift.specs.Shift.{putWords, opened};
 ghost use Rattle.rows.specs.Lists.{front};
 ghost use Rattle.rows.specs.Table.{over};
 ghost use Rattle.waiting.specs.Waiting.{width, read, words, form, copies, before, placeOf, insertCopy, onTime};
-
 use delivery::Delivery;
 
 // How many words a waiting copy has.

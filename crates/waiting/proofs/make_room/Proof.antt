@@ -64,11 +64,12 @@ loop-again c = let a = c .before .before .before .before .before .before .before
     let b = (at .i - 1) * width in
     let got : c .before .before .before .before .before .before .get .result ≡ read (drop b (opened w (at .i * width) (a .n * width) width)) = c .before .before .before .before .before .before .get .ensures ∙ ap (λ (l : List ℕ). read (drop b l)) (at .inv .2) in
     let row : c .before .before .before .before .before .before .get .result ≡ read (drop b w) = got ∙ unmoved (a .c) w (a .n) (at .i) (omega arith) (omega arith) (c .before .before .before .before .before .before .before .before .before .before .before .pre) in
-    let yes : before (a .c) (read (drop b w)) ≡ true = ap (before (a .c)) (sym row) ∙ sym (c .before .before .before .before .before .is-before .ensures) ∙ not-false _ (c .before .before .before .before .if1 .left) in
-    (omega arith,
-    c .before .before .put .kept .0 ∙ at .inv .1,
-    c .before .before .put .ensures ∙ ap (λ (l : List ℕ). putWords l (b + width) (words (c .before .before .before .before .before .before .get .result))) (at .inv .2) ∙ moved (a .c) w (a .n) (at .i) (c .before .before .before .before .before .before .get .result) (omega arith) (omega arith) (c .before .before .before .before .before .before .before .before .before .before .before .pre) got,
-    passed (a .c) w (a .n) (at .i) (omega arith) (omega arith) (at .inv .3) yes)
+    let yes : before (a .c) (read (drop b w)) ≡ true = ap (before (a .c)) (sym row) ∙ sym (c .before .before .before .before .before .is-before .ensures) ∙ not-false _ (c .before .before .before .before .if1 .left) in (
+      omega arith,
+      c .before .before .put .kept .0 ∙ at .inv .1,
+      c .before .before .put .ensures ∙ ap (λ (l : List ℕ). putWords l (b + width) (words (c .before .before .before .before .before .before .get .result))) (at .inv .2) ∙ moved (a .c) w (a .n) (at .i) (c .before .before .before .before .before .before .get .result) (omega arith) (omega arith) (c .before .before .before .before .before .before .before .before .before .before .before .pre) got,
+      passed (a .c) w (a .n) (at .i) (omega arith) (omega arith) (at .inv .3) yes,
+    )
 
 same-length-2 : tie.Need-same-length-2 Inv-loop μ-loop
 same-length-2 c = omega arith
@@ -76,10 +77,13 @@ same-length-2 c = omega arith
 returns-2 : tie.Need-returns-2 Inv-loop μ-loop
 returns-2 c = let a = c .before .before .before .args in
     let at = c .before .loop in
-    let z : at .i ≡ 0 = omega arith in
-    (first (a .c) (a .ws .now) (a .n) (subst (λ (j : ℕ). After (a .c) (a .ws .now) (a .n) j) z (at .inv .3)),
-    (at .inv .2 ∙ ap (λ (j : ℕ). opened (a .ws .now) (j * width) (a .n * width) width) z,
-    omega arith))
+    let z : at .i ≡ 0 = omega arith in (
+      first (a .c) (a .ws .now) (a .n) (subst (λ (j : ℕ). After (a .c) (a .ws .now) (a .n) j) z (at .inv .3)),
+      (
+        at .inv .2 ∙ ap (λ (j : ℕ). opened (a .ws .now) (j * width) (a .n * width) width) z,
+        omega arith,
+      ),
+    )
 
 pub make-room-spec : {M : Type 1} → statement M
 make-room-spec =
