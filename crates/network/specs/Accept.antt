@@ -10,8 +10,9 @@ use Rattle.waiting.specs.Waiting.{insertCopy}
 use Rattle.decide.specs.Decide.{Decision, rulesAfter}
 use Rattle.rows.specs.Lists.{push}
 use Rattle.network.specs.Lists.{bit, below, bitAt}
+use Rattle.rings.specs.Rings.{slots, numberOf}
 use Rattle.marks.specs.Marks.{placed}
-use Rattle.network.specs.Opening.{Draw, Draws, Opening, link, global, ringAt, ringSlots}
+use Rattle.network.specs.Opening.{Draw, Opening, link, global}
 use Rattle.network.specs.Live.{numbered, Carried, Context, Engine, Live, withRules, withSeen, withEngine, withRings, withWords, withWaiting, marked, tillAt, stopped}
 
 -- an outbox entry as the caller lends it; the tag stands for its payload
@@ -65,7 +66,7 @@ abbrev pub carriedOf : Message → Carried
 carriedOf m = record { class = m .class; wire = m .wire; tag = m .tag }
 
 abbrev pub ringFor : Live → Message → List Carried
-ringFor s m = getD (s .rings) (ringAt (m .kind) (m .scope)) []
+ringFor s m = getD (s .rings) (numberOf (m .kind) (m .scope)) []
 
 abbrev pub isEmpty : {A : Type 0} → List A → Bool
 isEmpty [] = true
@@ -174,7 +175,7 @@ module _ (o : Opening) (m : Message) where
 
   -- the ring takes the message, and gives up its oldest first
   abbrev pub remembered : List (List Carried) → List (List Carried)
-  remembered rings = let r = ringAt (m .kind) (m .scope) in cond (o .draws .echoing) (set rings r (push ringSlots (getD rings r []) (carriedOf m))) rings
+  remembered l = let r = numberOf (m .kind) (m .scope) in cond (o .draws .echoing) (set l r (push slots (getD l r []) (carriedOf m))) l
 
   -- sent sets the mark and puts the copies into waiting; then the ring takes the message
   abbrev pub effect : Class → Live → Drawn → ℕ → Live

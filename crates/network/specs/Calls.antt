@@ -4,13 +4,14 @@ use mathlib.Core.Bool.{Bool, true, false, cond, not}
 use mathlib.Core.List.{List, [], _∷_, _++_}
 use lib.Dec.{leb}
 use lib.ListN.{length, getD, set, replicate}
-use Rattle.rows.specs.Rows.{keep}
 use Rattle.digest.specs.Blake3.{hash}
 use Rattle.rule.specs.declared.DropSpec.{DropSpec}
 use Rattle.card.specs.Card.{fieldsOf}
 use Rattle.rules.specs.declared.Reading as rules
 use Rattle.rules.specs.Rules.{withRule, without, readingOf}
-use Rattle.network.specs.Blocks.{Block, blocked, other}
+use Rattle.blocks.specs.declared.BlockWindow.{BlockWindow}
+use Rattle.blocks.specs.Blocks.{blocked, always, during}
+use Rattle.blocks.specs.Blocks as blocks
 use Rattle.waiting.specs.declared.Copy.{Copy}
 use Rattle.network.specs.Lists.{bit, count}
 use Rattle.network.specs.Opening.{Opening, longestInput}
@@ -61,18 +62,12 @@ handling t gossip host s = withTills s (set s.tills t (withHandlers (tillAt s t)
 
 -- ---- Blocks
 
-abbrev pub always : ℕ → ℕ → Block
-always from to = record { from = from; to = to; bounded = 0; start = 0; end = 0 }
-
-abbrev pub during : ℕ → ℕ → ℕ → ℕ → Block
-during from to start end = record { from = from; to = to; bounded = 1; start = start; end = end }
-
-abbrev pub blockAdded : Block → Live → Live
+abbrev pub blockAdded : BlockWindow → Live → Live
 blockAdded b s = withEngine s (withBlocks s.engine (s.engine .blocks ++ (b ∷ [])))
 
 -- every window of the pair goes
 abbrev pub unblocked : ℕ → ℕ → Live → Live
-unblocked from to s = withEngine s (withBlocks s.engine (keep (other from to) (s.engine .blocks)))
+unblocked from to s = withEngine s (withBlocks s.engine (blocks.unblocked from to (s.engine .blocks)))
 
 -- ---- Rules
 

@@ -9,20 +9,22 @@ use Rattle.rows.specs.Rows.{allOf}
 use Rattle.rows.specs.Table.{rowsOf}
 use Rattle.delivery.specs.declared.Delivery.{Delivery}
 use Rattle.delivery.specs.Delivery as delivery
-use Rattle.latency.specs.Admitted.{latencyAdmitted}
 use Rattle.waiting.specs.Waiting as waiting
 use Rattle.waiting.specs.declared.Copy.{Copy}
-use Rattle.network.specs.Rings as rings
+use Rattle.rings.specs.Rings as rings
 use Rattle.network.specs.Log as log
-use Rattle.network.specs.Blocks.{Block}
-use Rattle.network.specs.Geography.{atLeastOne}
+use Rattle.blocks.specs.declared.BlockWindow.{BlockWindow}
+use Rattle.ring.specs.Ring.{soundAt}
+use Rattle.geography.specs.Geography.{atLeastOne, linkIn, linkAdmitted}
+use Rattle.rules.specs.Rules.{ruleSlots}
+use Rattle.blocks.specs.Blocks.{blockSlots}
 use Rattle.network.specs.Lists.{every, below, within}
-use Rattle.network.specs.Opening.{Sizes, Settings, links, ringCount, ringSlots, blockSlots, ruleSlots, longestWire}
-use Rattle.network.specs.Live.{Carried, Till}
+use Rattle.network.specs.Opening.{Sizes, links, longestWire}
+use Rattle.network.specs.Live.{Carried, Till, ringsOf}
 use Rattle.network.specs.Calls.{Call, Reading, isBlocked, transit, fired, isDown, nextTime, tallyOf, waitingCopies, marksOf, accept, flush, takeDown, bringUp, handlers, block, blockDuring, unblock, install, remove, decide, drain, reading}
 use Rattle.network.specs.Tables.{cell, Tables, setupWidth, sizesAt, settingsAt, netWidth, waitingAt, rulesAt, blocksAt, namesWidth, tillForm, ruleForm, blockForm}
 use Rattle.network.specs.Limits.{sizeTests, textTests, rangeTests}
-use Rattle.network.specs.Real.{keyWidth, pairCells, pricesWidth}
+use Rattle.network.specs.Real.{keyWidth, pricesWidth, regionAt}
 
 abbrev pub hasLength : List ℕ → ℕ → Bool
 hasLength xs n = eqb (length xs) n
@@ -30,10 +32,6 @@ hasLength xs n = eqb (length xs) n
 -- the settings are those that an opening admits
 abbrev pub setupTests : Tables → List Bool
 setupTests T = hasLength (T .setup) setupWidth ∷ every (sizeTests (settingsAt (T .setup))) ∷ every (rangeTests (settingsAt (T .setup) .config)) ∷ []
-
--- bytes a second, of the slowest link that a plan has
-abbrev pub slowest : ℕ
-slowest = 100000000
 
 -- ---- Rows in range
 
@@ -47,7 +45,7 @@ module _ (z : Sizes) where
   abbrev pub nearCopy : Copy → Bool
   nearCopy c = nearDelivery (c .delivery)
 
-  abbrev pub nearBlock : Block → Bool
+  abbrev pub nearBlock : BlockWindow → Bool
   nearBlock b = ltb (b .from) (z .tills) && ltb (b .to) (z .tills)
 
   abbrev pub nearCarried : Carried → Bool
@@ -80,8 +78,8 @@ module _ (z : Sizes) (T : Tables) where
 
   abbrev pub ringsTests : List Bool
   ringsTests =
-      hasLength (T .rings) rings.size ∷ allOf (λ r. leb (rings.countOf (T .rings) r) ringSlots) (below ringCount) ∷ allOf (λ r. ltb (rings.firstOf (T .rings) r) ringSlots) (below ringCount)
-      ∷ allOf (λ r. allOf (nearCarried z) (rings.ringOf (T .rings) r)) (below ringCount) ∷ []
+      hasLength (T .rings) (ringsOf z * (rings.headWidth + rings.span)) ∷ allOf (λ r. soundAt rings.slots (rings.headOf r) (T .rings)) (below (ringsOf z))
+      ∷ allOf (allOf (nearCarried z)) (rings.allRings (ringsOf z) (T .rings)) ∷ []
 
   -- a card may name a till or a type that doesn't exist
   abbrev pub rulesTests : List Bool
@@ -95,17 +93,14 @@ module _ (z : Sizes) (T : Tables) where
       hasLength (T .log) (log.size (z .logSlots)) ∷ leb (log.countOf (T .log)) (z .logSlots) ∷ leb (log.firstOf (T .log)) (z .logSlots - 1)
       ∷ allOf (nearDelivery z) (log.logOf (z .logSlots) (T .log)) ∷ []
 
--- the prices of a plan: a base of up to 60 s, a rate of 100,000,000 or more, regions below their number
+-- the prices that a plan can give, and regions below their number
 abbrev pub pricesTests : Tables → List Bool
 pricesTests T =
     let x = settingsAt (T .setup) in
     let p = x .plan in
     let r = atLeastOne (p .regions) in
     hasLength (T .prices) (pricesWidth p (x .sizes .tills))
-    ∷ cond (eqb (p .planned) 0) true (every (
-      allOf (λ i. latencyAdmitted (cell (T .prices) (2 * i))) (below (r * r)) ∷ allOf (λ i. leb slowest (cell (T .prices) (suc (2 * i)))) (below (r * r))
-      ∷ allOf (λ t. ltb (cell (T .prices) (pairCells p + t)) r) (below (x .sizes .tills)) ∷ []))
-    ∷ []
+    ∷ cond (eqb (p .planned) 0) true (allOf (λ i. linkAdmitted (linkIn (T .prices) i)) (below (r * r)) && allOf (λ t. ltb (regionAt p (T .prices) t) r) (below (x .sizes .tills))) ∷ []
 
 -- ---- The tables that are lent to a call
 

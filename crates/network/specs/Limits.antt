@@ -5,9 +5,11 @@ use mathlib.Core.List.{List, [], _∷_}
 use lib.Dec.{leb}
 use lib.Ieee.{Float, binary64, ofBits}
 use Rattle.rows.specs.Rows.{allOf}
+use Rattle.geography.specs.Geography.{mostRegions}
 use Rattle.latency.specs.Admitted.{latencyAdmitted, fractionAdmitted, rateAdmitted}
-use Rattle.network.specs.Lists.{every, listOf, below, unlike}
-use Rattle.network.specs.Opening.{Sizes, Config, Settings, mostTills, mostTypes, longestName, mostClasses, mostShards, longestKey, mostRegions, mostSlots}
+use Rattle.rows.specs.Lists.{upTo}
+use Rattle.network.specs.Lists.{every, below, unlike}
+use Rattle.network.specs.Opening.{Sizes, Config, Settings, mostTills, mostTypes, longestName, mostClasses, mostShards, longestKey, mostSlots}
 use Rattle.network.specs.Tables.{cell, nameAt, shardAt, textAt}
 
 -- a rate as it is kept: the bits of an f64
@@ -28,7 +30,7 @@ textTests z names =
 -- no two type names and no two shard keys are alike
 abbrev pub unlikeTests : Sizes → List ℕ → List Bool
 unlikeTests z names =
-    unlike (listOf (z .types) (λ k. textAt names (nameAt k))) ∷ unlike (listOf (z .shards) (λ k. textAt names (shardAt k))) ∷ []
+    unlike (upTo (z .types) (λ k. textAt names (nameAt k))) ∷ unlike (upTo (z .shards) (λ k. textAt names (shardAt k))) ∷ []
 
 -- 3: latency, fraction and rates (NaN is not)
 abbrev pub rangeTests : Config → List Bool

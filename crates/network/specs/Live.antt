@@ -7,12 +7,15 @@ use lib.ListN.{length, getD, replicate}
 use Rattle.delivery.specs.declared.Delivery.{Delivery}
 use Rattle.waiting.specs.declared.Copy.{Copy}
 use Rattle.marks.specs.Marks.{found}
-use Rattle.network.specs.Rings as rings
+use Rattle.rings.specs.declared.Entry as rings
 use Rattle.rule.specs.declared.Message as rule
 use Rattle.rules.specs.declared.FaultRule.{FaultRule}
-use Rattle.network.specs.Blocks.{Block, blocked}
-use Rattle.network.specs.Lists.{bit, count, listOf}
-use Rattle.network.specs.Opening.{Sizes, links, ringCount}
+use Rattle.blocks.specs.declared.BlockWindow.{BlockWindow}
+use Rattle.blocks.specs.Blocks.{blocked}
+use Rattle.rows.specs.Lists.{upTo}
+use Rattle.network.specs.Lists.{bit, count}
+use Rattle.rings.specs.Rings.{scopes}
+use Rattle.network.specs.Opening.{Sizes, links}
 
 -- ---- Copies
 
@@ -56,12 +59,12 @@ Context = rule.Message
 
 -- `Engine`: the fault stream's word count, and how many rules were ever installed
 pub record Engine : Type 0 where
-  pub blocks : List Block
+  pub blocks : List BlockWindow
   pub rules : List FaultRule
   pub installed : ℕ
   pub words : ℕ
 
-abbrev pub withBlocks : Engine → List Block → Engine
+abbrev pub withBlocks : Engine → List BlockWindow → Engine
 withBlocks e x = record { blocks = x; rules = e .rules; installed = e .installed; words = e .words }
 
 abbrev pub withRules : Engine → List FaultRule → ℕ → ℕ → Engine
@@ -136,6 +139,10 @@ stopped s from to at = not (isUp s from) || not (isUp s to) || blocked from to a
 abbrev pub inTransit : Live → ℕ → ℕ
 inTransit s t = count (λ (c : Copy). eqb (c .delivery .to) t) s.waiting
 
+-- a ring for each type and scope
+abbrev pub ringsOf : Sizes → ℕ
+ringsOf z = z .types * scopes
+
 -- ---- The opening: all tills up, shard masks as given, the rest empty or at its first number
 
 abbrev pub noTally : Tally
@@ -145,14 +152,14 @@ abbrev pub emptyLog : ℕ → Log
 emptyLog classes = record { records = []; forced = 0; tallies = replicate classes noTally }
 
 abbrev pub openTills : List ℕ → ℕ → List Till
-openTills masks n = listOf n (λ t. upTill (getD masks t 0))
+openTills masks n = upTo n (λ t. upTill (getD masks t 0))
 
 abbrev pub openingLive : Sizes → List ℕ → Live
 openingLive z masks = record {
   tills = openTills masks (z .tills);
   seen = replicate (z .tills) [];
   engine = record { blocks = []; rules = []; installed = 0; words = 0 };
-  rings = replicate ringCount [];
+  rings = replicate (ringsOf z) [];
   words = replicate links 0;
   sequence = 0;
   waiting = [];

@@ -7,7 +7,8 @@ use lib.ListN.{length, getD, set, drop}
 use Rattle.shift.specs.Shift.{putWords}
 use Rattle.delivery.specs.declared.Delivery.{Delivery}
 use Rattle.delivery.specs.Delivery.{read, words}
-use Rattle.network.specs.Ring.{Push, slotOf, pushSlot, ring, slotAt}
+use Rattle.ring.specs.Ring.{pushSlot, ring}
+use Rattle.ring.specs.declared.Push.{Push}
 
 abbrev pub countOf : List ℕ → ℕ
 countOf log = getD log 0 0
@@ -23,7 +24,7 @@ size capacity = head + capacity * 8
 
 -- the records, oldest first
 abbrev pub logOf : ℕ → List ℕ → List Delivery
-logOf capacity log = ring (slotAt 8 read 19 log) capacity (firstOf log) (countOf log)
+logOf capacity log = ring (λ s. read (drop (19 + s * 8) log)) capacity (firstOf log) (countOf log)
 
 unfoldable pub tallied : List ℕ → ℕ → ℕ → List ℕ
 tallied log class wire = set (set log (3 + class * 2) ((getD log (3 + class * 2) 0 + 1) % 2 ^ 64)) (4 + class * 2) ((getD log (4 + class * 2) 0 + wire) % 2 ^ 64)

@@ -6,11 +6,13 @@ use lib.Dec.{eqb}
 use lib.ListN.{length, drop, replicate}
 use Rattle.rows.specs.Rows.{allOf, flat}
 use Rattle.waiting.specs.Waiting as waiting
-use Rattle.network.specs.Rings as rings
+use Rattle.rings.specs.Rings as rings
 use Rattle.network.specs.Log as log
+use Rattle.rules.specs.Rules.{ruleSlots}
+use Rattle.blocks.specs.Blocks.{blockSlots}
 use Rattle.network.specs.Lists.{every, within}
-use Rattle.network.specs.Opening.{Sizes, Settings, links, ringCount, blockSlots, ruleSlots}
-use Rattle.network.specs.Live.{openTills}
+use Rattle.network.specs.Opening.{Sizes, Settings, links}
+use Rattle.network.specs.Live.{openTills, ringsOf}
 use Rattle.network.specs.Questions.{Asked, ask, firstNo}
 use Rattle.network.specs.Tables.{Tables, setupOf, setupWidth, netWidth, namesWidth, tillForm, ruleForm, blockForm}
 use Rattle.network.specs.Limits.{sizeTests, textTests, unlikeTests, rangeTests}
@@ -47,7 +49,7 @@ lengthsOf x =
       prices = pricesWidth (x .plan) (z .tills);
       seen = z .tills + z .tills * z .seenSlots;
       waiting = z .waitSlots * waiting.width;
-      rings = rings.size;
+      rings = ringsOf z * (rings.headWidth + rings.span);
       rules = ruleSlots * ruleForm .width;
       blocks = blockSlots * blockForm .width;
       log = log.size (z .logSlots);
@@ -89,7 +91,7 @@ module _ (x : Settings) (masks : List ℕ) (T : Tables) where
         prices = pricedBy x;
         seen = replicate (z .tills) 0 ++ drop (z .tills) (T .seen);
         waiting = T .waiting;
-        rings = replicate rings.head 0 ++ drop rings.head (T .rings);
+        rings = replicate (ringsOf z * rings.headWidth) 0 ++ drop (ringsOf z * rings.headWidth) (T .rings);
         rules = T .rules;
         blocks = T .blocks;
         log = replicate log.head 0 ++ drop log.head (T .log);

@@ -6,8 +6,10 @@ use lib.Dec.{eqb, leb, ltb}
 use lib.ListN.{length, getD}
 use Rattle.rows.specs.Rows.{allOf}
 use Rattle.card.specs.Card.{exact}
+use Rattle.rules.specs.Rules.{ruleSlots, mostRules}
+use Rattle.blocks.specs.Blocks.{blockSlots}
 use Rattle.network.specs.Lists.{within}
-use Rattle.network.specs.Opening.{Opening, link, global, blockSlots, ruleSlots, longestWire, latestNow, mostWords, lastNumber}
+use Rattle.network.specs.Opening.{Opening, link, global, longestWire, latestNow, mostWords, lastNumber}
 use Rattle.network.specs.Live.{Live, marked, idsAt}
 use Rattle.network.specs.Accept.{Entry, Message, messageOf, selected}
 use Rattle.network.specs.Flush.{due}
@@ -77,7 +79,7 @@ module _ (o : Opening) where
   ask12block s = ask 12 (ltb (length (s .engine .blocks)) blockSlots)
 
   abbrev pub ask12rule : Live → Asked
-  ask12rule s = ask 12 (ltb (length (s .engine .rules)) ruleSlots && ltb (s .engine .installed) lastNumber)
+  ask12rule s = ask 12 (ltb (length (s .engine .rules)) ruleSlots && ltb (s .engine .installed) mostRules)
 
   -- an output that is shorter than the opening's size is answered 1
   abbrev pub askedReading : Reading → List Asked

@@ -11,9 +11,11 @@ use Rattle.digest.specs.Blake3.{hash}
 use Rattle.draw.specs.Draw.{whole32At, words32At}
 use Rattle.draw.specs.Fraction.{hitsAt, hitWords}
 use Rattle.latency.specs.Latency.{latencyAt, latencyWords}
-use Rattle.network.specs.Geography.{atLeastOne, bytes8, regionOf, transmissionOf, pricesOf}
+use Rattle.geography.specs.Bytes.{bytes4, bytes8}
+use Rattle.geography.specs.Geography.{atLeastOne, linkWidth, regionOf, pricesOf, costOf}
+use Rattle.geography.specs.declared.Cost.{Cost}
 use Rattle.decide.specs.Decide.{decideOf}
-use Rattle.network.specs.Lists.{listOf}
+use Rattle.rows.specs.Lists.{upTo}
 use Rattle.network.specs.Opening.{Sizes, Config, Plan, Settings, Draw, Draws, Opening, global}
 use Rattle.network.specs.Limits.{rateOf}
 use Rattle.network.specs.Tables.{Tables, cell, sizesAt, settingsAt, nameAt, shardAt, textAt}
@@ -24,18 +26,17 @@ use Rattle.network.specs.Tables.{Tables, cell, sizesAt, settingsAt, name
 abbrev pub keyWidth : ℕ
 keyWidth = 8
 
--- seed (8 bytes), "link", from, to (4 bytes each)
-unfoldable pub keyBytes : (seed from to : ℕ) → List ℕ
-keyBytes seed from to =
-    bytes8 seed (108 ∷ 105 ∷ 110 ∷ 107 ∷ from % 256 ∷ from / 2 ^ 8 % 256 ∷ from / 2 ^ 16 % 256 ∷ from / 2 ^ 24 % 256
-    ∷ to % 256 ∷ to / 2 ^ 8 % 256 ∷ to / 2 ^ 16 % 256 ∷ to / 2 ^ 24 % 256 ∷ [])
+-- "link"
+abbrev pub label : List ℕ
+label = 108 ∷ 105 ∷ 110 ∷ 107 ∷ []
 
+-- the digest of seed (8 bytes), "link", from, to (4 bytes each)
 unfoldable pub linkKey : (seed from to : ℕ) → List ℕ
-linkKey seed from to = hash (keyBytes seed from to)
+linkKey seed from to = hash (bytes8 seed ++ (label ++ (bytes4 from ++ bytes4 to)))
 
 -- the key of each ordered pair of tills
 unfoldable pub keysOf : Settings → List ℕ
-keysOf x = let n = x .sizes .tills in flat (λ i. linkKey (x .seed) (i / n) (i % n)) (listOf (n * n) (λ i. i))
+keysOf x = let n = x .sizes .tills in flat (λ i. linkKey (x .seed) (i / n) (i % n)) (upTo (n * n) (λ i. i))
 
 abbrev pub keyOf : (tills : ℕ) → List ℕ → (from to : ℕ) → List ℕ
 keyOf tills keys from to = take keyWidth (drop ((from * tills + to) * keyWidth) keys)
@@ -44,7 +45,7 @@ keyOf tills keys from to = take keyWidth (drop ((from * tills + to) * keyWidth) 
 
 -- with a plan, base and rate of each pair of regions, then the region of each till; without one, nothing
 abbrev pub pairCells : Plan → ℕ
-pairCells p = 2 * (atLeastOne (p .regions) * atLeastOne (p .regions))
+pairCells p = linkWidth * (atLeastOne (p .regions) * atLeastOne (p .regions))
 
 abbrev pub pricesWidth : Plan → ℕ → ℕ
 pricesWidth p tills = cond (eqb (p .planned) 0) 0 (pairCells p + tills)
@@ -53,18 +54,15 @@ unfoldable pub pricedBy : Settings → List ℕ
 pricedBy x =
     let p = x .plan in
     cond (eqb (p .planned) 0) []
-    (pricesOf (p .seed) (p .regions) (replicate (pairCells p) 0) ++ listOf (x .sizes .tills) (λ t. regionOf (p .seed) (p .regions) t))
+    (pricesOf (p .seed) (p .regions) (replicate (pairCells p) 0) ++ upTo (x .sizes .tills) (λ t. regionOf (p .seed) (p .regions) t))
 
--- the place of the price of the pair of regions that from and to sit in
-abbrev pub pairAt : Plan → List ℕ → (from to : ℕ) → ℕ
-pairAt p prices from to = 2 * (cell prices (pairCells p + from) * atLeastOne (p .regions) + cell prices (pairCells p + to))
+-- the region that a till sits in
+abbrev pub regionAt : Plan → List ℕ → ℕ → ℕ
+regionAt p prices t = cell prices (pairCells p + t)
 
--- without a region plan the base is the set latency and transmission is 0
-abbrev pub baseOf : Settings → List ℕ → (from to : ℕ) → ℕ
-baseOf x prices from to = cond (eqb (x .plan .planned) 0) (x .config .latency) (cell prices (pairAt (x .plan) prices from to))
-
-abbrev pub wireTime : Settings → List ℕ → (from to bytes : ℕ) → ℕ
-wireTime x prices from to bytes = cond (eqb (x .plan .planned) 0) 0 (transmissionOf bytes (cell prices (suc (pairAt (x .plan) prices from to))))
+-- base and time on the wire: without a region plan the set latency, and 0
+abbrev pub costAt : Settings → List ℕ → (from to bytes : ℕ) → Cost
+costAt x prices from to bytes = let p = x .plan in costOf (not (eqb (p .planned) 0)) prices (p .regions) (regionAt p prices from) (regionAt p prices to) (x .config .latency) bytes
 
 -- ---- Ids
 
@@ -92,10 +90,12 @@ drawsOf x names keys prices =
       duplicate = λ from to words. chance (key from to) (c .duplicate) words;
       replay = λ from to words. chance (key from to) (c .replay) words;
       echoing = lt zero64 (rateOf (c .duplicate)) || lt zero64 (rateOf (c .replay));
-      latency = λ from to bytes words. record {
-        value = latencyAt (key from to) words (baseOf x prices from to) (rateOf (c .jitter)) (rateOf (c .spike)) (wireTime x prices from to bytes);
-        words = words + latencyWords (key from to) words (baseOf x prices from to) (rateOf (c .jitter)) (rateOf (c .spike));
-      };
+      latency = λ from to bytes words.
+          let k = costAt x prices from to bytes in
+          record {
+            value = latencyAt (key from to) words (k .base .ns) (rateOf (c .jitter)) (rateOf (c .spike)) (k .transmission .ns);
+            words = words + latencyWords (key from to) words (k .base .ns) (rateOf (c .jitter)) (rateOf (c .spike));
+          };
       index = λ from to n words. record { value = whole32At (key from to) words n; words = words + words32At (key from to) words n };
       decide = λ m rules words. decideOf (x .faultKey) m rules words;
       id = idOf names;

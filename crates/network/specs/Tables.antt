@@ -10,15 +10,16 @@ use Rattle.delivery.specs.declared.Delivery.{Delivery}
 use Rattle.waiting.specs.Waiting as waiting
 use Rattle.waiting.specs.declared.Copy.{Copy}
 use Rattle.marks.specs.Marks.{idsOf}
-use Rattle.network.specs.Rings as rings
+use Rattle.rings.specs.Rings as rings
 use Rattle.network.specs.Log as log
 use Rattle.rules.specs.Rules as rules
 use Rattle.rules.specs.declared.FaultRule.{FaultRule}
-use Rattle.network.specs.Blocks as blocks
-use Rattle.network.specs.Blocks.{Block}
-use Rattle.network.specs.Lists.{every, listOf, within}
-use Rattle.network.specs.Opening.{Sizes, Config, Plan, Settings, links, ringCount, ringSlots, blockSlots, ruleSlots, longestWire, longestName, longestKey, mostTypes, mostShards}
-use Rattle.network.specs.Live.{Carried, Till, Tally, Live}
+use Rattle.blocks.specs.Blocks as blocks
+use Rattle.blocks.specs.declared.BlockWindow.{BlockWindow}
+use Rattle.rows.specs.Lists.{upTo}
+use Rattle.network.specs.Lists.{every, within}
+use Rattle.network.specs.Opening.{Sizes, Config, Plan, Settings, longestName, longestKey, mostTypes, mostShards}
+use Rattle.network.specs.Live.{Till, Tally, Live, ringsOf}
 
 abbrev pub cell : List ℕ → ℕ → ℕ
 cell xs i = getD xs i 0
@@ -106,7 +107,7 @@ idsStart z t = z .tills + t * z .seenSlots
 abbrev pub ruleForm : Form FaultRule
 ruleForm = record { width = rules.ruleWidth; read = rules.firstRule; words = rules.words }
 
-abbrev pub blockForm : Form Block
+abbrev pub blockForm : Form BlockWindow
 blockForm = record { width = blocks.blockWidth; read = blocks.firstBlock; words = blocks.words }
 
 -- ---- The tables
@@ -133,16 +134,16 @@ tallyAt log c = record { deliveries = cell log (3 + c * 2); bytes = cell log (4 
 abbrev pub live : Sizes → Tables → Live
 live z T = record {
   tills = rowsOf tillForm (T .tills) (z .tills);
-  seen = listOf (z .tills) (λ t. idsOf (T .seen) (idsStart z t) (cell (T .seen) t));
+  seen = upTo (z .tills) (λ t. idsOf (T .seen) (idsStart z t) (cell (T .seen) t));
   engine = record {
     blocks = rowsOf blockForm (T .blocks) (cell (T .net) blocksAt);
     rules = rowsOf ruleForm (T .rules) (cell (T .net) rulesAt);
     installed = cell (T .net) installedAt;
     words = cell (T .net) faultWordsAt;
   };
-  rings = listOf ringCount (rings.ringOf (T .rings));
+  rings = rings.allRings (ringsOf z) (T .rings);
   words = T .words;
   sequence = cell (T .net) sequenceAt;
   waiting = rowsOf waiting.form (T .waiting) (cell (T .net) waitingAt);
-  log = record { records = log.logOf (z .logSlots) (T .log); forced = cell (T .log) 2; tallies = listOf (z .classes) (tallyAt (T .log)) };
+  log = record { records = log.logOf (z .logSlots) (T .log); forced = cell (T .log) 2; tallies = upTo (z .classes) (tallyAt (T .log)) };
 }

@@ -5,8 +5,7 @@ use mathlib.Core.List.{List, [], _∷_, _++_}
 use lib.Dec.{eqb}
 use lib.ListN.{length, getD, set, drop, replicate}
 use Rattle.shift.specs.Shift.{putWords}
-use Rattle.rows.specs.Rows.{keep, flat}
-use Rattle.rows.specs.Lists.{front, behind}
+use Rattle.rows.specs.Rows.{flat}
 use Rattle.rows.specs.Table.{Form, over}
 use Rattle.delivery.specs.Delivery as delivery
 use Rattle.delivery.specs.declared.Delivery.{Delivery}
@@ -18,15 +17,16 @@ use Rattle.card.specs.Card.{fieldsOf}
 use Rattle.rules.specs.Rules.{ruleWidth, putAt, newRule, without, removeTable, fireTable}
 use Rattle.decide.specs.Decide.{Decision}
 use Rattle.marks.specs.Marks.{placed, removed}
-use Rattle.network.specs.Rings as rings
+use Rattle.rings.specs.Rings as rings
 use Rattle.network.specs.Log as log
-use Rattle.network.specs.Blocks.{Block, other}
-use Rattle.network.specs.Opening.{Sizes, Opening, link, ringAt}
-use Rattle.network.specs.Live.{Till, downTill, upTill, Live, isOriginal, idsAt, tillAt}
+use Rattle.blocks.specs.declared.BlockWindow.{BlockWindow}
+use Rattle.blocks.specs.Blocks.{always, during, blockTable, unblockTable, openCount}
+use Rattle.network.specs.Opening.{Sizes, Opening, link}
+use Rattle.network.specs.Live.{Till, downTill, upTill, Live, isOriginal, idsAt, tillAt, ringsOf}
 use Rattle.network.specs.Accept.{Message, messageOf, selected, Drawn, drawn, Class, deduplicated, partition, loss, fault, sent, classOf, copies, carriedOf}
 use Rattle.network.specs.Flush.{Row, due, later, stops, lands}
 use Rattle.network.specs.Calls as calls
-use Rattle.network.specs.Calls.{Call, Answer, silent, answerOf, accept, flush, takeDown, bringUp, handlers, block, blockDuring, unblock, install, remove, decide, drain, reading, withHandlers, always, during}
+use Rattle.network.specs.Calls.{Call, Answer, silent, answerOf, accept, flush, takeDown, bringUp, handlers, block, blockDuring, unblock, install, remove, decide, drain, reading, withHandlers}
 use Rattle.network.specs.Questions.{asked, firstNo}
 use Rattle.network.specs.Tables.{cell, Tables, live, tillForm, ruleForm, blockForm, idsStart, sequenceAt, waitingAt, rulesAt, installedAt, faultWordsAt, blocksAt}
 use Rattle.network.specs.Real.{openingAt}
@@ -81,8 +81,13 @@ marksT z T t ids = setSeen T (set (putWords (T .seen) (idsStart z t) ids) t (len
 abbrev pub waitingT : Tables → List Copy → Tables
 waitingT T w = setWaiting (netT T waitingAt (length w)) (over waiting.form w (T .waiting))
 
-abbrev pub blocksT : Tables → List Block → Tables
-blocksT T bs = setBlocks (netT T blocksAt (length bs)) (over blockForm bs (T .blocks))
+-- a window more, behind the others
+abbrev pub blockT : Tables → BlockWindow → Tables
+blockT T e = let n = cell (T .net) blocksAt in setBlocks (netT T blocksAt (suc n)) (blockTable (T .blocks) n e)
+
+-- every window of the pair goes
+abbrev pub unblockT : Tables → ℕ → ℕ → Tables
+unblockT T from to = let n = cell (T .net) blocksAt in setBlocks (netT T blocksAt (openCount from to (T .blocks) n)) (unblockTable from to (T .blocks) n)
 
 -- a rule more, with the next id
 abbrev pub installT : Tables → DropSpec → Tables
@@ -118,7 +123,7 @@ pushT z T (c ∷ cs) = pushT z (waitingT (netT T sequenceAt (suc (cell (T .net) 
 
 module _ (o : Opening) (m : Message) where
   abbrev pub rememberT : Tables → Tables
-  rememberT T = cond (o .draws .echoing) (setRings T (rings.pushed (T .rings) (ringAt (m .kind) (m .scope)) (carriedOf m))) T
+  rememberT T = cond (o .draws .echoing) (setRings T (rings.pushed (ringsOf (o .sizes)) (T .rings) (rings.numberOf (m .kind) (m .scope)) (carriedOf m))) T
 
   abbrev pub effectT : Class → Tables → Drawn → ℕ → Tables
   effectT deduplicated T d t = T
@@ -165,9 +170,9 @@ module _ (o : Opening) where
   stepT T (takeDown t) = marksT (o .sizes) (tillT T t downTill) t []
   stepT T (bringUp t shards) = tillT T t (upTill shards)
   stepT T (handlers t gossip host) = tillT T t (withHandlers (tillAt (live (o .sizes) T) t) gossip host)
-  stepT T (block from to) = blocksT T (live (o .sizes) T .engine .blocks ++ (always from to ∷ []))
-  stepT T (blockDuring from to start end) = blocksT T (live (o .sizes) T .engine .blocks ++ (during from to start end ∷ []))
-  stepT T (unblock from to) = blocksT T (keep (other from to) (live (o .sizes) T .engine .blocks))
+  stepT T (block from to) = blockT T (always from to)
+  stepT T (blockDuring from to start end) = blockT T (during from to start end)
+  stepT T (unblock from to) = unblockT T from to
   stepT T (install card) = installT T (fieldsOf card)
   stepT T (remove id) = removeT (o .sizes) T id
   stepT T (decide x) = ruledT T (o .draws .decide x (live (o .sizes) T .engine .rules) (live (o .sizes) T .engine .words))
