@@ -7,8 +7,8 @@ use mathlib.Core.List.{List, [], _∷_, _++_}
 use lib.ListN.{length, getD, set, replicate, drop}
 use lib.Dec.{ltb}
 use Rattle.rows.specs.Rows.{allOf, pick, keep}
-use Rattle.rows.specs.Lists.{Each, front, behind, push}
-use Rattle.network.specs.Lists.{listFrom, listOf, every}
+use Rattle.rows.specs.Lists.{Each, front, behind, push, upTo}
+use Rattle.network.specs.Lists.{every}
 
 module _ {A : Type 0} (P : A → Type 0) where
   pub each-set : (l : List A) (t : ℕ) (x : A) → Each P l → P x → Each P (set l t x)
@@ -64,9 +64,9 @@ module _ {A : Type 0} (P : A → Type 0) where
       go true r = r
       go false r = e
 
-  pub each-from : (i k : ℕ) (f : ℕ → A) → ((j : ℕ) → P (f j)) → Each P (listFrom i k f)
-  each-from i zero f h = tt
-  each-from i (suc k) f h = (h i, each-from (suc i) k f h)
+  pub each-upTo : (n : ℕ) (f : ℕ → A) → ((j : ℕ) → j < n → P (f j)) → Each P (upTo n f)
+  each-upTo zero f h = tt
+  each-upTo (suc n) f h = (h 0 (omega arith), each-upTo n (λ k. f (suc k)) (λ j l. h (suc j) (omega arith)))
 
 module _ {A : Type 0} where
   pub each-all : (p : A → Bool) (l : List A) → Each (λ (a : A). p a ≡ true) l → allOf p l ≡ true

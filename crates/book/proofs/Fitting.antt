@@ -18,12 +18,16 @@ use Rattle.waiting.specs.declared.Copy.{Copy}
 use Rattle.waiting.proofs.Order.{length-insert, each-insert}
 use Rattle.marks.specs.Marks.{placed, Rises}
 use Rattle.marks.proofs.Rising.{length-placed, rises-placed}
-use Rattle.rules.specs.Rules.{fireAt}
 use Rattle.rules.specs.declared.FaultRule.{FaultRule}
 use Rattle.decide.specs.Decide.{Decision, rulesAfter}
-use Rattle.network.specs.Opening.{Sizes, Opening, links, ringCount, ringAt, blockSlots, ruleSlots, ringSlots, longestWire, mostTypes, mostClasses, mostShards}
-use Rattle.network.specs.Blocks.{Block}
-use Rattle.network.specs.Live.{numbered, Carried, Till, Engine, Log, Live, idsAt, marked, stopped}
+use Rattle.network.specs.Opening.{Sizes, Opening, links, longestWire, mostTypes, mostClasses, mostShards}
+use Rattle.rules.specs.Rules.{ruleSlots, fireAt}
+use Rattle.blocks.specs.Blocks.{blockSlots}
+use Rattle.blocks.specs.declared.BlockWindow.{BlockWindow}
+use Rattle.rings.specs.Rings.{slots, numberOf}
+use Rattle.network.specs.Live.{numbered, Carried, Till, Engine, Live, ringsOf, idsAt, marked, stopped}
+use Rattle.network.specs.Log as log
+use Rattle.network.specs.Log.{Log}
 use Rattle.network.specs.Accept.{Message, Drawn, drawn, original, echo, carriedOf, ringFor, Class, deduplicated, partition, loss, fault, sent, classOf, copies, insertAll, mark, remembered, ruled, effect, offered, liveAfter}
 use Rattle.network.specs.Lent.{nearTill, nearDelivery, nearCopy, nearBlock, nearCarried}
 use Rattle.book.proofs.Each.{both, join, each-set, each-at, each-push}
@@ -100,14 +104,14 @@ module _ (z : Sizes) where
   pub record EngineFits (e : Engine) : Type 0 where
     pub blocks : length (e .blocks) ≤ blockSlots
     pub rules : length (e .rules) ≤ ruleSlots
-    pub near : Each (λ (b : Block). nearBlock z b ≡ true) (e .blocks)
+    pub near : Each (λ (b : BlockWindow). nearBlock z b ≡ true) (e .blocks)
 
   abbrev pub NearRing : List Carried → Type 0
   NearRing l = Each (λ (c : Carried). nearCarried z c ≡ true) l
 
   pub record RingsFit (r : List (List Carried)) : Type 0 where
-    pub many : length r ≡ ringCount
-    pub small : Each (λ (l : List Carried). length l ≤ ringSlots) r
+    pub many : length r ≡ ringsOf z
+    pub small : Each (λ (l : List Carried). length l ≤ slots) r
     pub near : Each NearRing r
 
   pub record QueueFits (w : List Copy) : Type 0 where
@@ -116,7 +120,7 @@ module _ (z : Sizes) where
 
   pub record LogFits (l : Log) : Type 0 where
     pub records : length (l .records) ≤ z .logSlots
-    pub tallies : length (l .tallies) ≡ z .classes
+    pub tallies : length (l .tallies) ≡ log.classes
     pub near : Each (λ (d : Delivery). nearDelivery z d ≡ true) (l .records)
 
   pub record Fits (s : Live) : Type 0 where
@@ -136,7 +140,7 @@ module _ (z : Sizes) where
     pub from : ltb (m .from) (z .tills) ≡ true
     pub kind : ltb (m .kind) (z .types) ≡ true
     pub class : ltb (m .class) (z .classes) ≡ true
-    pub ring : ringAt (m .kind) (m .scope) < ringCount
+    pub ring : numberOf (m .kind) (m .scope) < ringsOf z
     pub wire : leb (m .wire) longestWire ≡ true
 
 pub ruled-fits : (z : Sizes) (e : Engine) (v : Decision) → EngineFits z e → EngineFits z (ruled e v)
@@ -162,7 +166,7 @@ module _ (o : Opening) (m : Message) where
   near-echo k t b c l h = rw (k .from, lt-ltb t (o .sizes .tills) b, k .kind, both (ltb (c .class) (o .sizes .classes)) (leb (c .wire) longestWire) h .0)
 
   near-ring : (s : Live) → RingsFit (o .sizes) (s .rings) → NearRing (o .sizes) (ringFor s m)
-  near-ring s f = each-at (NearRing (o .sizes)) (s .rings) (ringAt (m .kind) (m .scope)) [] (f .near) tt
+  near-ring s f = each-at (NearRing (o .sizes)) (s .rings) (numberOf (m .kind) (m .scope)) [] (f .near) tt
 
   -- what the draws for a recipient give
   pub record Good (d : Drawn) : Type 0 where
@@ -187,17 +191,17 @@ module _ (o : Opening) (m : Message) where
   remembered-fits k r f = go (o .draws .echoing)
     where
       at : ℕ
-      at = ringAt (m .kind) (m .scope)
+      at = numberOf (m .kind) (m .scope)
 
       ring : List Carried
       ring = getD r at []
 
-      go : (b : Bool) → RingsFit (o .sizes) (cond b (set r at (push ringSlots ring (carriedOf m))) r)
+      go : (b : Bool) → RingsFit (o .sizes) (cond b (set r at (push slots ring (carriedOf m))) r)
       go true = record {
-        many = length-set r at (push ringSlots ring (carriedOf m)) ∙ f .many;
-        small = each-set (λ (l : List Carried). length l ≤ ringSlots) r at (push ringSlots ring (carriedOf m)) (f .small) (length-push ringSlots ring (carriedOf m) (each-at (λ (l : List Carried). length l ≤ ringSlots) r at [] (f .small) (omega arith)));
-        near = each-set (NearRing (o .sizes)) r at (push ringSlots ring (carriedOf m)) (f .near)
-            (each-push (λ (c : Carried). nearCarried (o .sizes) c ≡ true) ringSlots ring (carriedOf m) (each-at (NearRing (o .sizes)) r at [] (f .near) tt) (join _ _ (k .class) (k .wire)));
+        many = length-set r at (push slots ring (carriedOf m)) ∙ f .many;
+        small = each-set (λ (l : List Carried). length l ≤ slots) r at (push slots ring (carriedOf m)) (f .small) (length-push slots ring (carriedOf m) (each-at (λ (l : List Carried). length l ≤ slots) r at [] (f .small) (omega arith)));
+        near = each-set (NearRing (o .sizes)) r at (push slots ring (carriedOf m)) (f .near)
+            (each-push (λ (c : Carried). nearCarried (o .sizes) c ≡ true) slots ring (carriedOf m) (each-at (NearRing (o .sizes)) r at [] (f .near) tt) (join _ _ (k .class) (k .wire)));
       }
       go false = f
 

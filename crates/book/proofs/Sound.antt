@@ -21,7 +21,7 @@ use Rattle.rules.specs.Rules.{Ascending, fireAt, withRule}
 use Rattle.rules.specs.declared.FaultRule.{FaultRule}
 use Rattle.rules.proofs.Ids.{install-ascends, remove-ascends, fire-ascends}
 use Rattle.decide.specs.Decide.{Decision, rulesAfter}
-use Rattle.network.specs.Lists.{bit, count, listFrom, listOf, below}
+use Rattle.network.specs.Lists.{bit, count, below}
 use Rattle.network.specs.Opening.{Opening}
 use Rattle.network.specs.Live.{Engine, Live, isOriginal, marked, idsAt, stopped, openingLive}
 use Rattle.network.specs.Accept.{Message, messageOf, selected, Drawn, drawn, original, Class, deduplicated, partition, loss, fault, sent, firstFit, classOf, copies, mark, ruled, effect, offered, liveAfter, insertAll}
@@ -31,7 +31,7 @@ use Rattle.book.specs.Book.{Book, Event, scheduledIn, landedIn, droppedI
 use Rattle.book.specs.History.{hasSequence, given, standing}
 use Rattle.book.proofs.Counting.{numbered-count, count-split, count-insertAll, scheduling-scheduled, scheduling-landed, scheduling-dropped, flushing-scheduled, flushing-moved}
 use Rattle.book.proofs.Marks.{Apart, Echo, echoes-standing, echoes-apart, member-set, member-empty, clearing-agrees, clearing-rises, flushing-apart}
-use Rattle.book.proofs.Each.{each-set, each-at, each-replicate}
+use Rattle.book.proofs.Each.{each-set, each-at, each-replicate, each-upTo}
 use Rattle.book.proofs.Echoing.{drawn-echoes}
 
 -- It speaks of the parts that it needs, and so holds at once of a live part that differs elsewhere.
@@ -106,10 +106,6 @@ module _ (o : Opening) (m : Message) (s : Live) (d : Drawn) (t : ℕ) (past : Li
 abbrev pub Below : ℕ → List ℕ → Type 0
 Below n ts = Each (λ t. t < n) ts
 
-from-below : (n i k : ℕ) → i + k ≤ n → Below n (listFrom i k (λ j. j))
-from-below n i zero h = tt
-from-below n i (suc k) h = (omega arith, from-below n (suc i) k (omega arith))
-
 keep-below : (n : ℕ) (q : ℕ → Bool) (ts : List ℕ) → Below n ts → Below n (keep q ts)
 keep-below n q [] h = tt
 keep-below n q (t ∷ ts) h = go (q t) (keep-below n q ts (h .1))
@@ -119,7 +115,7 @@ keep-below n q (t ∷ ts) h = go (q t) (keep-below n q ts (h .1))
     go false r = r
 
 pub selected-below : (o : Opening) (s : Live) (scope from : ℕ) → Below (o .sizes .tills) (selected o s scope from)
-selected-below o s scope from = keep-below (o .sizes .tills) _ (below (o .sizes .tills)) (from-below (o .sizes .tills) 0 (o .sizes .tills) (omega arith))
+selected-below o s scope from = keep-below (o .sizes .tills) _ (below (o .sizes .tills)) (each-upTo (λ t. t < o .sizes .tills) (o .sizes .tills) (λ i. i) (λ j h. h))
 
 module _ (o : Opening) (m : Message) where
   accept-sound : (ts : List ℕ) (s : Live) (past : List Event) → Below (o .sizes .tills) ts → SoundLive o s past → SoundLive o (liveAfter o m s ts) (eventsAfter o m s ts past)

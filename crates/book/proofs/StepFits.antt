@@ -11,24 +11,29 @@ use lib.ListN.{length, getD, set, length-set, length-replicate, length-append}
 use borrow.Author.Tests.{ltb-true, leb-true, lt-ltb, eqb-true}
 use Rattle.rows.specs.Rows.{allOf, keep}
 use Rattle.rows.specs.Lists.{Each, front, behind, push}
+use Rattle.rows.proofs.Lists.{length-upTo}
 use Rattle.delivery.specs.declared.Delivery.{Delivery}
 use Rattle.waiting.specs.Waiting.{onTime}
 use Rattle.waiting.specs.declared.Copy.{Copy}
 use Rattle.marks.specs.Marks.{removed, Rises}
 use Rattle.marks.proofs.Rising.{length-removed}
 use Rattle.card.specs.Card.{fieldsOf}
-use Rattle.rules.specs.Rules.{without}
 use Rattle.rules.specs.declared.FaultRule.{FaultRule}
-use Rattle.network.specs.Lists.{listFrom, listOf, within}
-use Rattle.network.specs.Opening.{Sizes, Opening, links, ringCount, ringAt, global, blockSlots, ruleSlots, ringSlots, longestWire, lastNumber}
-use Rattle.network.specs.Blocks.{Block, other}
-use Rattle.network.specs.Live.{Carried, Till, downTill, upTill, Engine, Log, Live, openTills, openingLive, isOriginal, tillAt, withTills, withEngine, withBlocks, noTally}
+use Rattle.network.specs.Lists.{within}
+use Rattle.network.specs.Opening.{Sizes, Opening, links, global, longestWire}
+use Rattle.rules.specs.Rules.{ruleSlots, mostRules, without}
+use Rattle.blocks.specs.Blocks.{blockSlots, always, during, other}
+use Rattle.blocks.specs.declared.BlockWindow.{BlockWindow}
+use Rattle.rings.specs.Rings.{slots}
+use Rattle.network.specs.Live.{Carried, Till, downTill, upTill, Engine, Live, openTills, openingLive, isOriginal, ringsOf, tillAt, withTills, withEngine, withBlocks}
 use Rattle.network.specs.Accept.{Entry, Message, messageOf, selected}
-use Rattle.network.specs.Flush.{due, stops, lands, unmark, clearing, logged, loggedAll}
-use Rattle.network.specs.Calls.{Call, liveStep, always, during, withHandlers, accept, flush, takeDown, bringUp, handlers, block, blockDuring, unblock, install, remove, decide, drain, reading}
+use Rattle.network.specs.Flush.{due, stops, lands, unmark, clearing, loggedAll}
+use Rattle.network.specs.Log as log
+use Rattle.network.specs.Log.{Log, logged, tallied, wrap, noTally}
+use Rattle.network.specs.Calls.{Call, liveStep, withHandlers, accept, flush, takeDown, bringUp, handlers, block, blockDuring, unblock, install, remove, decide, drain, reading}
 use Rattle.network.specs.Questions.{asked, firstNo}
 use Rattle.network.specs.Lent.{nearTill, nearDelivery, nearCopy, nearBlock}
-use Rattle.book.proofs.Each.{both, join, each-set, each-at, each-replicate, each-append, each-push, each-keep, each-front, each-behind, each-from, all-each}
+use Rattle.book.proofs.Each.{both, join, each-set, each-at, each-replicate, each-append, each-push, each-keep, each-front, each-behind, each-upTo, all-each}
 use Rattle.book.proofs.Sound.{selected-below, length-clearing}
 use Rattle.book.proofs.Marks.{clearing-rises}
 use Rattle.book.proofs.Asking.{all-yes, rising}
@@ -47,12 +52,22 @@ clearing-small n s (c ∷ cs) seen e = clearing-small n s cs (cond (stops s c &&
 
 module _ (z : Sizes) where
   logged-fits : (n : ℕ) (l : Log) (d : Delivery) → n ≡ z .logSlots → nearDelivery z d ≡ true → LogFits z l → LogFits z (logged n l d)
-  logged-fits zero l d e k f = f
-  logged-fits (suc n) l d e k f = record {
-    records = rw (sym e) (length-push (suc n) (l .records) d (rw e (f .records)));
-    tallies = length-set (l .tallies) (d .class) _ ∙ f .tallies;
-    near = each-push (λ (x : Delivery). nearDelivery z x ≡ true) (suc n) (l .records) d (f .near) k;
-  }
+  logged-fits n l d e k f = go (eqb n 0)
+    where
+      new : Log
+      new = record {
+        records = push n (l .records) d;
+        forced = cond (ltb (length (l .records)) n) (l .forced) (wrap (l .forced + 1));
+        tallies = set (l .tallies) (d .class) (tallied (getD (l .tallies) (d .class) noTally) (d .wire));
+      }
+
+      go : (b : Bool) → LogFits z (cond b l new)
+      go true = f
+      go false = record {
+        records = rw (sym e) (length-push n (l .records) d (rw e (f .records)));
+        tallies = length-set (l .tallies) (d .class) _ ∙ f .tallies;
+        near = each-push (λ (x : Delivery). nearDelivery z x ≡ true) n (l .records) d (f .near) k;
+      }
 
   log-fits : (cs : List Copy) (l : Log) → Each (λ (c : Copy). nearCopy z c ≡ true) cs → LogFits z l → LogFits z (loggedAll (z .logSlots) l cs)
   log-fits [] l e f = f
@@ -91,11 +106,11 @@ module _ (o : Opening) where
   with-engine : (s : Live) (e : Engine) → Fits (o .sizes) s → EngineFits (o .sizes) e → Fits (o .sizes) (withEngine s e)
   with-engine s e f h = record { tills = f .tills; masks = f .masks; hosts = f .hosts; seen = f .seen; rises = f .rises; engine = h; rings = f .rings; words = f .words; queue = f .queue; log = f .log }
 
-  pub add-block : (e : Engine) (b : Block) → EngineFits (o .sizes) e → ltb (length (e .blocks)) blockSlots ≡ true → nearBlock (o .sizes) b ≡ true → EngineFits (o .sizes) (withBlocks e (e .blocks ++ (b ∷ [])))
+  pub add-block : (e : Engine) (b : BlockWindow) → EngineFits (o .sizes) e → ltb (length (e .blocks)) blockSlots ≡ true → nearBlock (o .sizes) b ≡ true → EngineFits (o .sizes) (withBlocks e (e .blocks ++ (b ∷ [])))
   add-block e b f h n = record {
     blocks = omega (arith, length-append (e .blocks) (b ∷ []), ltb-true (length (e .blocks)) blockSlots h);
     rules = f .rules;
-    near = each-append (λ (x : Block). nearBlock (o .sizes) x ≡ true) (e .blocks) (b ∷ []) (f .near) (n, tt);
+    near = each-append (λ (x : BlockWindow). nearBlock (o .sizes) x ≡ true) (e .blocks) (b ∷ []) (f .near) (n, tt);
   }
 
   scope-below : (x n : ℕ) → n ≤ 16 → (eqb x global || ltb x n) ≡ true → x ≤ 16
@@ -113,7 +128,7 @@ module _ (o : Opening) where
       let x = both (ltb (e .kind) (o .sizes .types) && ltb (e .class) (o .sizes .classes)) (eqb (e .scope) global || ltb (e .scope) (o .sizes .shards)) h in
       let y = both (ltb (e .kind) (o .sizes .types)) (ltb (e .class) (o .sizes .classes)) (x .0) in
       let low = scope-below (e .scope) (o .sizes .shards) (lim .shards) (x .1) in
-      record { from = f; kind = y .0; class = y .1; ring = omega (arith, low, lim .types, ltb-true (e .kind) (o .sizes .types) (y .0)); wire = w }
+      record { from = f; kind = y .0; class = y .1; ring = omega (arith, low, ltb-true (e .kind) (o .sizes .types) (y .0)); wire = w }
 
   new-till : (s : Live) (t : ℕ) (x : Till) → Fits (o .sizes) s → nearTill (o .sizes) x ≡ true → Fits (o .sizes) (withTills s (set (s .tills) t x))
   new-till s t x f h = record {
@@ -184,41 +199,34 @@ module _ (o : Opening) where
   step-fits lim s (unblock from to) h f = with-engine s _ f (record {
     blocks = le-trans (length-keep _ (s .engine .blocks)) (f .engine .blocks);
     rules = f .engine .rules;
-    near = each-keep (λ (x : Block). nearBlock (o .sizes) x ≡ true) _ (s .engine .blocks) (f .engine .near);
+    near = each-keep (λ (x : BlockWindow). nearBlock (o .sizes) x ≡ true) _ (s .engine .blocks) (f .engine .near);
   })
   step-fits lim s (install card) h f =
       let y = all-yes 0 (asked o s (install card)) (rising o s (install card)) h in
-      let free = both (ltb (length (s .engine .rules)) ruleSlots) (ltb (s .engine .installed) lastNumber) (y .0) .0 in
+      let free = both (ltb (length (s .engine .rules)) ruleSlots) (ltb (s .engine .installed) mostRules) (y .0) .0 in
       with-engine s _ f (record { blocks = f .engine .blocks; rules = add-rule (s .engine .rules) _ free; near = f .engine .near })
   step-fits lim s (remove id) h f = with-engine s _ f (record { blocks = f .engine .blocks; rules = le-trans (length-without id (s .engine .rules)) (f .engine .rules); near = f .engine .near })
   step-fits lim s (decide x) h f = with-engine s _ f (ruled-fits (o .sizes) (s .engine) (o .draws .decide x (s .engine .rules) (s .engine .words)) (f .engine))
-  step-fits lim s (drain rows) h f = record { tills = f .tills; masks = f .masks; hosts = f .hosts; seen = f .seen; rises = f .rises; engine = f .engine; rings = f .rings; words = f .words; queue = f .queue; log = record { records = omega arith; tallies = length-replicate (o .sizes .classes) noTally; near = tt } }
+  step-fits lim s (drain rows) h f = record { tills = f .tills; masks = f .masks; hosts = f .hosts; seen = f .seen; rises = f .rises; engine = f .engine; rings = f .rings; words = f .words; queue = f .queue; log = record { records = omega arith; tallies = length-replicate log.classes noTally; near = tt } }
   step-fits lim s (reading r) h f = f
 
   -- ---- The opening
 
-  pub open-length : (masks : List ℕ) (n : ℕ) → length (openTills masks n) ≡ n
-  open-length masks n = length-from 0 n
-    where
-      length-from : (i k : ℕ) → length (listFrom i k (λ t. upTill (getD masks t 0))) ≡ k
-      length-from i zero = refl
-      length-from i (suc k) = ap suc (length-from (suc i) k)
-
   pub opening-fits : (masks : List ℕ) → allOf (λ m. within m (o .sizes .shards)) masks ≡ true → Fits (o .sizes) (openingLive (o .sizes) masks)
   opening-fits masks h = record {
-    tills = open-length masks (o .sizes .tills);
-    masks = each-from (λ (t : Till). nearTill (o .sizes) t ≡ true) 0 (o .sizes .tills) (λ t. upTill (getD masks t 0))
-        (λ t. up-near (o .sizes) (getD masks t 0) (each-at (λ m. within m (o .sizes .shards) ≡ true) masks t 0 (all-each (λ m. within m (o .sizes .shards)) masks h) (zero-within (o .sizes .shards))));
+    tills = length-upTo (o .sizes .tills) (λ t. upTill (getD masks t 0));
+    masks = each-upTo (λ (t : Till). nearTill (o .sizes) t ≡ true) (o .sizes .tills) (λ t. upTill (getD masks t 0))
+        (λ t l. up-near (o .sizes) (getD masks t 0) (each-at (λ m. within m (o .sizes .shards) ≡ true) masks t 0 (all-each (λ m. within m (o .sizes .shards)) masks h) (zero-within (o .sizes .shards))));
     hosts = length-replicate {A = List ℕ} (o .sizes .tills) [];
     seen = each-replicate (Small (o .sizes .seenSlots)) (o .sizes .tills) [] (omega arith);
     rises = each-replicate Rises (o .sizes .tills) [] tt;
     engine = record { blocks = omega arith; rules = omega arith; near = tt };
     rings = record {
-      many = length-replicate {A = List Carried} ringCount [];
-      small = each-replicate (λ (l : List Carried). length l ≤ ringSlots) ringCount [] (omega arith);
-      near = each-replicate (NearRing (o .sizes)) ringCount [] tt;
+      many = length-replicate {A = List Carried} (ringsOf (o .sizes)) [];
+      small = each-replicate (λ (l : List Carried). length l ≤ slots) (ringsOf (o .sizes)) [] (omega arith);
+      near = each-replicate (NearRing (o .sizes)) (ringsOf (o .sizes)) [] tt;
     };
     words = length-replicate {A = ℕ} links 0;
     queue = record { few = omega arith; near = tt };
-    log = record { records = omega arith; tallies = length-replicate (o .sizes .classes) noTally; near = tt };
+    log = record { records = omega arith; tallies = length-replicate log.classes noTally; near = tt };
   }

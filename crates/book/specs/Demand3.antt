@@ -11,7 +11,8 @@ use Rattle.waiting.specs.declared.Copy.{Copy}
 use Rattle.rules.specs.Rules.{Ascending}
 use Rattle.network.specs.Lists.{bit, count, some-of}
 use Rattle.network.specs.Opening.{Settings, Opening}
-use Rattle.network.specs.Live.{Live, Log, emptyLog, marked}
+use Rattle.network.specs.Live.{Live, marked}
+use Rattle.network.specs.Log.{Log, emptyLog}
 use Rattle.network.specs.Accept.{messageOf, selected, Booked, booked, noCounts, tally, total}
 use Rattle.network.specs.Flush.{Row, handled, due, loggedAll}
 use Rattle.network.specs.Calls.{Call, Answer, silent, counted, countsIn, rowsIn, deliveredIn, dropsIn, accept, flush, takeDown, bringUp, handlers, block, blockDuring, unblock, install, remove, decide, drain, reading}
@@ -136,7 +137,7 @@ module _ (o : Opening) where
   isDrain (reading r) = false
 
   abbrev pub logFrom : Bool → Log → Answer → Log
-  logFrom true l a = emptyLog (o .sizes .classes)
+  logFrom true l a = emptyLog
   logFrom false l a = loggedAll (o .sizes .logSlots) l (copiesOf (rowsIn a))
 
   abbrev pub LogOf : Book → Book → Item → Reply → Type 0

@@ -13,9 +13,10 @@ use Rattle.blocks.specs.declared.BlockWindow.{BlockWindow}
 use Rattle.blocks.specs.Blocks.{blocked, always, during}
 use Rattle.blocks.specs.Blocks as blocks
 use Rattle.waiting.specs.declared.Copy.{Copy}
+use Rattle.network.specs.Log.{Tally, noTally, Log, emptyLog}
 use Rattle.network.specs.Lists.{bit, count}
 use Rattle.network.specs.Opening.{Opening, longestInput}
-use Rattle.network.specs.Live.{Context, Till, downTill, upTill, Tally, noTally, Log, emptyLog, Live, Engine, withBlocks, withRules, withTills, withSeen, withEngine, withLog, tillAt, idsAt, isUp, inTransit}
+use Rattle.network.specs.Live.{Context, Till, downTill, upTill, Live, Engine, withBlocks, withRules, withTills, withSeen, withEngine, withLog, tillAt, idsAt, isUp, inTransit}
 use Rattle.network.specs.Accept.{Entry, messageOf, selected, liveAfter, booked, Counts, noCounts, tally, ruled}
 use Rattle.network.specs.Flush.{Row, rowsOf, dropsOf, handled, due, flushed}
 
@@ -95,7 +96,7 @@ module _ (o : Opening) where
   liveStep s (install card) = withEngine s (ruleAdded s.engine (fieldsOf card))
   liveStep s (remove id) = withEngine s (ruleRemoved s.engine id)
   liveStep s (decide x) = withEngine s (ruled s.engine (o .draws .decide x (s .engine .rules) (s .engine .words)))
-  liveStep s (drain rows) = withLog s (emptyLog (o .sizes .classes))
+  liveStep s (drain rows) = withLog s (emptyLog)
   liveStep s (reading r) = s
 
 -- ---- Answers: what a call answers beside a refusal's number

@@ -2,17 +2,17 @@
 use Prim.Native.Nat.{ℕ, zero, suc, _+_, _*_}
 use mathlib.Core.Bool.{Bool, true, false, cond, not, _&&_, _||_}
 use mathlib.Core.List.{List, [], _∷_, _++_, map}
-use lib.Dec.{eqb, leb, ltb}
+use lib.Dec.{eqb}
 use lib.ListN.{length, getD, set}
 use Rattle.rows.specs.Rows.{keep}
-use Rattle.delivery.specs.declared.Delivery.{Delivery}
 use Rattle.waiting.specs.declared.Copy.{Copy}
 use Rattle.waiting.specs.Waiting.{onTime}
-use Rattle.rows.specs.Lists.{front, behind, push}
-use Rattle.network.specs.Lists.{bit, count, wrap, bitAt}
+use Rattle.rows.specs.Lists.{front, behind}
+use Rattle.network.specs.Lists.{bit, count, bitAt}
 use Rattle.marks.specs.Marks.{removed}
+use Rattle.network.specs.Log.{Log, logged}
 use Rattle.network.specs.Opening.{Opening, global}
-use Rattle.network.specs.Live.{Till, Tally, noTally, Log, Live, isOriginal, tillAt, stopped, withSeen, withWaiting, withLog}
+use Rattle.network.specs.Live.{Live, isOriginal, tillAt, stopped, withSeen, withWaiting, withLog}
 
 -- the waiting copies with a time at or before now: a front part, since they stand by time, then sequence
 abbrev pub due : ℕ → Live → List Copy
@@ -63,18 +63,7 @@ dropsOf s cs = count (stops s) cs
 
 -- ---- The log
 
-abbrev pub tallied : Tally → Delivery → Tally
-tallied t d = record { deliveries = wrap (t .deliveries + 1); bytes = wrap (t .bytes + d .wire) }
-
--- a log of capacity 0 keeps neither records nor tallies; where all places are taken, the oldest record is forced out
-abbrev pub logged : ℕ → Log → Delivery → Log
-logged zero l d = l
-logged (suc n) l d = record {
-  records = push (suc n) (l .records) d;
-  forced = wrap (l .forced + cond (ltb (length (l .records)) (suc n)) 0 1);
-  tallies = set (l .tallies) (d .class) (tallied (getD (l .tallies) (d .class) noTally) d);
-}
-
+-- each row's delivery, in their order
 abbrev pub loggedAll : ℕ → Log → List Copy → Log
 loggedAll places l [] = l
 loggedAll places l (c ∷ cs) = loggedAll places (logged places l (c .delivery)) cs

@@ -90,8 +90,8 @@ module _ (z : Sizes) (T : Tables) where
 
   abbrev pub logTests : List Bool
   logTests =
-      hasLength (T .log) (log.size (z .logSlots)) ∷ leb (log.countOf (T .log)) (z .logSlots) ∷ leb (log.firstOf (T .log)) (z .logSlots - 1)
-      ∷ allOf (nearDelivery z) (log.logOf (z .logSlots) (T .log)) ∷ []
+      hasLength (T .log) (log.sizeOf (z .logSlots)) ∷ log.soundLog (z .logSlots) (T .log)
+      ∷ allOf (nearDelivery z) (log.recordsOf (z .logSlots) (T .log)) ∷ []
 
 -- the prices that a plan can give, and regions below their number
 abbrev pub pricesTests : Tables → List Bool

@@ -7,6 +7,7 @@ use lib.ListN.{length, getD, replicate}
 use Rattle.delivery.specs.declared.Delivery.{Delivery}
 use Rattle.waiting.specs.declared.Copy.{Copy}
 use Rattle.marks.specs.Marks.{found}
+use Rattle.network.specs.Log.{Log, emptyLog}
 use Rattle.rings.specs.declared.Entry as rings
 use Rattle.rule.specs.declared.Message as rule
 use Rattle.rules.specs.declared.FaultRule.{FaultRule}
@@ -70,19 +71,6 @@ withBlocks e x = record { blocks = x; rules = e .rules; installed = e .installed
 abbrev pub withRules : Engine → List FaultRule → ℕ → ℕ → Engine
 withRules e x installed words = record { blocks = e .blocks; rules = x; installed = installed; words = words }
 
--- ---- The log
-
--- `ClassTally`
-pub record Tally : Type 0 where
-  pub deliveries : ℕ
-  pub bytes : ℕ
-
--- the records, oldest first, how many were forced out, and the tallies of each class
-pub record Log : Type 0 where
-  pub records : List Delivery
-  pub forced : ℕ
-  pub tallies : List Tally
-
 -- ---- The live part
 
 pub record Live : Type 0 where
@@ -145,12 +133,6 @@ ringsOf z = z .types * scopes
 
 -- ---- The opening: all tills up, shard masks as given, the rest empty or at its first number
 
-abbrev pub noTally : Tally
-noTally = record { deliveries = 0; bytes = 0 }
-
-abbrev pub emptyLog : ℕ → Log
-emptyLog classes = record { records = []; forced = 0; tallies = replicate classes noTally }
-
 abbrev pub openTills : List ℕ → ℕ → List Till
 openTills masks n = upTo n (λ t. upTill (getD masks t 0))
 
@@ -163,5 +145,5 @@ openingLive z masks = record {
   words = replicate links 0;
   sequence = 0;
   waiting = [];
-  log = emptyLog (z .classes);
+  log = emptyLog;
 }

@@ -52,7 +52,7 @@ lengthsOf x =
       rings = ringsOf z * (rings.headWidth + rings.span);
       rules = ruleSlots * ruleForm .width;
       blocks = blockSlots * blockForm .width;
-      log = log.size (z .logSlots);
+      log = log.sizeOf (z .logSlots);
     }
 
 module _ (x : Settings) (masks : List ℕ) (T : Tables) where
@@ -94,7 +94,7 @@ module _ (x : Settings) (masks : List ℕ) (T : Tables) where
         rings = replicate (ringsOf z * rings.headWidth) 0 ++ drop (ringsOf z * rings.headWidth) (T .rings);
         rules = T .rules;
         blocks = T .blocks;
-        log = replicate log.head 0 ++ drop log.head (T .log);
+        log = log.clearedAt (T .log);
       }
 
 abbrev pub openExit : Settings → List ℕ → Tables → ℕ → Tables

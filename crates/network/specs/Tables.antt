@@ -19,7 +19,7 @@ use Rattle.blocks.specs.declared.BlockWindow.{BlockWindow}
 use Rattle.rows.specs.Lists.{upTo}
 use Rattle.network.specs.Lists.{every, within}
 use Rattle.network.specs.Opening.{Sizes, Config, Plan, Settings, longestName, longestKey, mostTypes, mostShards}
-use Rattle.network.specs.Live.{Till, Tally, Live, ringsOf}
+use Rattle.network.specs.Live.{Till, Live, ringsOf}
 
 abbrev pub cell : List ℕ → ℕ → ℕ
 cell xs i = getD xs i 0
@@ -127,9 +127,6 @@ pub record Tables : Type 0 where
   pub blocks : List ℕ
   pub log : List ℕ
 
-abbrev pub tallyAt : List ℕ → ℕ → Tally
-tallyAt log c = record { deliveries = cell log (3 + c * 2); bytes = cell log (4 + c * 2) }
-
 -- what of the book the tables hold
 abbrev pub live : Sizes → Tables → Live
 live z T = record {
@@ -145,5 +142,5 @@ live z T = record {
   words = T .words;
   sequence = cell (T .net) sequenceAt;
   waiting = rowsOf waiting.form (T .waiting) (cell (T .net) waitingAt);
-  log = record { records = log.logOf (z .logSlots) (T .log); forced = cell (T .log) 2; tallies = upTo (z .classes) (tallyAt (T .log)) };
+  log = log.logOf (z .logSlots) (T .log);
 }

@@ -12,9 +12,7 @@ use Rattle.delivery.specs.declared.Delivery.{Delivery}
 use Rattle.waiting.specs.Waiting as waiting
 use Rattle.waiting.specs.Waiting.{insertCopy, onTime}
 use Rattle.waiting.specs.declared.Copy.{Copy}
-use Rattle.rule.specs.declared.DropSpec.{DropSpec}
-use Rattle.card.specs.Card.{fieldsOf}
-use Rattle.rules.specs.Rules.{ruleWidth, putAt, newRule, without, removeTable, fireTable}
+use Rattle.rules.specs.Rules.{without, installTable, removeTable, fireTable}
 use Rattle.decide.specs.Decide.{Decision}
 use Rattle.marks.specs.Marks.{placed, removed}
 use Rattle.rings.specs.Rings as rings
@@ -90,11 +88,11 @@ abbrev pub unblockT : Tables → ℕ → ℕ → Tables
 unblockT T from to = let n = cell (T .net) blocksAt in setBlocks (netT T blocksAt (openCount from to (T .blocks) n)) (unblockTable from to (T .blocks) n)
 
 -- a rule more, with the next id
-abbrev pub installT : Tables → DropSpec → Tables
-installT T d =
+abbrev pub installT : Tables → List ℕ → Tables
+installT T card =
     let n = cell (T .net) rulesAt in
     let ever = cell (T .net) installedAt in
-    setRules (netT (netT T rulesAt (suc n)) installedAt (suc ever)) (putAt (T .rules) (n * ruleWidth) (newRule ever d))
+    setRules (netT (netT T rulesAt (suc n)) installedAt (suc ever)) (installTable (T .rules) n ever card)
 
 abbrev pub removeT : Sizes → Tables → ℕ → Tables
 removeT z T id = setRules (netT T rulesAt (length (without id (live z T .engine .rules)))) (removeTable (T .rules) (cell (T .net) rulesAt) id)
@@ -105,14 +103,14 @@ ruledT T v = let T₁ = netT T faultWordsAt (v .words) in cond (v .drops) (setRu
 
 -- a delivery into the log
 abbrev pub recordT : Sizes → Tables → Delivery → Tables
-recordT z T d = setLog T (log.logged (z .logSlots) (T .log) d)
+recordT z T d = setLog T (log.pushed (z .logSlots) (T .log) d)
 
 abbrev pub recordAllT : Sizes → Tables → List Copy → Tables
 recordAllT z T [] = T
 recordAllT z T (c ∷ cs) = recordAllT z (recordT z T (c .delivery)) cs
 
 abbrev pub drainT : Tables → Tables
-drainT T = setLog T (replicate log.head 0 ++ drop log.head (T .log))
+drainT T = setLog T (log.clearedAt (T .log))
 
 -- ---- Accept
 
@@ -173,7 +171,7 @@ module _ (o : Opening) where
   stepT T (block from to) = blockT T (always from to)
   stepT T (blockDuring from to start end) = blockT T (during from to start end)
   stepT T (unblock from to) = unblockT T from to
-  stepT T (install card) = installT T (fieldsOf card)
+  stepT T (install card) = installT T card
   stepT T (remove id) = removeT (o .sizes) T id
   stepT T (decide x) = ruledT T (o .draws .decide x (live (o .sizes) T .engine .rules) (live (o .sizes) T .engine .words))
   stepT T (drain rows) = drainT T
