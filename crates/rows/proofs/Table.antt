@@ -1,17 +1,17 @@
 -- Laws of a form of rows: what is read of rows written, and what an insertion and a removal make of a table. Assumes nothing.
 use mathlib.Core.Path.{_≡_, refl, sym, ap, _∙_}
-use mathlib.Core.List.{List, [], _∷_, _++_, append-assoc}
+use mathlib.Core.List.{List, [], _∷_, _++_, append-assoc, append-nil}
 use mathlib.Core.Bool.{true}
 use Prim.Native.Nat.{ℕ, zero, suc, _+_, _*_, _-_, _≤_, _<_}
 use native.Mathlib.Nat.{zero-mul, suc-mul, add-mul, mul-le-mul-right}
 use native.Mathlib.Omega.{arith}
-use lib.ListN.{length, getD, take, drop, length-append, length-take, length-drop, take-append-drop}
-use lib.Seq.{drop-drop, take-add}
+use lib.ListN.{length, getD, take, drop, set, length-append, length-take, length-drop, take-append-drop}
+use lib.Seq.{drop-drop, take-add, drop-at, take-at, set-split, getD-at}
 use Rattle.shift.specs.Shift.{insertedWords, closed, putWords}
 use Rattle.shift.proofs.Laws.{region-before}
 use Rattle.rows.specs.Rows.{rows, flat}
 use Rattle.rows.specs.Table.{Form, Exact, rowsOf, over}
-use Rattle.rows.proofs.Rows.{part, length-rows, take-rows, drop-rows, length-flat, flat-append, rows-flat}
+use Rattle.rows.proofs.Rows.{part, length-rows, rows-split, rows-next, take-rows, drop-rows, rows-take, rows-put, length-flat, flat-append, rows-flat}
 
 -- only the words of a row count
 pub alone : {R : Type 0} (f : Form R) → Exact f → (l m : List ℕ) → f .width ≤ length l → f .read (l ++ m) ≡ f .read l
@@ -107,3 +107,52 @@ module _ {R : Type 0} (f : Form R) (x : Exact f) where
       ∙ ap (λ (j : ℕ). take j (drop (k * S) ws) ++ drop j ws) m
       ∙ ap (λ (w : List ℕ). w ++ drop ((n - k) * S) ws) (sym a)
       ∙ ap (λ (j : ℕ). flat (f .words) (drop k rs) ++ drop (j * S) ws) (sym ll)
+
+  -- ROW p anew
+  pub rows-set : (ws : List ℕ) (n p : ℕ) (e : R) → p < n → n * f .width ≤ length ws → rowsOf f (putWords ws (p * f .width) (f .words e)) n ≡ set (rowsOf f ws n) p e
+  unfolding putWords
+  rows-set ws n p e h room =
+      let S = f .width in
+      let rs = rowsOf f ws n in
+      let lw : p * S + length (f .words e) ≡ p * S + S = ap (λ (k : ℕ). p * S + k) (x .long e) in
+      let l = length-rows S (f .read) n ws in
+      let q : p + 1 ≡ suc p = omega arith in
+      let own : f .read (f .words e) ≡ e = ap (f .read) (sym (append-nil (f .words e))) ∙ x .back e [] in
+      ap (λ (k : ℕ). rowsOf f (take (p * S) ws ++ (f .words e ++ drop k ws)) n) lw
+      ∙ rows-put S (f .read) (alone f x) ws (f .words e) n p (x .long e) h room
+      ∙ ap (λ (r : R). take p rs ++ (r ∷ drop (p + 1) rs)) own
+      ∙ ap (λ (k : ℕ). take p rs ++ (e ∷ drop k rs)) q
+      ∙ sym (set-split rs p e (omega arith))
+
+  -- A ROW MORE behind those written
+  pub over-more : (rs : List R) (ws : List ℕ) (n : ℕ) (e : R) → length rs ≡ n → (n + 1) * f .width ≤ length ws → putWords (over f rs ws) (n * f .width) (f .words e) ≡ over f (rs ++ (e ∷ [])) ws
+  unfolding over putWords
+  over-more rs ws n e ln room =
+      let S = f .width in
+      let a : List ℕ = flat (f .words) rs in
+      let la : length a ≡ n * S = length-words rs ∙ ap (λ (k : ℕ). k * S) ln in
+      let q : n * S + S ≡ (n + 1) * S = omega (arith, add-mul n 1 S) in
+      let lw : length (f .words e) ≡ S = x .long e in
+      let ll : length (rs ++ (e ∷ [])) ≡ n + 1 = length-append rs (e ∷ []) ∙ ap (λ (k : ℕ). k + 1) ln in
+      let back : List ℕ = drop (length rs * S) ws in
+      let r : drop (n * S + length (f .words e)) (a ++ back) ≡ drop ((n + 1) * S) ws
+      = sym (drop-drop (length (f .words e)) (n * S) (a ++ back)) ∙ ap (drop (length (f .words e))) (drop-at a back (n * S) la)
+      ∙ drop-drop (length (f .words e)) (length rs * S) ws ∙ (let z : length rs * S + length (f .words e) ≡ (n + 1) * S = rw (ln, lw) q in ap (λ (k : ℕ). drop k ws) z) in
+      ap (λ (w : List ℕ). w ++ (f .words e ++ drop (n * S + length (f .words e)) (a ++ back))) (take-at a back (n * S) la)
+      ∙ ap (λ (w : List ℕ). a ++ (f .words e ++ w)) r
+      ∙ sym (append-assoc a (f .words e) (drop ((n + 1) * S) ws))
+      ∙ ap (λ (w : List ℕ). (a ++ w) ++ drop ((n + 1) * S) ws) (sym (append-nil (f .words e)))
+      ∙ ap (λ (w : List ℕ). w ++ drop ((n + 1) * S) ws) (sym (flat-append S (f .read) (f .words) (λ r. true) (x .long) (x .back) rs (e ∷ [])))
+      ∙ ap (λ (k : ℕ). flat (f .words) (rs ++ (e ∷ [])) ++ drop (k * S) ws) (sym ll)
+
+  -- n rows are read from their words alone
+  pub rows-within : (ws ws' : List ℕ) (n : ℕ) → take (n * f .width) ws' ≡ take (n * f .width) ws → n * f .width ≤ length ws → n * f .width ≤ length ws' → rowsOf f ws' n ≡ rowsOf f ws n
+  rows-within ws ws' n e h h' = sym (rows-take (f .width) (f .read) (alone f x) n ws' h') ∙ ap (λ (w : List ℕ). rowsOf f w n) e ∙ rows-take (f .width) (f .read) (alone f x) n ws h
+
+-- row p of n
+pub row-at : {R : Type 0} (f : Form R) (ws : List ℕ) (n p : ℕ) (d : R) → p < n → getD (rowsOf f ws n) p d ≡ f .read (drop (p * f .width) ws)
+row-at {R} f ws n p d h =
+    let S = f .width in
+    let l = length-rows S (f .read) p ws in
+    ap (λ (r : List R). getD r p d) (rows-split S (f .read) ws n p (omega arith) ∙ ap (λ (r : List R). rowsOf f ws p ++ r) (rows-next S (f .read) ws n p h))
+    ∙ getD-at (rowsOf f ws p) (f .read (drop (p * S) ws)) (rowsOf f (drop ((p + 1) * S) ws) (n - (p + 1))) d p l

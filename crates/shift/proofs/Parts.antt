@@ -4,7 +4,7 @@ use mathlib.Core.List.{List, [], _∷_, _++_, append-assoc}
 use Prim.Native.Nat.{ℕ, suc, _+_, _-_, _≤_, _<_}
 use native.Mathlib.Omega.{arith}
 use lib.ListN.{length, take, drop, set, length-take, length-append, length-drop, take-append-drop}
-use lib.Seq.{take-take, drop-drop, length-take-le, drop-append-le, take-append-le, drop-at, take-at}
+use lib.Seq.{take-take, drop-drop, length-take-le, drop-append-le, take-append-le, drop-at, take-at, take-add}
 use Rattle.shift.specs.Shift.{opened, closed, putWords, insertedWords}
 use Rattle.shift.proofs.Laws.{region-inserted, region-closed, inserted-before, inserted-behind, closed-before, closed-behind}
 
@@ -82,3 +82,15 @@ module _ (ws : List ℕ) (s : ℕ) (v : List ℕ) where
       ∙ ap (drop k) (drop-at v (drop (s + n) ws) n refl)
       ∙ drop-drop k (s + n) ws
       ∙ ap (λ (j : ℕ). drop j ws) e2
+
+  -- what is put behind t, of the words from t on
+  pub drop-put : (t : ℕ) → t + s ≤ length ws → drop t (putWords ws (t + s) v) ≡ putWords (drop t ws) s v
+  unfolding putWords
+  drop-put t room =
+      let e : t + s + length v ≡ t + (s + length v) = omega arith in
+      let lt : length (take t ws) ≡ t = length-take-le t ws (omega arith) in
+      ap (λ (x : List ℕ). drop t (x ++ (v ++ drop (t + s + length v) ws))) (take-add t s ws)
+      ∙ ap (drop t) (append-assoc (take t ws) (take s (drop t ws)) (v ++ drop (t + s + length v) ws))
+      ∙ drop-at (take t ws) (take s (drop t ws) ++ (v ++ drop (t + s + length v) ws)) t lt
+      ∙ ap (λ (j : ℕ). take s (drop t ws) ++ (v ++ drop j ws)) e
+      ∙ ap (λ (x : List ℕ). take s (drop t ws) ++ (v ++ x)) (sym (drop-drop (s + length v) t ws))
