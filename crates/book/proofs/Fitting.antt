@@ -26,8 +26,8 @@ use Rattle.blocks.specs.Blocks.{blockSlots}
 use Rattle.blocks.specs.declared.BlockWindow.{BlockWindow}
 use Rattle.rings.specs.Rings.{slots, numberOf}
 use Rattle.network.specs.Live.{numbered, Carried, Till, Engine, Live, ringsOf, idsAt, marked, stopped}
-use Rattle.network.specs.Log as log
-use Rattle.network.specs.Log.{Log}
+use Rattle.log.specs.Log as log
+use Rattle.log.specs.Log.{Log}
 use Rattle.network.specs.Accept.{Message, Drawn, drawn, original, echo, carriedOf, ringFor, Class, deduplicated, partition, loss, fault, sent, classOf, copies, insertAll, mark, remembered, ruled, effect, offered, liveAfter}
 use Rattle.network.specs.Lent.{nearTill, nearDelivery, nearCopy, nearBlock, nearCarried}
 use Rattle.book.proofs.Each.{both, join, each-set, each-at, each-push}

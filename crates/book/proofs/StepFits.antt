@@ -28,8 +28,8 @@ use Rattle.rings.specs.Rings.{slots}
 use Rattle.network.specs.Live.{Carried, Till, downTill, upTill, Engine, Live, openTills, openingLive, isOriginal, ringsOf, tillAt, withTills, withEngine, withBlocks}
 use Rattle.network.specs.Accept.{Entry, Message, messageOf, selected}
 use Rattle.network.specs.Flush.{due, stops, lands, unmark, clearing, loggedAll}
-use Rattle.network.specs.Log as log
-use Rattle.network.specs.Log.{Log, logged, tallied, wrap, noTally}
+use Rattle.log.specs.Log as log
+use Rattle.log.specs.Log.{Log, logged, tallied, wrap, noTally}
 use Rattle.network.specs.Calls.{Call, liveStep, withHandlers, accept, flush, takeDown, bringUp, handlers, block, blockDuring, unblock, install, remove, decide, drain, reading}
 use Rattle.network.specs.Questions.{asked, firstNo}
 use Rattle.network.specs.Lent.{nearTill, nearDelivery, nearCopy, nearBlock}

@@ -12,7 +12,7 @@ use Rattle.rules.specs.Rules.{Ascending}
 use Rattle.network.specs.Lists.{bit, count, some-of}
 use Rattle.network.specs.Opening.{Settings, Opening}
 use Rattle.network.specs.Live.{Live, marked}
-use Rattle.network.specs.Log.{Log, emptyLog}
+use Rattle.log.specs.Log.{Log, emptyLog}
 use Rattle.network.specs.Accept.{messageOf, selected, Booked, booked, noCounts, tally, total}
 use Rattle.network.specs.Flush.{Row, handled, due, loggedAll}
 use Rattle.network.specs.Calls.{Call, Answer, silent, counted, countsIn, rowsIn, deliveredIn, dropsIn, accept, flush, takeDown, bringUp, handlers, block, blockDuring, unblock, install, remove, decide, drain, reading}

@@ -13,7 +13,8 @@ use Rattle.blocks.specs.declared.BlockWindow.{BlockWindow}
 use Rattle.blocks.specs.Blocks.{blocked, always, during}
 use Rattle.blocks.specs.Blocks as blocks
 use Rattle.waiting.specs.declared.Copy.{Copy}
-use Rattle.network.specs.Log.{Tally, noTally, Log, emptyLog}
+use Rattle.log.specs.declared.Tally.{Tally}
+use Rattle.log.specs.Log.{noTally, Log, emptyLog}
 use Rattle.network.specs.Lists.{bit, count}
 use Rattle.network.specs.Opening.{Opening, longestInput}
 use Rattle.network.specs.Live.{Context, Till, downTill, upTill, Live, Engine, withBlocks, withRules, withTills, withSeen, withEngine, withLog, tillAt, idsAt, isUp, inTransit}

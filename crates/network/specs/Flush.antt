@@ -10,7 +10,7 @@ use Rattle.waiting.specs.Waiting.{onTime}
 use Rattle.rows.specs.Lists.{front, behind}
 use Rattle.network.specs.Lists.{bit, count, bitAt}
 use Rattle.marks.specs.Marks.{removed}
-use Rattle.network.specs.Log.{Log, logged}
+use Rattle.log.specs.Log.{Log, logged}
 use Rattle.network.specs.Opening.{Opening, global}
 use Rattle.network.specs.Live.{Live, isOriginal, tillAt, stopped, withSeen, withWaiting, withLog}
 

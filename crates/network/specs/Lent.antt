@@ -12,7 +12,7 @@ use Rattle.delivery.specs.Delivery as delivery
 use Rattle.waiting.specs.Waiting as waiting
 use Rattle.waiting.specs.declared.Copy.{Copy}
 use Rattle.rings.specs.Rings as rings
-use Rattle.network.specs.Log as log
+use Rattle.log.specs.Log as log
 use Rattle.blocks.specs.declared.BlockWindow.{BlockWindow}
 use Rattle.ring.specs.Ring.{soundAt}
 use Rattle.geography.specs.Geography.{atLeastOne, linkIn, linkAdmitted}

@@ -7,7 +7,7 @@ use lib.ListN.{length, getD, replicate}
 use Rattle.delivery.specs.declared.Delivery.{Delivery}
 use Rattle.waiting.specs.declared.Copy.{Copy}
 use Rattle.marks.specs.Marks.{found}
-use Rattle.network.specs.Log.{Log, emptyLog}
+use Rattle.log.specs.Log.{Log, emptyLog}
 use Rattle.rings.specs.declared.Entry as rings
 use Rattle.rule.specs.declared.Message as rule
 use Rattle.rules.specs.declared.FaultRule.{FaultRule}

@@ -7,7 +7,7 @@ use lib.ListN.{length, drop, replicate}
 use Rattle.rows.specs.Rows.{allOf, flat}
 use Rattle.waiting.specs.Waiting as waiting
 use Rattle.rings.specs.Rings as rings
-use Rattle.network.specs.Log as log
+use Rattle.log.specs.Log as log
 use Rattle.rules.specs.Rules.{ruleSlots}
 use Rattle.blocks.specs.Blocks.{blockSlots}
 use Rattle.network.specs.Lists.{every, within}

@@ -11,7 +11,7 @@ use Rattle.waiting.specs.Waiting as waiting
 use Rattle.waiting.specs.declared.Copy.{Copy}
 use Rattle.marks.specs.Marks.{idsOf}
 use Rattle.rings.specs.Rings as rings
-use Rattle.network.specs.Log as log
+use Rattle.log.specs.Log as log
 use Rattle.rules.specs.Rules as rules
 use Rattle.rules.specs.declared.FaultRule.{FaultRule}
 use Rattle.blocks.specs.Blocks as blocks

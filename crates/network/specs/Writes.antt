@@ -16,7 +16,7 @@ use Rattle.rules.specs.Rules.{without, installTable, removeTable, fireTable}
 use Rattle.decide.specs.Decide.{Decision}
 use Rattle.marks.specs.Marks.{placed, removed}
 use Rattle.rings.specs.Rings as rings
-use Rattle.network.specs.Log as log
+use Rattle.log.specs.Log as log
 use Rattle.blocks.specs.declared.BlockWindow.{BlockWindow}
 use Rattle.blocks.specs.Blocks.{always, during, blockTable, unblockTable, openCount}
 use Rattle.network.specs.Opening.{Sizes, Opening, link}
