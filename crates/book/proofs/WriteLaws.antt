@@ -1,13 +1,13 @@
 -- One lemma a write: it is the book's change of what the tables hold.
 use mathlib.Core.Path.{_≡_, refl, sym, ap, _∙_, subst}
-use Prim.Native.Nat.{ℕ, zero, suc, _+_, _-_, _*_, _≤_, _<_}
+use Prim.Native.Nat.{ℕ, zero, suc, _+_, _-_, _*_, _%_, _^_, _≤_, _<_}
 use native.Mathlib.Omega.{arith}
 use native.Mathlib.Nat.{le-refl, le-trans, mul-le-mul-right, suc-mul}
 use mathlib.Core.Bool.{Bool, true, false, cond, not}
 use mathlib.Core.List.{List, [], _∷_, _++_, append-nil}
 use mathlib.Core.Logic.{_⊎_, inl, inr}
 use lib.Dec.{eqb, ltb}
-use lib.ListN.{length, getD, set, take, drop, length-set, length-drop, length-append, length-take}
+use lib.ListN.{length, getD, set, take, drop, replicate, length-set, length-drop, length-append, length-take}
 use lib.Seq.{getD-set-same, getD-set-other, set-split, drop-set-lt, take-set-le, getD-take, getD-drop, length-take-le}
 use borrow.Author.Tests.{eqb-true, eqb-false, ltb-true, ltb-false}
 use Rattle.shift.specs.Shift.{putWords, closed}
@@ -279,3 +279,154 @@ module _ (z : Sizes) (T : Tables) (f : Formed z T) where
         holds = (λ j. live z (setBlocks (setNet T (set (six (T .net) net-size j) blocksAt left)) (unblockTable from to (T .blocks) n)))
             ∙ (λ j. withEngine (live z T) (withBlocks (live z T .engine) (blocks-unblocked from to (T .blocks) n j)));
       }
+
+  -- ---- Rules
+
+  length-install : (n ever : ℕ) (card : List ℕ) → n < ruleSlots → length (installTable (T .rules) n ever card) ≡ length (T .rules)
+  unfolding installTable putAt
+  length-install n ever card h = go (eqb (installNumber n ever card) 0)
+    where
+      go : (x : Bool) → length (cond x (putWords (T .rules) (n * ruleWidth) (words (record { id = ever; spec = fieldsOf card; fired = 0 }))) (T .rules)) ≡ length (T .rules)
+      go true = length-put (T .rules) (n * ruleWidth) (words (record { id = ever; spec = fieldsOf card; fired = 0 })) (omega (arith, f .rules))
+      go false = refl
+
+  pub install-wrote : (card : List ℕ) → installNumber (cell (T .net) rulesAt) (cell (T .net) installedAt) card ≡ 0 → Wrote z (installT T card) (withEngine (live z T) (ruleAdded (live z T .engine) (fieldsOf card)))
+  install-wrote card h =
+      let n : ℕ = cell (T .net) rulesAt in
+      let ever : ℕ = cell (T .net) installedAt in
+      let few = install-room n ever card h in
+      let one : n + 1 ≡ suc n = omega arith in
+      let table = installTable (T .rules) n ever card in
+      let read = ap (rowsOf ruleForm table) (sym one) ∙ rules-installed (T .rules) n ever card (omega (arith, f .rules)) h in
+      let net₁ = net-rules z (T .net) (f .net) (suc n) few in
+      record {
+        formed = formed-rules z _ (formed-net z T f _ (net-plain z (set (T .net) rulesAt (suc n)) net₁ installedAt (suc ever) (λ e. omega arith) (λ e. omega arith) (λ e. omega arith))) _
+            (length-install n ever card few ∙ f .rules);
+        holds = (λ j. live z (setRules (setNet T (set (set (six (T .net) net-size j) rulesAt (suc n)) installedAt (suc ever))) table))
+            ∙ (λ j. withEngine (live z T) (withRules (live z T .engine) (read j) (suc ever) (live z T .engine .words)));
+      }
+
+  length-remove : (n id : ℕ) → n ≤ ruleSlots → length (removeTable (T .rules) n id) ≡ length (T .rules)
+  unfolding removeTable
+  length-remove n id h = go (ltb (indexOf id (rulesOf (T .rules) n)) n) refl
+    where
+      go : (x : Bool) → ltb (indexOf id (rulesOf (T .rules) n)) n ≡ x
+          → length (cond x (closed (T .rules) ((indexOf id (rulesOf (T .rules) n) + 1) * ruleWidth) (n * ruleWidth) ruleWidth) (T .rules)) ≡ length (T .rules)
+      go true p = length-closed (T .rules) ((indexOf id (rulesOf (T .rules) n) + 1) * ruleWidth) (n * ruleWidth) ruleWidth (omega arith) (omega (arith, ltb-true (indexOf id (rulesOf (T .rules) n)) n p)) (omega (arith, f .rules))
+      go false p = refl
+
+  pub remove-wrote : (id : ℕ) → length (without id (live z T .engine .rules)) ≤ ruleSlots → Wrote z (removeT z T id) (withEngine (live z T) (ruleRemoved (live z T .engine) id))
+  remove-wrote id few =
+      let n : ℕ = cell (T .net) rulesAt in
+      let left : ℕ = length (without id (live z T .engine .rules)) in
+      record {
+        formed = formed-rules z _ (formed-net z T f _ (net-rules z (T .net) (f .net) left few)) _ (length-remove n id (f .net .rules) ∙ f .rules);
+        holds = (λ j. live z (setRules (setNet T (set (six (T .net) net-size j) rulesAt left)) (removeTable (T .rules) n id)))
+            ∙ (λ j. withEngine (live z T) (withRules (live z T .engine) (rules-removed (T .rules) n id (omega (arith, f .rules, f .net .rules)) j) (live z T .engine .installed) (live z T .engine .words)));
+      }
+
+  -- a fire at a place that no rule has changes nothing that is read
+  fire-past : (rs : List FaultRule) (p : ℕ) → length rs ≤ p → fireAt p rs ≡ rs
+  unfolding fireAt
+  fire-past [] p h = refl
+  fire-past (r ∷ rs) zero h = absurd (omega arith)
+  fire-past (r ∷ rs) (suc p) h = ap (λ (l : List FaultRule). r ∷ l) (fire-past rs p (omega arith))
+
+  fired-read : (n p : ℕ) → n ≤ ruleSlots → rowsOf ruleForm (fireTable (T .rules) p) n ≡ fireAt p (rowsOf ruleForm (T .rules) n)
+  unfolding fireTable
+  fired-read n p h = go (ltb p n) refl
+    where
+      v : ℕ
+      v = (getD (T .rules) (p * ruleWidth + firedWord) 0 + 1) % 2 ^ 64
+
+      few : n * ruleWidth ≤ length (T .rules)
+      few = omega (arith, f .rules)
+
+      go : (x : Bool) → ltb p n ≡ x → rowsOf ruleForm (fireTable (T .rules) p) n ≡ fireAt p (rowsOf ruleForm (T .rules) n)
+      go true q = rules-fired (T .rules) n p (ltb-true p n q) few
+      go false q =
+          let past : n ≤ p = ltb-false p n q in
+          let i : ℕ = p * ruleWidth + firedWord in
+          let w : List ℕ = set (T .rules) i v in
+          let room : n * ruleWidth ≤ length w = omega (arith, length-set (T .rules) i v, few) in
+          sym (rows-take ruleWidth firstRule rules-laws.alone n w room)
+          ∙ ap (λ (l : List ℕ). rows ruleWidth firstRule l n) (take-set-le (n * ruleWidth) (T .rules) i v (omega (arith, past)))
+          ∙ rows-take ruleWidth firstRule rules-laws.alone n (T .rules) few
+          ∙ sym (fire-past (rowsOf ruleForm (T .rules) n) p (omega (arith, length-rows ruleWidth firstRule n (T .rules), past)))
+
+  -- what a decision changes
+  pub ruled-wrote : (v : Decision) → Wrote z (ruledT T v) (withEngine (live z T) (ruled (live z T .engine) v))
+  unfolding fireTable
+  ruled-wrote v = go (v .drops)
+    where
+      f₁ : Formed z (netT T faultWordsAt (v .words))
+      f₁ = formed-net z T f _ (net-plain z (T .net) (f .net) faultWordsAt (v .words) (λ e. omega arith) (λ e. omega arith) (λ e. omega arith))
+
+      go : (b : Bool) → Wrote z (cond b (setRules (netT T faultWordsAt (v .words)) (fireTable (T .rules) (v .place))) (netT T faultWordsAt (v .words)))
+          (withEngine (live z T) (withRules (live z T .engine) (cond b (fireAt (v .place) (live z T .engine .rules)) (live z T .engine .rules)) (live z T .engine .installed) (v .words)))
+      go true = record {
+        formed = formed-rules z _ f₁ _ (length-set (T .rules) (v .place * ruleWidth + firedWord) _ ∙ f .rules);
+        holds = (λ j. live z (setRules (setNet T (set (six (T .net) net-size j) faultWordsAt (v .words))) (fireTable (T .rules) (v .place))))
+            ∙ (λ j. withEngine (live z T) (withRules (live z T .engine) (fired-read (cell (T .net) rulesAt) (v .place) (f .net .rules) j) (live z T .engine .installed) (v .words)));
+      }
+      go false = record { formed = f₁; holds = λ j. live z (setNet T (set (six (T .net) net-size j) faultWordsAt (v .words))) }
+
+  -- ---- Rings and log
+
+  pub ring-wrote : (r : ℕ) (c : Carried) → r < ringsOf z → Wrote z (setRings T (rings.pushed (ringsOf z) (T .rings) r c)) (withRings (live z T) (set (live z T .rings) r (push rings.slots (getD (live z T .rings) r []) c)))
+  ring-wrote r c b =
+      let fits : rings.Fits (ringsOf z) r (T .rings) = record { there = b; room = rw (f .rings .size) (le-refl _) } in
+      let head = f .rings .heads r b in
+      let own : rings.entries (ringsOf z) (T .rings) r ≡ getD (live z T .rings) r [] = sym (getD-upTo (ringsOf z) (rings.entries (ringsOf z) (T .rings)) r [] b) in
+      record {
+        formed = formed-rings z T f _ (record { size = rings-laws.length-pushed (ringsOf z) (T .rings) r c fits head ∙ f .rings .size; heads = λ q h. go fits head q h (eqb q r) refl });
+        holds = λ j. withRings (live z T) ((rings-laws.all-pushed (ringsOf z) (T .rings) r c fits head (f .rings .heads)
+            ∙ ap (λ (l : List Carried). set (live z T .rings) r (push rings.slots l c)) own) j);
+      }
+    where
+      go : (fits : rings.Fits (ringsOf z) r (T .rings)) (head : rings.SoundRing (T .rings) r) (q : ℕ) → q < ringsOf z → (x : Bool) → eqb q r ≡ x → rings.SoundRing (rings.pushed (ringsOf z) (T .rings) r c) q
+      go fits head q h true p = subst (rings.SoundRing (rings.pushed (ringsOf z) (T .rings) r c)) (sym (eqb-true q r p)) (rings-laws.pushed-sound (ringsOf z) (T .rings) r c fits head)
+      go fits head q h false p = rings-laws.other-sound (ringsOf z) (T .rings) r c fits head q h (eqb-false q r p) (f .rings .heads q h)
+
+  pub record-wrote : (d : Delivery) → Wrote z (recordT z T d) (withLog (live z T) (log.logged (z .logSlots) (live z T .log) d))
+  record-wrote d =
+      let room : log.sizeOf (z .logSlots) ≤ length (T .log) = rw (f .log .size) (le-refl _) in
+      record {
+        formed = formed-log z T f _ (record {
+          size = log-laws.length-pushed (z .logSlots) (T .log) d room (f .log .head) ∙ f .log .size;
+          head = log-laws.pushed-sound (z .logSlots) (T .log) d room (f .log .head);
+        });
+        holds = λ j. withLog (live z T) (log-laws.log-pushed (z .logSlots) (T .log) d room (f .log .head) j);
+      }
+
+  pub drain-wrote : Wrote z (drainT T) (withLog (live z T) log.emptyLog)
+  unfolding log.clearedAt
+  drain-wrote = record {
+    formed = formed-log z T f _ (record {
+      size = length-append (replicate log.recordsAt 0) (drop log.recordsAt (T .log)) ∙ omega (arith, length-drop log.recordsAt (T .log), f .log .size);
+      head = drained-sound (z .logSlots) (T .log);
+    });
+    holds = λ j. withLog (live z T) (drained-log (z .logSlots) (T .log) j);
+  }
+
+-- the copies one after the other
+pub push-wrote : (z : Sizes) (cs : List Copy) (T : Tables) → Formed z T → cell (T .net) waitingAt + length cs ≤ z .waitSlots
+    → Wrote z (pushT z T cs) (withWaiting (live z T) (length cs + live z T .sequence) (insertAll cs (live z T .waiting)))
+push-wrote z [] T f l = let e : 0 + cell (T .net) sequenceAt ≡ cell (T .net) sequenceAt = omega arith in rw e (record { formed = f; holds = refl })
+push-wrote z (c ∷ cs) T f l =
+    let w = live z T .waiting in
+    let n : ℕ = cell (T .net) sequenceAt in
+    let many : length (insertCopy c w) ≡ suc (cell (T .net) waitingAt) = length-insert c w ∙ ap suc (length-rows waiting.width waiting.read (cell (T .net) waitingAt) (T .waiting)) in
+    let T₁ = netT T sequenceAt (suc n) in
+    let x = sequence-wrote z T f (suc n) in
+    let y = waiting-wrote z T₁ (x .formed) (insertCopy c w) (omega (arith, many)) in
+    let T₂ = waitingT T₁ (insertCopy c w) in
+    let one : live z T₂ ≡ withWaiting (live z T) (suc n) (insertCopy c w) = y .holds ∙ ap (λ (s : Live). withWaiting s (s .sequence) (insertCopy c w)) (x .holds) in
+    let count : cell (T₂ .net) waitingAt ≡ suc (cell (T .net) waitingAt) =
+    sym (length-rows waiting.width waiting.read (cell (T₂ .net) waitingAt) (T₂ .waiting)) ∙ ap (λ (s : Live). length (s .waiting)) one ∙ many in
+    let rest = push-wrote z cs T₂ (y .formed) (omega (arith, count)) in
+    let e : length cs + suc n ≡ suc (length cs) + n = omega arith in
+    record {
+      formed = rest .formed;
+      holds = rest .holds ∙ ap (λ (s : Live). withWaiting s (length cs + s .sequence) (insertAll cs (s .waiting))) one ∙ ap (λ (k : ℕ). withWaiting (live z T) k (insertAll cs (insertCopy c w))) e;
+    }
