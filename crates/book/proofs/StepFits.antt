@@ -84,7 +84,7 @@ down-near z = rw (zero-within (z .types), zero-within (z .shards))
 up-near : (z : Sizes) (shards : ℕ) → within shards (z .shards) ≡ true → nearTill z (upTill shards) ≡ true
 up-near z shards h = rw (zero-within (z .types), h)
 
-length-without : (i : ℕ) (rs : List FaultRule) → length (without i rs) ≤ length rs
+pub length-without : (i : ℕ) (rs : List FaultRule) → length (without i rs) ≤ length rs
 unfolding without
 length-without i [] = le-refl _
 length-without i (r ∷ rs) = go (eqb (r .id) i) (length-without i rs)
