@@ -2,7 +2,7 @@
 use mathlib.Core.Path.{_≡_, refl}
 use mathlib.Core.Bool.{true}
 use Prim.Native.Nat.{ℕ, _+_, _*_, _≤_, _<_}
-use mathlib.Core.List.{List}
+use mathlib.Core.List.{List, []}
 use lib.ListN.{length}
 use Rattle.waiting.specs.Waiting as waiting
 use Rattle.rings.specs.Rings.{headWidth, span, SoundRing}
@@ -17,13 +17,26 @@ use Rattle.network.specs.Real.{openingAt}
 use Rattle.network.specs.Lent.{setupTests, namesTests, keysTests, pricesTests}
 use Rattle.network.specs.Writes.{setNet, setTills, setWords, setSeen, setWaiting, setRings, setRules, setBlocks, setLog}
 
--- the tables that the opening alone writes: they are in range, and the opening is the book's
-pub record Fixed (o : Opening) (T : Tables) : Type 0 where
-  pub setup : every (setupTests T) ≡ true
-  pub names : every (namesTests (o .sizes) T) ≡ true
-  pub keys : every (keysTests (o .sizes) T) ≡ true
-  pub prices : every (pricesTests T) ≡ true
-  pub opening : openingAt T ≡ o
+-- the tables that the opening alone writes
+pub record Four : Type 0 where
+  pub setup : List ℕ
+  pub names : List ℕ
+  pub keys : List ℕ
+  pub prices : List ℕ
+
+abbrev pub fourOf : Tables → Four
+fourOf T = record { setup = T .setup; names = T .names; keys = T .keys; prices = T .prices }
+
+abbrev pub bare : Four → Tables
+bare q = record { setup = q .setup; net = []; names = q .names; tills = []; words = []; keys = q .keys; prices = q .prices; seen = []; waiting = []; rings = []; rules = []; blocks = []; log = [] }
+
+-- they are in range, and the opening is the book's
+pub record Fixed (o : Opening) (q : Four) : Type 0 where
+  pub setup : every (setupTests (bare q)) ≡ true
+  pub names : every (namesTests (o .sizes) (bare q)) ≡ true
+  pub keys : every (keysTests (o .sizes) (bare q)) ≡ true
+  pub prices : every (pricesTests (bare q)) ≡ true
+  pub opening : openingAt (bare q) ≡ o
 
 pub record NetFormed (z : Sizes) (net : List ℕ) : Type 0 where
   pub size : length net ≡ netWidth

@@ -27,11 +27,11 @@ use Rattle.network.specs.Calls.{Call, Reading, isBlocked, transit, fired, isDow
 use Rattle.network.specs.Lent.{nearTill, nearDelivery, nearCopy, nearBlock, nearCarried, setupTests, netTests, namesTests, tillsTests, wordsTests, keysTests, pricesTests, seenTests, waitingTests, ringsTests, rulesTests, blocksTests, logTests, readingTests, lentTests, everyOf, question1}
 use Rattle.book.proofs.Each.{each-all, each-every, each-upTo, join}
 use Rattle.book.proofs.Fitting.{Fits, NearRing}
-use Rattle.book.proofs.Formed.{Fixed, Wrote}
+use Rattle.book.proofs.Formed.{fourOf, Fixed, Wrote}
 
 -- the tables hold a live part that fits, and the opening is the book's
 pub record Held (o : Opening) (T : Tables) (s : Live) : Type 0 where
-  pub fixed : Fixed o T
+  pub fixed : Fixed o (fourOf T)
   pub wrote : Wrote (o .sizes) T s
   pub fits : Fits (o .sizes) s
 
@@ -73,7 +73,7 @@ module _ (o : Opening) (T : Tables) (s : Live) (h : Held o T s) where
         eq-eqb _ _ (f .size),
         (
           each-all (λ r. soundAt rings.slots (rings.headOf r) (T .rings)) (below (ringsOf z))
-          (each-upTo (λ r. soundAt rings.slots (rings.headOf r) (T .rings) ≡ true) (ringsOf z) (λ i. i) (λ r l. sound-true rings.slots (rings.headOf r) (T .rings) (f .heads r l))),
+              (each-upTo (λ r. soundAt rings.slots (rings.headOf r) (T .rings) ≡ true) (ringsOf z) (λ i. i) (λ r l. sound-true rings.slots (rings.headOf r) (T .rings) (f .heads r l))),
           (held (λ (q : Live). q .rings) (allOf (nearCarried z)) (each-map (NearRing z) (λ (l : List Carried). allOf (nearCarried z) l ≡ true) (s .rings) (λ l. each-all (nearCarried z) l) (h .fits .rings .near)), tt),
         ),
       )

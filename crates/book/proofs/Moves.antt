@@ -14,7 +14,7 @@ use Rattle.network.specs.Accept.{Message, messageOf, selected, Drawn, drawn, Cl
 use Rattle.network.specs.Flush.{Row, rowOf, due, stops, lands, rowsOf, dropsOf, handled, loggedAll}
 use Rattle.network.specs.Calls.{Call, Reading, isBlocked, transit, fired, isDown, nextTime, tallyOf, waitingCopies, marksOf, read, firstTime, Answer, rowsIn, deliveredIn, dropsIn, countsIn, accept, flush, takeDown, bringUp, handlers, block, blockDuring, unblock, install, remove, decide, drain, reading}
 use Rattle.book.specs.Book.{Book, Event, landed, dropped, landedIn, droppedIn, flushEvents, eventsOf, offerEvents, eventsAfter, bookStep, expected}
-use Rattle.book.specs.Demand3.{copiesOf}
+use Rattle.book.specs.Demand3.{copiesOf, isDrain, logFrom}
 use Rattle.book.proofs.Counting.{scheduling-landed, scheduling-dropped}
 
 flushed-lands : (s : Live) (cs : List Copy) (es : List Event) → landedIn (flushEvents s cs es) ≡ reverseAux (lands s cs) (landedIn es)
@@ -132,3 +132,36 @@ module _ (o : Opening) where
   book-delivered b (decide x) false = refl
   book-delivered b (drain rows) false = refl
   book-delivered b (reading r) false = rw (quiet (b .live) r .rows, quiet (b .live) r .delivered)
+
+-- ---- The log follows from the rows
+
+-- an accept leaves the log alone
+module _ (o : Opening) (m : Message) where
+  effect-log : (k : Class) (s : Live) (d : Drawn) (t : ℕ) → effect o m k s d t .log ≡ s .log
+  effect-log deduplicated s d t = refl
+  effect-log partition s d t = refl
+  effect-log loss s d t = refl
+  effect-log fault s d t = refl
+  effect-log sent s d t = refl
+
+  accept-log : (ts : List ℕ) (s : Live) → liveAfter o m s ts .log ≡ s .log
+  unfolding offered
+  accept-log [] s = refl
+  accept-log (t ∷ ts) s = accept-log ts (offered o m s t) ∙ effect-log (classOf o m s t) s (drawn o m t s) t
+
+module _ (o : Opening) where
+  pub book-log : (b : Book) (c : Call) → bookStep o b c false .live .log ≡ logFrom o (isDrain o c) (b .live .log) (expected o b c false)
+  book-log b (accept e true) = accept-log o (messageOf o e) (selected o (b .live) (e .scope) (e .from)) (b .live)
+  book-log b (accept e false) = refl
+  book-log b (flush now rows) = ap (loggedAll (o .sizes .logSlots) (b .live .log)) (sym (row-copies (b .live) (lands (b .live) (due now (b .live)))))
+  book-log b (takeDown t) = refl
+  book-log b (bringUp t shards) = refl
+  book-log b (handlers t gossip host) = refl
+  book-log b (block from to) = refl
+  book-log b (blockDuring from to start end) = refl
+  book-log b (unblock from to) = refl
+  book-log b (install card) = refl
+  book-log b (remove id) = refl
+  book-log b (decide x) = refl
+  book-log b (drain rows) = refl
+  book-log b (reading r) = rw (quiet (b .live) r .rows)

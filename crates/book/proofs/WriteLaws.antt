@@ -104,7 +104,7 @@ module _ (z : Sizes) (net : List ℕ) (f : NetFormed z net) where
 
 -- ---- Rows
 
-till-exact : Exact tillForm
+pub till-exact : Exact tillForm
 till-exact = record { long = λ t. refl; back = λ t m. refl; whole = four }
   where
     four : (l : List ℕ) → 4 ≤ length l → cell l 0 ∷ cell l 1 ∷ cell l 2 ∷ cell l 3 ∷ [] ≡ take 4 l
