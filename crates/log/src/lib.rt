@@ -7,15 +7,13 @@ ghost use Rattle.delivery.specs.Delivery as delivery;
 ghost use Rattle.rows.specs.Table.{over};
 ghost use Rattle.ring.specs.Ring.{most, countAt};
 ghost use Rattle.log.specs.Log.{recordsAt, forcedAt, sizeOf, SoundLog, soundLog, recordsOf, tallyAt, talliedAt, notedAt, pushed, clearedAt};
+
 use delivery::Delivery;
 
 // Where the forced count, the tallies and the records stand; how many classes have tallies.
 const FORCED: usize = 2;
-
 const TALLIES: usize = 3;
-
 const RECORDS: usize = 19;
-
 const CLASSES: u64 = 8;
 
 // Deliveries and bytes of a class.

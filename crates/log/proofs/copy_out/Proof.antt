@@ -72,14 +72,10 @@ loop-again : tie.Need-loop-again Inv-loop μ-loop
 loop-again c = let a = c .before .before .before .before .before .before .before .before .before .before .before .before .args in
     let at = c .before .before .before .before .before .before .before .loop in
     let n = c .before .before .before .before .before .before .before .before .before .before .before .before .pre .3 .counted in
-    let p = c .before .before .before .before .before .before .before .before .before .before .before .before .pre .2 in (
-      at .inv .0,
-      at .inv .1,
-      omega arith,
-      c .before .before .put .kept .0 ∙ at .inv .3,
-      c .before .before .put .ensures ∙ copied-more (a .capacity) (a .log .now) (a .out .now) (at .i) (c .before .before .before .before .before .slot .result) (c .before .before .before .before .get .result) (at .out) (omega arith)
-          (c .before .before .before .before .before .slot .ensures .0) (c .before .before .before .before .get .ensures) (at .inv .4),
-    )
+    let p = c .before .before .before .before .before .before .before .before .before .before .before .before .pre .2 in
+    (at .inv .0, at .inv .1, omega arith, c .before .before .put .kept .0 ∙ at .inv .3,
+    c .before .before .put .ensures ∙ copied-more (a .capacity) (a .log .now) (a .out .now) (at .i) (c .before .before .before .before .before .slot .result) (c .before .before .before .before .get .result) (at .out) (omega arith)
+    (c .before .before .before .before .before .slot .ensures .0) (c .before .before .before .before .get .ensures) (at .inv .4))
 
 -- src/lib.rt:126:1
 same-length : tie.Need-same-length Inv-loop μ-loop

@@ -55,13 +55,10 @@ same-length-3 c = search needs
 returns-2 : tie.Need-returns-2
 returns-2 c = let a = c .before .before .before .before .before .before .before .before .before .before .before .before .before .before .before .args in
     let yes : soundLog (a .capacity) (a .log .now) ≡ true = sym (c .before .before .before .before .before .before .before .before .before .before .before .is-sound .ensures) ∙ not-false _ (c .before .before .before .before .before .before .before .before .before .before .if1 .left) in
-    let w = a .log .now in (
-      by-head (a .capacity) w true (countAt 0 w) 0 yes,
-      (
-        c .before .before .before .before .before .before .copy-out .ensures ∙ by-head (a .capacity) w true (over delivery.form (recordsOf (a .capacity) w) (a .out .now)) (a .out .now) yes,
-        c .before .before .clear .ensures ∙ by-head (a .capacity) w true (clearedAt w) w yes,
-      ),
-    )
+    let w = a .log .now in
+    (by-head (a .capacity) w true (countAt 0 w) 0 yes,
+    (c .before .before .before .before .before .before .copy-out .ensures ∙ by-head (a .capacity) w true (over delivery.form (recordsOf (a .capacity) w) (a .out .now)) (a .out .now) yes,
+    c .before .before .clear .ensures ∙ by-head (a .capacity) w true (clearedAt w) w yes))
 
 pub drain-spec : {M : Type 1} → statement M
 drain-spec =
