@@ -1,0 +1,235 @@
+-- Demand 3 is met: for every accepted opening and every list of calls.
+use mathlib.Core.Path.{_≡_, refl, sym, ap, _∙_, subst}
+use Prim.Native.Nat.{ℕ, zero, suc, _+_}
+use native.Mathlib.Omega.{arith}
+use mathlib.Core.Bool.{Bool, true, false, cond, false≢true}
+use mathlib.Core.List.{List, [], _∷_, _++_, reverseAux}
+use lib.ListN.{length, drop}
+use Rattle.waiting.specs.declared.Copy.{Copy}
+use Rattle.waiting.proofs.Order.{front-all}
+use Rattle.marks.specs.Marks.{Rises}
+use Rattle.marks.proofs.Rising.{found-member}
+use Rattle.log.specs.Log.{Log}
+use Rattle.network.specs.Lists.{count}
+use Rattle.network.specs.Opening.{Sizes, Settings, Opening}
+use Rattle.network.specs.Live.{Live, idsAt}
+use Rattle.network.specs.Accept.{messageOf, selected, booked, noCounts, tally, total, Counts}
+use Rattle.network.specs.Flush.{Row, handled}
+use Rattle.network.specs.Calls.{Call, Answer, silent, answerOf, countsIn, rowsIn, deliveredIn, dropsIn, accept, flush, takeDown, bringUp, handlers, block, blockDuring, unblock, install, remove, decide, drain, reading}
+use Rattle.network.specs.Questions.{asked, firstNo}
+use Rattle.network.specs.Tables.{Tables, sizesAt, live}
+use Rattle.network.specs.Real.{openingOf, openingAt}
+use Rattle.network.specs.Lent.{question1}
+use Rattle.network.specs.Writes.{Reply, isNumber, numberOf, exitT, answerT, tablesBy, replyBy, outputOf, callTables, callReply, callOutput}
+use Rattle.network.specs.Open.{askedOpening, openNumber, openTables, openExit, openCall}
+use Rattle.book.specs.Book.{Book, landedIn, droppedIn, bookStep, expected, opened}
+use Rattle.book.specs.History.{hasSequence}
+use Rattle.book.specs.Demand3.{Item, own, others, reopen, Admitted, AllAdmitted, replyTo, tablesAfter, tablesAtEnd, refused, Kept, copiesOf, bookAfter, expectedOf, bookAtEnd, OnlyNo, FiveCounts, SumOf, isDrain, logFrom, LogOf, CallHolds, CallsHold, BookHolds, Demand3, Run, tablesAfterRun, Accepted, EveryList}
+use Rattle.book.proofs.Each.{each-at}
+use Rattle.book.proofs.Marks.{two-originals}
+use Rattle.book.proofs.Sound.{SoundBook, book-sound, opened-sound}
+use Rattle.book.proofs.Sums.{booked-tills, booked-total}
+use Rattle.book.proofs.Moves.{book-rows, book-drops, book-delivered, book-log, quiet}
+use Rattle.book.proofs.Asking.{first-no, rising, rising-opening}
+use Rattle.book.proofs.Fitting.{Limited}
+use Rattle.book.proofs.StepFits.{step-fits}
+use Rattle.book.proofs.Formed.{fourOf, Fixed}
+use Rattle.book.proofs.Simulation.{step-wrote}
+use Rattle.book.proofs.Unwritten.{same-step}
+use Rattle.book.proofs.Held.{Held, yes1}
+use Rattle.book.proofs.Start.{limited, open-held}
+
+module _ (o : Opening) where
+  -- ---- One call: the contracts speak of the book's opening
+
+  module _ (T : Tables) (s : Live) (h : Held o T s) (c : Call) where
+    reply-is : callReply T c ≡ replyBy o T c
+    reply-is = ap (λ (q : Opening). replyBy q T c) (h .fixed .opening)
+
+    tables-are : callTables T c ≡ tablesBy o T c
+    tables-are = ap (λ (q : Opening). tablesBy q T c) (h .fixed .opening)
+
+    number-is : numberOf o T c ≡ firstNo (asked o s c)
+    number-is = rw (yes1 o T s h c) (ap (λ (q : Live). firstNo (asked o q c)) (h .wrote .holds))
+
+  answer-is : (T : Tables) (b : Book) (c : Call) → live (o .sizes) T ≡ b .live → (r : Bool) → answerT o r T c ≡ expected o b c r
+  answer-is T b c h true = refl
+  answer-is T b c h false = ap (λ (s : Live). answerOf o s c) h
+
+  held-step : Limited (o .sizes) → (T : Tables) (b : Book) (c : Call) → Held o T (b .live) → (n : ℕ) → n ≡ firstNo (asked o (b .live) c)
+      → Held o (exitT o (isNumber n) T c) (bookStep o b c (isNumber n) .live)
+  held-step lim T b c h zero e = record {
+    fixed = subst (Fixed o) (sym (same-step o T c)) (h .fixed);
+    wrote = step-wrote o lim c T (b .live) (h .wrote) (h .fits) (sym e);
+    fits = step-fits o lim (b .live) c (sym e) (h .fits);
+  }
+  held-step lim T b c h (suc n) e = h
+
+  -- ---- What holds of each call
+
+  -- other tables are refused by question 1
+  others-reply : (X : Tables) (c : Call) → question1 (sizesAt (X .setup)) X c ≡ false → callReply X c ≡ record { number = 1; answer = silent }
+  others-reply X c a = rw a
+
+  same-answer : (b : Book) (T : Tables) (i : Item) → Held o T (b .live) → Admitted i → replyTo T i .answer ≡ expectedOf o b T i
+  same-answer b T (own c) h a =
+      ap (λ (r : Reply). r .answer) (reply-is T (b .live) h c)
+      ∙ answer-is T b c (h .wrote .holds) (isNumber (numberOf o T c))
+      ∙ ap (λ (r : Reply). expected o b c (isNumber (r .number))) (sym (reply-is T (b .live) h c))
+  same-answer b T (others X c) h a = rw a
+  same-answer b T (reopen X y ms) h a = refl
+
+  only-own : (b : Book) (c : Call) (n : ℕ) → n ≡ firstNo (asked o (b .live) c) → OnlyNo o b (own c) n
+  only-own b c zero h = tt
+  only-own b c (suc n) h = rw h (first-no 0 (asked o (b .live) c) (rising o (b .live) c) (λ e. omega arith))
+
+  only-reopen : (b : Book) (X : Tables) (y : Settings) (ms : List ℕ) (n : ℕ) → n ≡ openNumber y ms X → OnlyNo o b (reopen X y ms) n
+  only-reopen b X y ms zero h = tt
+  only-reopen b X y ms (suc n) h = rw h (first-no 0 (askedOpening y ms X) (rising-opening y ms X) (λ e. omega arith))
+
+  only-no : (b : Book) (T : Tables) (i : Item) → Held o T (b .live) → Admitted i → OnlyNo o b i (replyTo T i .number)
+  only-no b T (own c) h a = only-own b c (callReply T c .number) (ap (λ (r : Reply). r .number) (reply-is T (b .live) h c) ∙ number-is T (b .live) h c)
+  only-no b T (others X c) h a = rw a (refl, a)
+  only-no b T (reopen X y ms) h a = only-reopen b X y ms (openNumber y ms X) refl
+
+  -- a refused call leaves what it was lent as found
+  call-kept : (p : Opening) (T : Tables) (c : Call) (r : Bool) → r ≡ true → (exitT p r T c ≡ T) × ((out : List ℕ) → outputOf (answerT p r T c) ++ drop (length (outputOf (answerT p r T c))) out ≡ out)
+  call-kept p T c true h = (refl, λ out. refl)
+  call-kept p T c false h = absurd (false≢true h)
+
+  reopen-kept : (X : Tables) (y : Settings) (ms : List ℕ) (n : ℕ) → (n ≡ 0 → ⊥) → openExit y ms X n ≡ X
+  reopen-kept X y ms zero h = absurd (h refl)
+  reopen-kept X y ms (suc n) h = refl
+
+  kept : (T : Tables) (i : Item) → Admitted i → Kept T i
+  kept T (own c) a = λ r. call-kept (openingAt T) T c (isNumber (numberOf (openingAt T) T c)) r
+  kept T (others X c) a = call-kept (openingAt X) X c (isNumber (numberOf (openingAt X) X c)) (rw a)
+  kept T (reopen X y ms) a = reopen-kept X y ms (openNumber y ms X) a
+
+  -- calls other than an accept count nothing
+  none : (b : Book) (T : Tables) (c : Call) → Held o T (b .live) → countsIn (answerOf o (b .live) c) ≡ noCounts → countsIn (callReply T c .answer) ≡ noCounts
+  none b T c h e = ap countsIn (same-answer b T (own c) h tt) ∙ go (refused T (own c))
+    where
+      go : (r : Bool) → countsIn (expected o b c r) ≡ noCounts
+      go true = refl
+      go false = e
+
+  sum : (b : Book) (T : Tables) (i : Item) → Held o T (b .live) → Admitted i → SumOf o b i (replyTo T i)
+  sum b T (own (accept e true)) h a = λ z.
+      let c = accept e true in
+      let ts = selected o (b .live) (e .scope) (e .from) in
+      let m = messageOf o e in
+      let n : countsIn (callReply T c .answer) ≡ tally (booked o m (b .live) ts) =
+      ap countsIn (same-answer b T (own c) h tt) ∙ ap (λ (k : ℕ). countsIn (expected o b c (isNumber k))) z in
+      record { each-once = booked-tills o m (b .live) ts; counts = n; sum = ap total n ∙ booked-total o m (b .live) ts }
+  sum b T (own (accept e false)) h a = none b T (accept e false) h refl
+  sum b T (own (flush now rows)) h a = none b T (flush now rows) h refl
+  sum b T (own (takeDown t)) h a = none b T (takeDown t) h refl
+  sum b T (own (bringUp t shards)) h a = none b T (bringUp t shards) h refl
+  sum b T (own (handlers t gossip host)) h a = none b T (handlers t gossip host) h refl
+  sum b T (own (block from to)) h a = none b T (block from to) h refl
+  sum b T (own (blockDuring from to start end)) h a = none b T (blockDuring from to start end) h refl
+  sum b T (own (unblock from to)) h a = none b T (unblock from to) h refl
+  sum b T (own (install card)) h a = none b T (install card) h refl
+  sum b T (own (remove id)) h a = none b T (remove id) h refl
+  sum b T (own (decide x)) h a = none b T (decide x) h refl
+  sum b T (own (drain rows)) h a = none b T (drain rows) h refl
+  sum b T (own (reading x)) h a = none b T (reading x) h (quiet (b .live) x .counts)
+  sum b T (others X c) h a = rw a
+  sum b T (reopen X y ms) h a = refl
+
+  log-of : (b : Book) (T : Tables) (i : Item) → Held o T (b .live) → Admitted i → LogOf o b (bookAfter o b T i) i (replyTo T i)
+  log-of b T (own c) h a = λ z.
+      ap (λ (k : ℕ). bookStep o b c (isNumber k) .live .log) z ∙ book-log o b c
+      ∙ ap (logFrom o (isDrain o c) (b .live .log)) (sym (same-answer b T (own c) h tt ∙ ap (λ (k : ℕ). expected o b c (isNumber k)) z))
+  log-of b T (others X c) h a = rw a
+  log-of b T (reopen X y ms) h a = refl
+
+  rows-land : (b : Book) (T : Tables) (i : Item) → landedIn (bookAfter o b T i .past) ≡ reverseAux (copiesOf (rowsIn (expectedOf o b T i))) (landedIn (b .past))
+  rows-land b T (own c) = book-rows o b c (refused T (own c))
+  rows-land b T (others X c) = book-rows o b c (refused T (others X c))
+  rows-land b T (reopen X y ms) = refl
+
+  drops-count : (b : Book) (T : Tables) (i : Item) → length (droppedIn (bookAfter o b T i .past)) ≡ dropsIn (expectedOf o b T i) + length (droppedIn (b .past))
+  drops-count b T (own c) = book-drops o b c (refused T (own c))
+  drops-count b T (others X c) = book-drops o b c (refused T (others X c))
+  drops-count b T (reopen X y ms) = omega arith
+
+  delivered-count : (b : Book) (T : Tables) (i : Item) → deliveredIn (expectedOf o b T i) ≡ count handled (rowsIn (expectedOf o b T i))
+  delivered-count b T (own c) = book-delivered o b c (refused T (own c))
+  delivered-count b T (others X c) = book-delivered o b c (refused T (others X c))
+  delivered-count b T (reopen X y ms) = refl
+
+  call-holds : (b : Book) (T : Tables) (i : Item) → Held o T (b .live) → Admitted i → CallHolds o b T i
+  call-holds b T i h a =
+      let e = same-answer b T i h a in
+      record {
+        same-answer = e;
+        only-no = only-no b T i h a;
+        kept = kept T i a;
+        rows-land = rows-land b T i ∙ ap (λ (x : Answer). reverseAux (copiesOf (rowsIn x)) (landedIn (b .past))) (sym e);
+        drops-count = drops-count b T i ∙ ap (λ (x : Answer). dropsIn x + length (droppedIn (b .past))) (sym e);
+        delivered-count = ap deliveredIn e ∙ delivered-count b T i ∙ ap (λ (x : Answer). count handled (rowsIn x)) (sym e);
+        sum = sum b T i h a;
+        log = log-of b T i h a;
+      }
+
+  -- ---- Every list
+
+  module _ (lim : Limited (o .sizes)) where
+    held-after : (b : Book) (T : Tables) (i : Item) → Held o T (b .live) → Admitted i → Held o (tablesAfter T i) (bookAfter o b T i .live)
+    held-after b T (own c) h a =
+        subst (λ (q : Opening). Held o (tablesBy q T c) (bookStep o b c (isNumber (numberOf q T c)) .live)) (sym (h .fixed .opening))
+        (held-step lim T b c h (numberOf o T c) (number-is T (b .live) h c))
+    held-after b T (others X c) h a = rw a h
+    held-after b T (reopen X y ms) h a = h
+
+    calls-hold : (is : List Item) (b : Book) (T : Tables) → Held o T (b .live) → AllAdmitted is → CallsHold o b T is
+    calls-hold [] b T h a = tt
+    calls-hold (i ∷ is) b T h a = (call-holds b T i h (a .0), calls-hold is (bookAfter o b T i) (tablesAfter T i) (held-after b T i h (a .0)) (a .1))
+
+    end-held : (is : List Item) (b : Book) (T : Tables) → Held o T (b .live) → AllAdmitted is → Held o (tablesAtEnd T is) (bookAtEnd o b T is .live)
+    end-held [] b T h a = h
+    end-held (i ∷ is) b T h a = end-held is (bookAfter o b T i) (tablesAfter T i) (held-after b T i h (a .0)) (a .1)
+
+  after-sound : (b : Book) (T : Tables) (i : Item) → SoundBook o b → SoundBook o (bookAfter o b T i)
+  after-sound b T (own c) h = book-sound o b c (refused T (own c)) h
+  after-sound b T (others X c) h = book-sound o b c (refused T (others X c)) h
+  after-sound b T (reopen X y ms) h = h
+
+  end-sound : (is : List Item) (b : Book) (T : Tables) → SoundBook o b → SoundBook o (bookAtEnd o b T is)
+  end-sound [] b T h = h
+  end-sound (i ∷ is) b T h = end-sound is (bookAfter o b T i) (tablesAfter T i) (after-sound b T i h)
+
+  book-holds : (b : Book) → SoundBook o b → BookHolds b
+  book-holds b k = record {
+    same-copies = k .places;
+    one-place = λ n. sym (k .places (hasSequence n)) ∙ k .numbers n;
+    two-apart = λ after between before c d t i e oc od. two-originals (b .past) after between before c d t i (k .apart) e oc od;
+    marks = λ t i. found-member i (idsAt (b .live) t) (each-at Rises (b .live .seen) t [] (k .rises) tt) ∙ sym (k .marks t i);
+    sorted = k .order;
+    due-all = λ now. front-all now (b .live .waiting) (k .order);
+    rule-ids = k .ids;
+  }
+
+-- ---- THE THEOREM
+
+-- for every accepted opening, whatever tables it was lent, and every list of calls
+pub demand3 : (x : Settings) (masks : List ℕ) (lent : Tables) → openNumber x masks lent ≡ 0 → (is : List Item) → AllAdmitted is → Demand3 x masks lent is
+demand3 x masks lent n is a =
+    let o = openingOf x (lent .names) in
+    let lim = limited x masks lent n in
+    let T = openTables x masks lent in
+    let h = open-held x masks lent n in
+    let end = end-held o lim is (opened o masks) T h a in
+    record {
+      calls = calls-hold o lim is (opened o masks) T h a;
+      same-live = end .wrote .holds;
+      same-opening = end .fixed .opening;
+      book = book-holds o (bookAtEnd o (opened o masks) T is) (end-sound o is (opened o masks) T (opened-sound o masks));
+    }
+
+-- and for list after list, each begun by an accepted opening on what the one before left
+pub every-list : (rs : List Run) (T : Tables) → Accepted T rs → EveryList T rs
+every-list [] T a = tt
+every-list (r ∷ rs) T a = (demand3 (r .settings) (r .masks) T (a .0) (r .items) (a .1), every-list rs (tablesAfterRun T r) (a .2))

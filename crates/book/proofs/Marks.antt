@@ -1,0 +1,221 @@
+-- Marks, and the originals that stand for them.
+use mathlib.Core.Path.{_≡_, refl, sym, ap, _∙_, subst}
+use Prim.Native.Nat.{ℕ, zero, suc, _+_, _*_, _≤_, _<_}
+use native.Mathlib.Omega.{arith}
+use native.Mathlib.Nat.{not-suc-le-zero, le-of-suc-le-suc}
+use mathlib.Core.Bool.{Bool, true, false, cond, not, _&&_, _||_, false≢true}
+use mathlib.Core.List.{List, [], _∷_, _++_}
+use lib.Dec.{T, eqb, ltb}
+use lib.ListN.{length, getD, set}
+use lib.Seq.{getD-set-same, getD-set-other}
+use borrow.Author.Tests.{eqb-true, eqb-false, eq-eqb}
+use Rattle.book.specs.Book.{Event, scheduled, landed, dropped, down, flushEvents, scheduling}
+use Rattle.book.specs.History.{originalOf, clears, standing}
+use Rattle.rows.specs.Rows.{pick, keep}
+use Rattle.rows.specs.Lists.{Each}
+use Rattle.waiting.specs.declared.Copy.{Copy}
+use Rattle.marks.specs.Marks.{found, placed, removed, Rises, member}
+use Rattle.marks.proofs.Rising.{place, without, found-member, placed-place, removed-without, rises-placed, rises-removed}
+use Rattle.network.specs.Accept.{mark}
+use Rattle.book.proofs.Each.{each-at, each-set}
+use Rattle.network.specs.Flush.{unmark, clearing, stops}
+use Rattle.network.specs.Lists.{some-of}
+use Rattle.network.specs.Live.{isOriginal, Live, numbered}
+
+-- an original is scheduled only where none of its id stands for its till
+abbrev pub Apart : List Event → Type 0
+Apart [] = Unit {0}
+Apart (scheduled c ∷ es) = (isOriginal c ≡ true → standing (c .delivery .to) (c .id) es ≡ false) × Apart es
+Apart (landed c ∷ es) = Apart es
+Apart (dropped c ∷ es) = Apart es
+Apart (down t ∷ es) = Apart es
+
+-- ---- Tables of lists
+
+module _ {A : Type 0} (d : A) where
+  -- an update that keeps the default is seen at every place
+  pub getD-update : (f : A → A) → f d ≡ d → (l : List A) (t : ℕ) → getD (set l t (f (getD l t d))) t d ≡ f (getD l t d)
+  getD-update f h [] t = sym h
+  getD-update f h (x ∷ xs) zero = refl
+  getD-update f h (x ∷ xs) (suc t) = getD-update f h xs t
+
+pub member-place : (i j : ℕ) (l : List ℕ) → member i (place j l) ≡ (eqb i j || member i l)
+member-place i j [] = refl
+member-place i j (x ∷ l) = go (ltb x j) (member-place i j l)
+  where
+    swap : (a b c : Bool) → (a || (b || c)) ≡ (b || (a || c))
+    swap true true c = refl
+    swap true false c = refl
+    swap false b c = refl
+
+    go : (u : Bool) → member i (place j l) ≡ (eqb i j || member i l) → member i (cond u (x ∷ place j l) (j ∷ x ∷ l)) ≡ (eqb i j || (eqb i x || member i l))
+    go true h = ap (λ (z : Bool). eqb i x || z) h ∙ swap (eqb i x) (eqb i j) (member i l)
+    go false h = refl
+
+pub found-placed : (i : ℕ) (l : List ℕ) → Rises l → found i l ≡ false → found i (placed i l) ≡ true
+found-placed i l r f = found-member i (placed i l) (rises-placed i l f r) ∙ ap (member i) (placed-place i l r) ∙ member-place i i l ∙ rw (eq-eqb i i refl)
+
+-- the mark of j at u is set: read at i, t
+pub member-set : (seen : List (List ℕ)) (u j t i : ℕ) → u < length seen → Each Rises seen
+    → member i (getD (mark u j seen) t []) ≡ ((eqb i j && eqb t u) || member i (getD seen t []))
+member-set seen u j t i h r = ap (λ (l : List ℕ). member i (getD (set seen u l) t [])) (placed-place j (getD seen u []) (each-at Rises seen u [] r tt)) ∙ go (eqb t u) refl
+  where
+    new : List ℕ
+    new = place j (getD seen u [])
+
+    and-true : (b : Bool) → (b && true) ≡ b
+    and-true true = refl
+    and-true false = refl
+
+    and-false : (b : Bool) → (b && false) ≡ false
+    and-false true = refl
+    and-false false = refl
+
+    go : (b : Bool) → eqb t u ≡ b → member i (getD (set seen u new) t []) ≡ ((eqb i j && b) || member i (getD seen t []))
+    go true p = rw (and-true (eqb i j), eqb-true t u p, getD-set-same seen u new [] h) (member-place i j (getD seen u []))
+    go false p = rw (and-false (eqb i j)) (ap (member i) (getD-set-other seen u t new [] (eqb-false t u p)))
+
+-- keeping all but j
+pub member-keep : (l : List ℕ) (j i : ℕ) → member i (without j l) ≡ (not (eqb i j) && member i l)
+member-keep [] j i = go (eqb i j)
+  where
+    go : (b : Bool) → false ≡ (not b && false)
+    go true = refl
+    go false = refl
+member-keep (x ∷ xs) j i = go (eqb j x) (eqb i x) (eqb i j) refl refl refl (member-keep xs j i)
+  where
+    go : (a b c : Bool) → eqb j x ≡ a → eqb i x ≡ b → eqb i j ≡ c → member i (without j xs) ≡ (not (eqb i j) && member i xs)
+        → member i (pick (not a) (x ∷ without j xs) (without j xs)) ≡ (not (eqb i j) && (b || member i xs))
+    go true b true p q r h = h ∙ rw r
+    go true true false p q r h = absurd (eqb-false i j r (eqb-true i x q ∙ sym (eqb-true j x p)))
+    go true false false p q r h = h
+    go false true true p q r h = absurd (eqb-false j x p (sym (eqb-true i j r) ∙ eqb-true i x q))
+    go false false true p q r h = rw (q, h)
+    go false b false p q r h = rw (q, h, r)
+
+-- the mark of j at u is cleared
+pub member-clear : (seen : List (List ℕ)) (u j t i : ℕ)
+    → member i (getD (set seen u (without j (getD seen u []))) t []) ≡ (not (eqb i j && eqb t u) && member i (getD seen t []))
+member-clear seen u j t i = go (eqb t u) refl
+  where
+    and-true : (b : Bool) → (b && true) ≡ b
+    and-true true = refl
+    and-true false = refl
+
+    and-false : (b : Bool) → (b && false) ≡ false
+    and-false true = refl
+    and-false false = refl
+
+    new : List ℕ
+    new = without j (getD seen u [])
+
+    go : (b : Bool) → eqb t u ≡ b → member i (getD (set seen u (without j (getD seen u []))) t []) ≡ (not (eqb i j && b) && member i (getD seen t []))
+    go true p =
+        rw (and-true (eqb i j), eqb-true t u p) (ap (member i) (getD-update [] (without j) refl seen u) ∙ member-keep (getD seen u []) j i)
+    go false p = rw (and-false (eqb i j)) (ap (member i) (getD-set-other seen u t new [] (eqb-false t u p)))
+
+-- all marks of u are cleared
+pub member-empty : (seen : List (List ℕ)) (u t i : ℕ) → member i (getD (set seen u []) t []) ≡ (not (eqb t u) && member i (getD seen t []))
+member-empty seen u t i = go (eqb t u) refl
+  where
+    go : (b : Bool) → eqb t u ≡ b → member i (getD (set seen u []) t []) ≡ (not b && member i (getD seen t []))
+    go true p = rw (eqb-true t u p) (ap (member i) (getD-update [] (λ (l : List ℕ). []) refl seen u))
+    go false p = ap (member i) (getD-set-other seen u t [] [] (eqb-false t u p))
+
+-- ---- A flush clears the marks of the originals that it drops
+
+pub clearing-rises : (s : Live) (cs : List Copy) (seen : List (List ℕ)) → Each Rises seen → Each Rises (clearing s cs seen)
+clearing-rises s [] seen e = e
+clearing-rises s (c ∷ cs) seen e = clearing-rises s cs (cond (stops s c && isOriginal c) (unmark (c .delivery .to) (c .id) seen) seen) (go (stops s c && isOriginal c))
+  where
+    go : (b : Bool) → Each Rises (cond b (unmark (c .delivery .to) (c .id) seen) seen)
+    go true = each-set Rises seen (c .delivery .to) (removed (c .id) (getD seen (c .delivery .to) [])) e (rises-removed (c .id) (getD seen (c .delivery .to) []) (each-at Rises seen (c .delivery .to) [] e tt))
+    go false = e
+
+pub clearing-agrees : (s : Live) (cs : List Copy) (es : List Event) (seen : List (List ℕ))
+    → Each Rises seen → ((t i : ℕ) → standing t i es ≡ member i (getD seen t [])) → (t i : ℕ) → standing t i (flushEvents s cs es) ≡ member i (getD (clearing s cs seen) t [])
+clearing-agrees s [] es seen r h = h
+clearing-agrees s (c ∷ cs) es seen r h =
+    clearing-agrees s cs (cond (stops s c) (dropped c) (landed c) ∷ es) (cond (stops s c && isOriginal c) (unmark (c .delivery .to) (c .id) seen) seen) (clearing-rises s (c ∷ []) seen r) (one (stops s c) (isOriginal c) refl)
+  where
+    cut : (t i : ℕ) → member i (getD (unmark (c .delivery .to) (c .id) seen) t []) ≡ (not (eqb i (c .id) && eqb t (c .delivery .to)) && member i (getD seen t []))
+    cut t i =
+        ap (λ (l : List ℕ). member i (getD (set seen (c .delivery .to) l) t [])) (removed-without (c .id) (getD seen (c .delivery .to) []) (each-at Rises seen (c .delivery .to) [] r tt))
+        ∙ member-clear seen (c .delivery .to) (c .id) t i
+
+    one : (b k : Bool) → isOriginal c ≡ k → (t i : ℕ) → standing t i (cond b (dropped c) (landed c) ∷ es) ≡ member i (getD (cond (b && k) (unmark (c .delivery .to) (c .id) seen) seen) t [])
+    one true true p t i = rw (p, h t i) (sym (cut t i))
+    one true false p t i = rw p (h t i)
+    one false k p t i = h t i
+
+pub flushing-apart : (s : Live) (cs : List Copy) (es : List Event) → Apart es → Apart (flushEvents s cs es)
+flushing-apart s [] es h = h
+flushing-apart s (c ∷ cs) es h = flushing-apart s cs (cond (stops s c) (dropped c) (landed c) ∷ es) (go (stops s c))
+  where
+    go : (b : Bool) → Apart (cond b (dropped c) (landed c) ∷ es)
+    go true = h
+    go false = h
+
+-- ---- Echoes neither stand for an id nor clear one
+
+abbrev pub Echo : Copy → Type 0
+Echo d = d .original ≡ 0
+
+echo-is : (d : Copy) → Echo d → not (eqb (d .original) 0) ≡ false
+echo-is d h = ap not (eq-eqb (d .original) 0 h)
+
+pub echoes-standing : (t i m : ℕ) (ds : List Copy) (es : List Event) → Each Echo ds → standing t i (scheduling (numbered m ds) es) ≡ standing t i es
+echoes-standing t i m [] es h = refl
+echoes-standing t i m (d ∷ ds) es h = echoes-standing t i (suc m) ds _ (h .1) ∙ rw (echo-is d (h .0))
+
+pub echoes-apart : (m : ℕ) (ds : List Copy) (es : List Event) → Each Echo ds → Apart es → Apart (scheduling (numbered m ds) es)
+echoes-apart m [] es h a = a
+echoes-apart m (d ∷ ds) es h a = echoes-apart (suc m) ds _ (h .1) (λ e. absurd (false≢true (sym (echo-is d (h .0)) ∙ e)), a)
+
+-- ---- From `Apart` to the statement on two originals
+
+later-apart : (l es : List Event) → Apart (l ++ es) → Apart es
+later-apart [] es h = h
+later-apart (scheduled c ∷ l) es h = later-apart l es (h .1)
+later-apart (landed c ∷ l) es h = later-apart l es h
+later-apart (dropped c ∷ l) es h = later-apart l es h
+later-apart (down t ∷ l) es h = later-apart l es h
+
+cleared : (t i : ℕ) (m es : List Event) (c : Copy) → T (originalOf t i c) → standing t i (m ++ scheduled c ∷ es) ≡ false → T (some-of (clears t i) m)
+cleared t i [] es c o h = go (originalOf t i c) o h
+  where
+    go : (b : Bool) → T b → (b || standing t i es) ≡ false → ⊥
+    go true u e = let z : _≡_ {A = ℕ} 0 1 = cc in omega arith
+    go false u e = u
+cleared t i (scheduled d ∷ m) es c o h = cleared t i m es c o (go (originalOf t i d) h)
+  where
+    go : (b : Bool) → (b || standing t i (m ++ scheduled c ∷ es)) ≡ false → standing t i (m ++ scheduled c ∷ es) ≡ false
+    go true e = cc
+    go false e = e
+cleared t i (landed d ∷ m) es c o h = cleared t i m es c o h
+cleared t i (dropped d ∷ m) es c o h = go (originalOf t i d) h (λ e. cleared t i m es c o e)
+  where
+    go : (b : Bool) → (not b && standing t i (m ++ scheduled c ∷ es)) ≡ false → (standing t i (m ++ scheduled c ∷ es) ≡ false → T (some-of (clears t i) m)) → T (b || some-of (clears t i) m)
+    go true e k = tt
+    go false e k = k e
+cleared t i (down u ∷ m) es c o h = go (eqb t u) h (λ e. cleared t i m es c o e)
+  where
+    go : (b : Bool) → (not b && standing t i (m ++ scheduled c ∷ es)) ≡ false → (standing t i (m ++ scheduled c ∷ es) ≡ false → T (some-of (clears t i) m)) → T (b || some-of (clears t i) m)
+    go true e k = tt
+    go false e k = k e
+
+fresh-original : (t i : ℕ) (d : Copy) (es : List Event) → (isOriginal d ≡ true → standing (d .delivery .to) (d .id) es ≡ false) → T (originalOf t i d) → standing t i es ≡ false
+fresh-original t i d es f o = go (isOriginal d) (eqb i (d .id)) (eqb t (d .delivery .to)) refl refl refl o
+  where
+    go : (k a b : Bool) → isOriginal d ≡ k → eqb i (d .id) ≡ a → eqb t (d .delivery .to) ≡ b → T (k && a && b) → standing t i es ≡ false
+    go true true true z p q h = rw (eqb-true i (d .id) p, eqb-true t (d .delivery .to) q) (f z)
+    go true true false z p q h = absurd h
+    go true false b z p q h = absurd h
+    go false a b z p q h = absurd h
+
+-- No two originals of one id are scheduled for one till without, in between, a take-down of that till or a flush drop of such an original to it.
+pub two-originals : (past l m es : List Event) (c d : Copy) (t i : ℕ) → Apart past → past ≡ l ++ scheduled d ∷ (m ++ scheduled c ∷ es)
+    → T (originalOf t i c) → T (originalOf t i d) → T (some-of (clears t i) m)
+two-originals past l m es c d t i h e oc od =
+    let k : Apart (scheduled d ∷ (m ++ scheduled c ∷ es)) = later-apart l (scheduled d ∷ (m ++ scheduled c ∷ es)) (rw e at h) in
+    cleared t i m es c oc (fresh-original t i d (m ++ scheduled c ∷ es) (k .0) od)

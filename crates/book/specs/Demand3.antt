@@ -1,0 +1,206 @@
+-- DEMAND 3: one statement on every list of calls after an accepted opening.
+use mathlib.Core.Path.{_≡_}
+use Prim.Native.Nat.{ℕ, zero, suc, _+_}
+use mathlib.Core.Bool.{Bool, true, false}
+use mathlib.Core.List.{List, [], _∷_, _++_, map, reverseAux}
+use lib.Dec.{T}
+use lib.ListN.{length, drop}
+use Rattle.rows.specs.Rows.{keep}
+use Rattle.waiting.specs.Waiting.{onTime, Sorted}
+use Rattle.waiting.specs.declared.Copy.{Copy}
+use Rattle.rules.specs.Rules.{Ascending}
+use Rattle.network.specs.Lists.{bit, count, some-of}
+use Rattle.network.specs.Opening.{Settings, Opening}
+use Rattle.network.specs.Live.{Live, marked}
+use Rattle.log.specs.Log.{Log, emptyLog}
+use Rattle.network.specs.Accept.{messageOf, selected, Booked, booked, noCounts, tally, total}
+use Rattle.network.specs.Flush.{Row, handled, due, loggedAll}
+use Rattle.network.specs.Calls.{Call, Answer, silent, counted, countsIn, rowsIn, deliveredIn, dropsIn, accept, flush, takeDown, bringUp, handlers, block, blockDuring, unblock, install, remove, decide, drain, reading}
+use Rattle.network.specs.Questions.{asked, answerTo}
+use Rattle.network.specs.Tables.{Tables, sizesAt, live}
+use Rattle.network.specs.Real.{openingOf, openingAt}
+use Rattle.network.specs.Lent.{question1}
+use Rattle.network.specs.Writes.{Reply, isNumber, outputOf, callTables, callReply, callOutput}
+use Rattle.network.specs.Open.{askedOpening, openNumber, openTables, openCall}
+use Rattle.book.specs.Book.{Book, Event, scheduled, scheduledIn, landedIn, droppedIn, bookStep, expected, opened}
+use Rattle.book.specs.History.{hasSequence, given, originalOf, clears, standing}
+
+-- ---- A list of calls
+
+-- a call on the tables that the last one left; a call that was lent others, which question 1 refuses; an opening, on whatever tables, that a number refuses
+pub data Item : Type 0 where
+  own : Call → Item
+  others : Tables → Call → Item
+  reopen : Tables → Settings → (masks : List ℕ) → Item
+
+abbrev pub Admitted : Item → Type 0
+Admitted (own c) = Unit {0}
+Admitted (others X c) = question1 (sizesAt (X .setup)) X c ≡ false
+Admitted (reopen X y ms) = openNumber y ms X ≡ 0 → ⊥
+
+abbrev pub AllAdmitted : List Item → Type 0
+AllAdmitted [] = Unit {0}
+AllAdmitted (i ∷ is) = Admitted i × AllAdmitted is
+
+abbrev pub replyTo : Tables → Item → Reply
+replyTo T (own c) = callReply T c
+replyTo T (others X c) = callReply X c
+replyTo T (reopen X y ms) = record { number = openNumber y ms X; answer = silent }
+
+-- the tables that the next call gets
+abbrev pub tablesAfter : Tables → Item → Tables
+tablesAfter T (own c) = callTables T c
+tablesAfter T (others X c) = T
+tablesAfter T (reopen X y ms) = T
+
+abbrev pub tablesAtEnd : Tables → List Item → Tables
+tablesAtEnd T [] = T
+tablesAtEnd T (i ∷ is) = tablesAtEnd (tablesAfter T i) is
+
+abbrev pub refused : Tables → Item → Bool
+refused T i = isNumber (replyTo T i .number)
+
+-- a refused call leaves what it was lent as found
+abbrev pub Kept : Tables → Item → Type 0
+Kept T (own c) = refused T (own c) ≡ true → (callTables T c ≡ T) × ((out : List ℕ) → callOutput T c out ≡ out)
+Kept T (others X c) = (callTables X c ≡ X) × ((out : List ℕ) → callOutput X c out ≡ out)
+Kept T (reopen X y ms) = openCall y ms X ≡ X
+
+abbrev pub copiesOf : List Row → List Copy
+copiesOf rows = map (λ (r : Row). r .copy) rows
+
+-- ---- Along the list: the program's tables T, and the book b, fed the calls and of the answers only whether a number refused
+
+module _ (o : Opening) where
+  abbrev pub bookAfter : Book → Tables → Item → Book
+  bookAfter b T (own c) = bookStep o b c (refused T (own c))
+  bookAfter b T (others X c) = bookStep o b c (refused T (others X c))
+  bookAfter b T (reopen X y ms) = b
+
+  abbrev pub expectedOf : Book → Tables → Item → Answer
+  expectedOf b T (own c) = expected o b c (refused T (own c))
+  expectedOf b T (others X c) = expected o b c (refused T (others X c))
+  expectedOf b T (reopen X y ms) = silent
+
+  abbrev pub bookAtEnd : Book → Tables → List Item → Book
+  bookAtEnd b T [] = b
+  bookAtEnd b T (i ∷ is) = bookAtEnd (bookAfter b T i) (tablesAfter T i) is
+
+  -- ---- What holds of each call
+
+  -- a number came back only where its question's answer is "no"; question 1 is asked of the tables lent, the others of the book
+  abbrev pub OnlyNo : Book → Item → ℕ → Type 0
+  OnlyNo b i zero = Unit {0}
+  OnlyNo b (own c) (suc n) = answerTo (asked o (b .live) c) (suc n) ≡ false
+  OnlyNo b (others X c) (suc n) = (suc n ≡ 1) × (question1 (sizesAt (X .setup)) X c ≡ false)
+  OnlyNo b (reopen X y ms) (suc n) = answerTo (askedOpening y ms X) (suc n) ≡ false
+
+  -- an accepted entry that opened: each of its selected tills goes under exactly one of the five, the book's class of it, and the counts count these tills
+  pub record FiveCounts (b : Book) (c : Call) (scope from : ℕ) (bs : List Booked) (a : Answer) : Type 0 where
+    pub each-once : map (λ (x : Booked). x .till) bs ≡ selected o (b .live) scope from
+    pub counts : countsIn a ≡ tally bs
+    pub sum : total (countsIn a) ≡ length (selected o (b .live) scope from)
+
+  abbrev pub SumOf : Book → Item → Reply → Type 0
+  SumOf b (own (accept e true)) r =
+      r .number ≡ 0 → FiveCounts b (accept e true) (e .scope) (e .from) (booked o (messageOf o e) (b .live) (selected o (b .live) (e .scope) (e .from))) (r .answer)
+  SumOf b (own (accept e false)) r = countsIn (r .answer) ≡ noCounts
+  SumOf b (own (flush now rows)) r = countsIn (r .answer) ≡ noCounts
+  SumOf b (own (takeDown t)) r = countsIn (r .answer) ≡ noCounts
+  SumOf b (own (bringUp t shards)) r = countsIn (r .answer) ≡ noCounts
+  SumOf b (own (handlers t gossip host)) r = countsIn (r .answer) ≡ noCounts
+  SumOf b (own (block from to)) r = countsIn (r .answer) ≡ noCounts
+  SumOf b (own (blockDuring from to start end)) r = countsIn (r .answer) ≡ noCounts
+  SumOf b (own (unblock from to)) r = countsIn (r .answer) ≡ noCounts
+  SumOf b (own (install card)) r = countsIn (r .answer) ≡ noCounts
+  SumOf b (own (remove id)) r = countsIn (r .answer) ≡ noCounts
+  SumOf b (own (decide x)) r = countsIn (r .answer) ≡ noCounts
+  SumOf b (own (drain rows)) r = countsIn (r .answer) ≡ noCounts
+  SumOf b (own (reading x)) r = countsIn (r .answer) ≡ noCounts
+  SumOf b (others X c) r = r .answer ≡ silent
+  SumOf b (reopen X y ms) r = r .answer ≡ silent
+
+  -- the log follows from the rows: each row's delivery goes in, in their order; a drain empties it
+  abbrev pub isDrain : Call → Bool
+  isDrain (drain rows) = true
+  isDrain (accept e opens) = false
+  isDrain (flush now rows) = false
+  isDrain (takeDown t) = false
+  isDrain (bringUp t shards) = false
+  isDrain (handlers t gossip host) = false
+  isDrain (block from to) = false
+  isDrain (blockDuring from to start end) = false
+  isDrain (unblock from to) = false
+  isDrain (install card) = false
+  isDrain (remove id) = false
+  isDrain (decide x) = false
+  isDrain (reading r) = false
+
+  abbrev pub logFrom : Bool → Log → Answer → Log
+  logFrom true l a = emptyLog
+  logFrom false l a = loggedAll (o .sizes .logSlots) l (copiesOf (rowsIn a))
+
+  abbrev pub LogOf : Book → Book → Item → Reply → Type 0
+  LogOf b b′ (own c) r = r .number ≡ 0 → b′ .live .log ≡ logFrom (isDrain c) (b .live .log) (r .answer)
+  LogOf b b′ (others X c) r = b′ .live .log ≡ b .live .log
+  LogOf b b′ (reopen X y ms) r = b′ .live .log ≡ b .live .log
+
+  pub record CallHolds (b : Book) (T : Tables) (i : Item) : Type 0 where
+    -- its counts, and a flush's rows in their order, are the book's
+    pub same-answer : replyTo T i .answer ≡ expectedOf b T i
+    pub only-no : OnlyNo b i (replyTo T i .number)
+    pub kept : Kept T i
+    -- its rows, in their order, are the copies that land with it; its drops count the copies that it drops, and delivered its rows with a handler
+    pub rows-land : landedIn (bookAfter b T i .past) ≡ reverseAux (copiesOf (rowsIn (replyTo T i .answer))) (landedIn (b .past))
+    pub drops-count : length (droppedIn (bookAfter b T i .past)) ≡ dropsIn (replyTo T i .answer) + length (droppedIn (b .past))
+    pub delivered-count : deliveredIn (replyTo T i .answer) ≡ count handled (rowsIn (replyTo T i .answer))
+    -- sent + deduplicated + partition + loss + fault = recipients other than the sender, each of them under exactly one
+    pub sum : SumOf b i (replyTo T i)
+    pub log : LogOf b (bookAfter b T i) i (replyTo T i)
+
+  abbrev pub CallsHold : Book → Tables → List Item → Type 0
+  CallsHold b T [] = Unit {0}
+  CallsHold b T (i ∷ is) = CallHolds b T i × CallsHold (bookAfter b T i) (tablesAfter T i) is
+
+-- ---- What holds of the book
+
+pub record BookHolds (b : Book) : Type 0 where
+  -- every copy scheduled is in one place, waiting, one row or one flush drop, and nothing else is in any of these
+  pub same-copies : (p : Copy → Bool) → count p (scheduledIn (b .past)) ≡ count p (b .live .waiting) + (count p (landedIn (b .past)) + count p (droppedIn (b .past)))
+  pub one-place : (n : ℕ) → count (hasSequence n) (b .live .waiting) + (count (hasSequence n) (landedIn (b .past)) + count (hasSequence n) (droppedIn (b .past))) ≡ bit (given n (b .live .sequence))
+  -- no two originals of one id are scheduled for one till without, in between, a take-down of that till or a flush drop of such an original to it
+  pub two-apart : (after between before : List Event) (c d : Copy) (t i : ℕ) → b .past ≡ after ++ scheduled d ∷ (between ++ scheduled c ∷ before)
+      → T (originalOf t i c) → T (originalOf t i d) → T (some-of (clears t i) between)
+  -- a mark stands exactly where an original was scheduled and nothing has cleared it since
+  pub marks : (t i : ℕ) → marked (b .live) t i ≡ standing t i (b .past)
+  -- waiting stands by time, then sequence, and a flush takes all the copies with a time at or before now
+  pub sorted : Sorted (b .live .waiting)
+  pub due-all : (now : ℕ) → due now (b .live) ≡ keep (onTime now) (b .live .waiting)
+  -- no two rules have one id, and none an id that is still to come
+  pub rule-ids : Ascending 0 (b .live .engine .installed) (b .live .engine .rules)
+
+pub record Demand3 (x : Settings) (masks : List ℕ) (lent : Tables) (is : List Item) : Type 0 where
+  pub calls : CallsHold (openingOf x (lent .names)) (opened (openingOf x (lent .names)) masks) (openTables x masks lent) is
+  -- the copies waiting at the list's end are the book's, in every field, each one time; so is all else that the tables hold, and the opening's settings
+  pub same-live : live (x .sizes) (tablesAtEnd (openTables x masks lent) is) ≡ bookAtEnd (openingOf x (lent .names)) (opened (openingOf x (lent .names)) masks) (openTables x masks lent) is .live
+  pub same-opening : openingAt (tablesAtEnd (openTables x masks lent) is) ≡ openingOf x (lent .names)
+  pub book : BookHolds (bookAtEnd (openingOf x (lent .names)) (opened (openingOf x (lent .names)) masks) (openTables x masks lent) is)
+
+-- ---- A later accepted opening begins another list
+
+pub record Run : Type 0 where
+  pub settings : Settings
+  pub masks : List ℕ
+  pub items : List Item
+
+abbrev pub tablesAfterRun : Tables → Run → Tables
+tablesAfterRun T r = tablesAtEnd (openTables (r .settings) (r .masks) T) (r .items)
+
+-- each opening is accepted, on the tables that the list before it left
+abbrev pub Accepted : Tables → List Run → Type 0
+Accepted T [] = Unit {0}
+Accepted T (r ∷ rs) = (openNumber (r .settings) (r .masks) T ≡ 0) × AllAdmitted (r .items) × Accepted (tablesAfterRun T r) rs
+
+abbrev pub EveryList : Tables → List Run → Type 0
+EveryList T [] = Unit {0}
+EveryList T (r ∷ rs) = Demand3 (r .settings) (r .masks) T (r .items) × EveryList (tablesAfterRun T r) rs

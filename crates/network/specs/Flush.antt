@@ -1,0 +1,75 @@
+-- Flush, the log, and its drain.
+use Prim.Native.Nat.{ℕ, zero, suc, _+_, _*_}
+use mathlib.Core.Bool.{Bool, true, false, cond, not, _&&_, _||_}
+use mathlib.Core.List.{List, [], _∷_, _++_, map}
+use lib.Dec.{eqb}
+use lib.ListN.{length, getD, set}
+use Rattle.rows.specs.Rows.{keep}
+use Rattle.waiting.specs.declared.Copy.{Copy}
+use Rattle.waiting.specs.Waiting.{onTime}
+use Rattle.rows.specs.Lists.{front, behind}
+use Rattle.network.specs.Lists.{bit, count, bitAt}
+use Rattle.marks.specs.Marks.{removed}
+use Rattle.log.specs.Log.{Log, logged}
+use Rattle.network.specs.Opening.{Opening, global}
+use Rattle.network.specs.Live.{Live, isOriginal, tillAt, stopped, withSeen, withWaiting, withLog}
+
+-- the waiting copies with a time at or before now: a front part, since they stand by time, then sequence
+abbrev pub due : ℕ → Live → List Copy
+due now s = front (onTime now) s.waiting
+
+abbrev pub later : ℕ → Live → List Copy
+later now s = behind (onTime now) s.waiting
+
+-- blocks at the copy's delivery time, down tills as they are now
+abbrev pub stops : Live → Copy → Bool
+stops s c = stopped s (c .delivery .from) (c .delivery .to) (c .delivery .time)
+
+abbrev pub unmark : ℕ → ℕ → List (List ℕ) → List (List ℕ)
+unmark t i seen = set seen t (removed i (getD seen t []))
+
+-- a flush drop clears an original's mark
+abbrev pub clearing : Live → List Copy → List (List ℕ) → List (List ℕ)
+clearing s [] seen = seen
+clearing s (c ∷ cs) seen = clearing s cs (cond (stops s c && isOriginal c) (unmark (c .delivery .to) (c .id) seen) seen)
+
+-- ---- Rows
+
+-- a landed copy, and whether a gossip and a host handler take it (1 or 0)
+pub record Row : Type 0 where
+  pub copy : Copy
+  pub gossip : ℕ
+  pub host : ℕ
+
+-- a host handler takes global entries only
+abbrev pub rowOf : Live → Copy → Row
+rowOf s c = record {
+  copy = c;
+  gossip = bit (bitAt (tillAt s (c .delivery .to) .gossip) (c .delivery .kind));
+  host = bit (eqb (c .delivery .scope) global && bitAt (tillAt s (c .delivery .to) .host) (c .delivery .kind));
+}
+
+abbrev pub handled : Row → Bool
+handled r = not (eqb (r .gossip + r .host) 0)
+
+abbrev pub lands : Live → List Copy → List Copy
+lands s cs = keep (λ c. not (stops s c)) cs
+
+abbrev pub rowsOf : Live → List Copy → List Row
+rowsOf s cs = map (rowOf s) (lands s cs)
+
+abbrev pub dropsOf : Live → List Copy → ℕ
+dropsOf s cs = count (stops s) cs
+
+-- ---- The log
+
+-- each row's delivery, in their order
+abbrev pub loggedAll : ℕ → Log → List Copy → Log
+loggedAll places l [] = l
+loggedAll places l (c ∷ cs) = loggedAll places (logged places l (c .delivery)) cs
+
+abbrev pub flushed : Opening → ℕ → Live → Live
+flushed o now s =
+    let s₁ = withSeen s (clearing s (due now s) s.seen) in
+    let s₂ = withWaiting s₁ s.sequence (later now s) in
+    withLog s₂ (loggedAll (o .sizes .logSlots) s.log (lands s (due now s)))
