@@ -5,10 +5,10 @@ use mathlib.Core.Bool.{Bool, true, false, cond, _&&_}
 use Prim.Native.Nat.{ℕ, zero, suc, _+_, _-_, _/_, _≤_, _<_}
 use native.Mathlib.Omega.{arith}
 use lib.Dec.{ltb, eqb}
-use lib.ListN.{length, getD, take, drop, set, length-take, length-drop, length-append, take-append-drop}
-use lib.Seq.{getD-take, getD-drop, length-take-le, drop-drop}
+use lib.ListN.{length, getD, take, drop, set, length-take, length-drop, length-append}
+use lib.Seq.{getD-take, getD-drop, length-take-le}
 use borrow.Author.Tests.{lt-ltb, le-ltb, eq-eqb, ne-eqb, eqb-true, eqb-false}
-use Rattle.shift.specs.Shift.{putWords, opened, insertedWords, closed}
+use Rattle.shift.specs.Shift.{putWords, opened, closed}
 use Rattle.shift.proofs.Laws.{opened-set}
 use Rattle.shift.proofs.Parts.{part-inserted, part-closed, is-put}
 use Rattle.marks.specs.declared.Span.{Span}

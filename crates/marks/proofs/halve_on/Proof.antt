@@ -28,9 +28,10 @@ loop-less c = let a = c .before .before .before .before .args in
 
 loop-again : tie.Need-loop-again Inv-loop μ-loop
 loop-again c = let a = c .before .before .before .before .args in
-    let l = drop (a .start) (a .seen .now) in
-    (let w = c .halve-once .ensures .1 in omega arith,
-    on-more l (a .id) (halve (a .s .n) l (a .id) (a .s .lo) (a .s .n)) (record { lo = c .before .before .loop .lo; n = c .before .before .loop .n }) (c .halve-once .result) (c .halve-once .ensures .0) (c .before .before .loop .inv .1))
+    let l = drop (a .start) (a .seen .now) in (
+      let w = c .halve-once .ensures .1 in omega arith,
+      on-more l (a .id) (halve (a .s .n) l (a .id) (a .s .lo) (a .s .n)) (record { lo = c .before .before .loop .lo; n = c .before .before .loop .n }) (c .halve-once .result) (c .halve-once .ensures .0) (c .before .before .loop .inv .1),
+    )
 
 returns : tie.Need-returns Inv-loop μ-loop
 returns c = let a = c .before .before .before .args in

@@ -36,9 +36,10 @@ pick-requires c κs = search needs
 returns-2 : tie.Need-returns-2
 returns-2 c = let a = c .before .before .before .before .args in
     let w = a .seen .now in
-    let mid = a .s .lo + (a .s .n - 1) / 2 in
-    (once-some (drop (a .start) w) (a .id) (a .s) mid (c .pick .result) (getD w (a .start + mid) 0) (c .before .before .if1 .left) refl (sym (getD-drop (a .start) w mid 0)) (c .pick .ensures),
-    let q = narrows (ltb (getD w (a .start + mid) 0) (a .id)) (a .s .lo) (a .s .n) (omega arith) in omega (arith, q, c .pick .ensures))
+    let mid = a .s .lo + (a .s .n - 1) / 2 in (
+      once-some (drop (a .start) w) (a .id) (a .s) mid (c .pick .result) (getD w (a .start + mid) 0) (c .before .before .if1 .left) refl (sym (getD-drop (a .start) w mid 0)) (c .pick .ensures),
+      let q = narrows (ltb (getD w (a .start + mid) 0) (a .id)) (a .s .lo) (a .s .n) (omega arith) in omega (arith, q, c .pick .ensures),
+    )
 
 pub halve-once-spec : {M : Type 1} → statement M
 halve-once-spec =
