@@ -1,16 +1,16 @@
 -- A drain: the records copied out one by one, and the head cleared. Assumes nothing.
 use mathlib.Core.Path.{_≡_, refl, sym, ap, _∙_}
 use mathlib.Core.List.{List, [], _∷_, _++_}
-use mathlib.Core.Bool.{Bool, true, false, cond}
-use Prim.Native.Nat.{ℕ, zero, suc, _+_, _*_, _-_, _≤_, _<_}
+use mathlib.Core.Bool.{Bool, cond}
+use Prim.Native.Nat.{ℕ, suc, _+_, _*_, _-_, _≤_, _<_}
 use native.Mathlib.Nat.{zero-mul}
 use native.Mathlib.Omega.{arith}
-use lib.ListN.{length, getD, take, drop, set, length-replicate, replicate, replicate-append-replicate}
+use lib.ListN.{length, getD, drop, set, length-replicate, replicate, replicate-append-replicate}
 use lib.Seq.{drop-cons, set-at, append-snoc}
 use Rattle.shift.specs.Shift.{putWords}
-use Rattle.rows.specs.Table.{Form, rowsOf, over}
+use Rattle.rows.specs.Table.{rowsOf, over}
 use Rattle.rows.proofs.Table.{over-more, rows-over}
-use Rattle.ring.specs.Ring.{slotOf, ringFrom, ring, slotAt, countAt, firstAt}
+use Rattle.ring.specs.Ring.{slotOf, ringFrom, slotAt, countAt, firstAt}
 use Rattle.ring.proofs.Laws.{from-snoc, length-from}
 use Rattle.delivery.specs.declared.Delivery.{Delivery}
 use Rattle.delivery.specs.Delivery as delivery

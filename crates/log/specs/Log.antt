@@ -1,7 +1,7 @@
 -- The delivery log in one table: count and first slot of its ring at 0 and 1, records forced out, tallies of each class, then the records.
 use mathlib.Core.List.{List, [], _∷_, _++_}
-use mathlib.Core.Bool.{Bool, true, false, cond}
-use Prim.Native.Nat.{ℕ, suc, _+_, _*_, _%_, _^_, _≤_, _<_}
+use mathlib.Core.Bool.{Bool, cond}
+use Prim.Native.Nat.{ℕ, _+_, _*_, _%_, _^_, _≤_, _<_}
 use lib.Dec.{ltb, eqb}
 use lib.ListN.{length, getD, set, drop, replicate}
 use Rattle.shift.specs.Shift.{putWords}

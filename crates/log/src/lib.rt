@@ -14,7 +14,7 @@ const FORCED: usize = 2;
 
 const TALLIES: usize = 3;
 
-pub const RECORDS: usize = 19;
+pub const RECORDS: usize = TALLIES + 8 * 2;
 
 const CLASSES: u64 = 8;
 

@@ -1,7 +1,7 @@
 -- A ring of `m` slots: its oldest entry stands in the slot `first`, the others behind it, round the end.
 -- In a table of words its count and first slot stand at h and h + 1, its slots from `base` on.
 use mathlib.Core.List.{List, [], _∷_, _++_}
-use mathlib.Core.Bool.{Bool, true, false, cond, _&&_}
+use mathlib.Core.Bool.{Bool, cond, _&&_}
 use Prim.Native.Nat.{ℕ, zero, suc, _+_, _*_, _-_, _≤_, _<_}
 use lib.Dec.{ltb, leb}
 use lib.ListN.{length, getD, drop}

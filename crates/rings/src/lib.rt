@@ -15,10 +15,10 @@ pub const WIDTH: usize = 3;
 
 const HEAD: usize = 2;
 
-const SPAN: usize = 192;
+const SPAN: usize = SLOTS * WIDTH;
 
 // Words of a ring: its head and its entries.
-pub const SIZE: usize = 194;
+pub const SIZE: usize = HEAD + SPAN;
 
 // Scopes of a type: a ring for each shard, and one for global.
 pub const SCOPES: usize = 17;

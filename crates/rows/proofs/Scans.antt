@@ -1,7 +1,7 @@
 -- A scan of a list from the front: i elements have passed. Assumes nothing.
 use mathlib.Core.Path.{_≡_, refl, sym, ap, _∙_}
 use mathlib.Core.List.{List, [], _∷_}
-use mathlib.Core.Bool.{Bool, true, false, _&&_, true≢false, false≢true}
+use mathlib.Core.Bool.{Bool, true, false, _&&_, false≢true}
 use Prim.Native.Nat.{ℕ, zero, suc, _+_, _≤_, _<_}
 use native.Mathlib.Numerals.{add-one}
 use native.Mathlib.Omega.{arith}

@@ -1,6 +1,6 @@
 -- Small functions on the lists that tables hold.
 use mathlib.Core.List.{List, [], _∷_}
-use mathlib.Core.Bool.{Bool, true, false, cond}
+use mathlib.Core.Bool.{Bool, cond}
 use Prim.Native.Nat.{ℕ, zero, suc}
 
 module _ {A : Type 0} where

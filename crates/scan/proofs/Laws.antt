@@ -7,7 +7,7 @@ use native.Mathlib.Nat.{zero-add, add-mul, mul-le-mul-right, zero-mul, add-zero}
 use native.Mathlib.Omega.{arith}
 use lib.Dec.{ltb, leb}
 use lib.ListN.{length, getD, take, drop}
-use borrow.Author.Tests.{ltb-true, leb-true, lt-ltb, le-ltb, le-leb, lt-leb}
+use borrow.Author.Tests.{ltb-true, leb-true, lt-ltb, le-ltb}
 use Rattle.rows.specs.Rows.{allOf}
 use Rattle.rows.specs.Lists.{upTo}
 use Rattle.rows.proofs.Rows.{length-rows}
@@ -18,7 +18,7 @@ use Rattle.delivery.specs.declared.Delivery.{Delivery}
 use Rattle.delivery.specs.Delivery as delivery
 use Rattle.waiting.specs.declared.Copy.{Copy}
 use Rattle.waiting.specs.Waiting as waiting
-use Rattle.ring.specs.Ring.{soundAt, Sound, countAt, firstAt, slotAt, ring}
+use Rattle.ring.specs.Ring.{soundAt, countAt, firstAt, slotAt}
 use Rattle.ring.proofs.Laws.{ring-at, length-from}
 use Rattle.ring.proofs.Table.{true-sound}
 use Rattle.rings.specs.declared.Entry.{Entry}

@@ -75,12 +75,25 @@ pub extern "C" fn tables_marks_remove(seen: &mut [u64], count: usize, id: u64) -
     marks::remove(seen, 0, count, id)
 }
 
-// One entry more for ring r.
+// How many entries ring r has.
 #[no_mangle]
-pub extern "C" fn tables_ring_push(
+pub extern "C" fn tables_ring_count(ws: &[u64], rings: usize, r: usize) -> u64 {
+    if ws.len() / rings::SIZE < rings {
+        return 0;
+    }
+    if rings <= r {
+        return 0;
+    }
+    rings::count(ws, rings, r)
+}
+
+// The tag of the k-th oldest entry of ring r; then one entry more.
+#[no_mangle]
+pub extern "C" fn tables_ring_turn(
     ws: &mut [u64],
     rings: usize,
     r: usize,
+    k: usize,
     class: u64,
     wire: u64,
     tag: u64,
@@ -91,26 +104,14 @@ pub extern "C" fn tables_ring_push(
     if rings <= r {
         return 0;
     }
+    let old = rings::get(ws, rings, r, k);
     let e = Entry {
         class: class,
         wire: wire,
         tag: tag,
     };
     rings::push(ws, rings, r, e);
-    1
-}
-
-// The tag of the k-th oldest entry of ring r.
-#[no_mangle]
-pub extern "C" fn tables_ring_tag(ws: &[u64], rings: usize, r: usize, k: usize) -> u64 {
-    if ws.len() / rings::SIZE < rings {
-        return 0;
-    }
-    if rings <= r {
-        return 0;
-    }
-    let e = rings::get(ws, rings, r, k);
-    e.tag
+    old.tag
 }
 
 // A delivery, lent as a row, is logged.

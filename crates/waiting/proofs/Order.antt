@@ -1,16 +1,16 @@
 -- The order: kept by an insertion and by the removal of a front part; on copies in order the due ones are those at the front. Assumes nothing.
 use mathlib.Core.Path.{_≡_, refl, sym, ap, _∙_}
 use mathlib.Core.Bool.{Bool, true, false, cond, not, _&&_, _||_, true≢false, false≢true}
-use mathlib.Core.List.{List, [], _∷_, _++_}
-use Prim.Native.Nat.{ℕ, zero, suc, _+_, _*_, _-_, _≤_, _<_}
+use mathlib.Core.List.{List, [], _∷_}
+use Prim.Native.Nat.{ℕ, zero, suc, _+_, _-_, _≤_, _<_}
 use native.Mathlib.Omega.{arith}
-use lib.Dec.{eqb, leb, ltb}
+use lib.Dec.{eqb, ltb}
 use lib.ListN.{length, drop, length-drop}
-use borrow.Author.Tests.{ltb-true, ltb-false, leb-false, eqb-true, eqb-false, lt-ltb, le-ltb, lt-leb, eq-eqb}
+use borrow.Author.Tests.{ltb-true, ltb-false, leb-false, eqb-true, lt-ltb, lt-leb, eq-eqb}
 use Rattle.rows.specs.Rows.{keep, pick}
 use Rattle.rows.specs.Lists.{Each, front, behind}
 use Rattle.rows.specs.Table.{over}
-use Rattle.rows.proofs.Lists.{each-map, drop-front}
+use Rattle.rows.proofs.Lists.{each-map}
 use Rattle.rows.proofs.Rows.{length-rows}
 use Rattle.rows.proofs.Table.{rows-over}
 use Rattle.waiting.specs.declared.Copy.{Copy}

@@ -9,7 +9,7 @@ ghost use Rattle.waiting.specs.Waiting.{width, read, words, form, copies
 use delivery::Delivery;
 
 // How many words a waiting copy has.
-pub const WIDTH: usize = 12;
+pub const WIDTH: usize = delivery::WIDTH + 4;
 
 // `original` is 1 where the copy has an id, else 0.
 pub struct Copy {
