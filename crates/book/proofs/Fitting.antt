@@ -10,7 +10,8 @@ use lib.ListN.{length, getD, set, drop, length-set, length-append}
 use lib.Seq.{getD-set-same, getD-set-other}
 use borrow.Author.Tests.{ltb-true, eqb-true, eqb-false, lt-ltb}
 use Rattle.rows.specs.Rows.{pick, keep}
-use Rattle.rows.specs.Lists.{Each, behind, push}
+use Rattle.rows.specs.Lists.{Each, behind}
+use Rattle.ring.specs.Ring.{push}
 use Rattle.rows.proofs.Lists.{each-map}
 use Rattle.delivery.specs.declared.Delivery.{Delivery}
 use Rattle.waiting.specs.Waiting.{insertCopy}

@@ -8,7 +8,8 @@ use mathlib.Core.List.{List, [], _∷_, _++_}
 use lib.Dec.{ltb, leb}
 use lib.ListN.{length, getD, set, take, drop, length-take}
 use borrow.Author.Tests.{ltb-true, leb-true}
-use Rattle.rows.specs.Lists.{Each, push, upTo}
+use Rattle.rows.specs.Lists.{Each, upTo}
+use Rattle.ring.specs.Ring.{push}
 use Rattle.rows.proofs.Lists.{each-map, getD-upTo}
 use Rattle.rows.proofs.Rows.{length-rows}
 use Rattle.delivery.specs.declared.Delivery.{Delivery}

@@ -10,7 +10,8 @@ use lib.Dec.{eqb, leb, ltb}
 use lib.ListN.{length, getD, set, length-set, length-replicate, length-append}
 use borrow.Author.Tests.{ltb-true, leb-true, lt-ltb, eqb-true}
 use Rattle.rows.specs.Rows.{allOf, keep}
-use Rattle.rows.specs.Lists.{Each, front, behind, push}
+use Rattle.rows.specs.Lists.{Each, front, behind}
+use Rattle.ring.specs.Ring.{push}
 use Rattle.rows.proofs.Lists.{length-upTo}
 use Rattle.delivery.specs.declared.Delivery.{Delivery}
 use Rattle.waiting.specs.Waiting.{onTime}

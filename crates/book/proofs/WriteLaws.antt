@@ -14,7 +14,8 @@ use Rattle.shift.specs.Shift.{putWords, closed}
 use Rattle.shift.proofs.Laws.{length-put, length-closed}
 use Rattle.shift.proofs.Parts.{put-before, put-here}
 use Rattle.rows.specs.Rows.{rows, keep, flat, kept}
-use Rattle.rows.specs.Lists.{upTo, push}
+use Rattle.rows.specs.Lists.{upTo}
+use Rattle.ring.specs.Ring.{push}
 use Rattle.rows.specs.Table.{Form, Exact, rowsOf, over}
 use Rattle.rows.proofs.Rows.{length-rows, rows-take, rows-put}
 use Rattle.rows.proofs.Lists.{upTo-set, getD-upTo}

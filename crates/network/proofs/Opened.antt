@@ -10,7 +10,8 @@ use lib.ListN.{length, getD, take, drop, replicate, length-append, length-replic
 use lib.Seq.{take-at, drop-at, drop-append-add, take-append-seam, getD-append-add}
 use borrow.Author.Tests.{lt-ltb}
 use Rattle.compress.specs.Compress.{compressed, folded}
-use Rattle.digest.specs.Blake3.{hash, tree, chunk, blocks, parent, pick}
+use Rattle.chunk.specs.Chunk.{chunk, blocks, parent}
+use Rattle.digest.specs.Blake3.{hash, tree, pick}
 use Rattle.rows.specs.Rows.{flat, allOf}
 use Rattle.rows.specs.Lists.{upTo}
 use Rattle.rows.proofs.Lists.{length-upTo, getD-upTo}
