@@ -17,11 +17,12 @@ use Rattle.rows.specs.Lists.{upTo}
 use Rattle.rows.proofs.Lists.{length-upTo, getD-upTo}
 use Rattle.geography.specs.Geography.{atLeastOne, linkWidth, linkIn, linkAt, linkAdmitted, planLink, regionOf, pricesOf}
 use Rattle.geography.specs.declared.Link.{Link}
+use Rattle.streams.specs.Link.{linkKey}
 use Rattle.geography.proofs.Prices.{length-prices, prices-are, plan-admitted}
 use Rattle.network.specs.Lists.{below}
 use Rattle.network.specs.Opening.{Plan, Settings}
 use Rattle.network.specs.Tables.{cell}
-use Rattle.network.specs.Real.{keyWidth, linkKey, keysOf, keyOf, pairCells, pricesWidth, pricedBy, regionAt}
+use Rattle.network.specs.Real.{keyWidth, keysOf, keyOf, pairCells, pricesWidth, pricedBy, regionAt}
 
 -- ---- A digest has 8 words
 

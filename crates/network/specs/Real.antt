@@ -11,7 +11,7 @@ use Rattle.digest.specs.Blake3.{hash}
 use Rattle.draw.specs.Draw.{whole32At, words32At}
 use Rattle.draw.specs.Fraction.{hitsAt, hitWords}
 use Rattle.latency.specs.Latency.{latencyAt, latencyWords}
-use Rattle.geography.specs.Bytes.{bytes4, bytes8}
+use Rattle.streams.specs.Link.{linkKey}
 use Rattle.geography.specs.Geography.{atLeastOne, linkWidth, regionOf, pricesOf, costOf}
 use Rattle.geography.specs.declared.Cost.{Cost}
 use Rattle.decide.specs.Decide.{decideOf}
@@ -25,14 +25,6 @@ use Rattle.network.specs.Tables.{Tables, cell, sizesAt, settingsAt, name
 -- a stream's key has 8 words
 abbrev pub keyWidth : ℕ
 keyWidth = 8
-
--- "link"
-abbrev pub label : List ℕ
-label = 108 ∷ 105 ∷ 110 ∷ 107 ∷ []
-
--- the digest of seed (8 bytes), "link", from, to (4 bytes each)
-unfoldable pub linkKey : (seed from to : ℕ) → List ℕ
-linkKey seed from to = hash (bytes8 seed ++ (label ++ (bytes4 from ++ bytes4 to)))
 
 -- the key of each ordered pair of tills
 unfoldable pub keysOf : Settings → List ℕ
