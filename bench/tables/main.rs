@@ -125,42 +125,33 @@ fn queue_once(rows: usize) {
     );
 }
 
-fn marks(n: usize) {
-    let times = 400_000 / n;
-    let mut r = Random(99887766);
-    let ids: Vec<u64> = (0..n * times).map(|_| r.next()).collect();
-    let mut seen = vec![0u64; n + 1];
+// Ids looked for and added, one after the other, to none at first.
+fn marks_added(n: usize, ids: &[u64]) {
+    let mut seen = vec![0u64; n];
     compare(
         &format!("marks, {n}: each looked for and added"),
-        n * times,
+        ids.len(),
         |_| {
-            let mut sum = 0;
-            for part in ids.chunks(n) {
-                let mut count = 0;
-                for &id in part {
-                    count = calls::add(&mut seen, count, id);
-                }
-                sum += count as u64;
-            }
-            sum
+            ids.chunks(n)
+                .map(|part| part.iter().fold(0, |count, &id| calls::add(&mut seen, count, id)) as u64)
+                .sum()
         },
         |_| {
-            let mut sum = 0;
-            for part in ids.chunks(n) {
+            let all = ids.chunks(n).map(|part| {
                 let mut set = HashSet::new();
-                for &id in part {
-                    rust::add(&mut set, id);
-                }
-                sum += set.len() as u64;
-            }
-            sum
+                part.iter().for_each(|&id| rust::add(&mut set, id));
+                set.len() as u64
+            });
+            all.sum()
         },
     );
+}
+
+// Among n marks: ids looked for, half of them there; then one removed and one added, again and again.
+fn marks_held(n: usize, ids: &[u64], r: &mut Random) {
     let set: HashSet<u64> = ids[..n].iter().copied().collect();
-    let mut count = 0;
-    for &id in &ids[..n] {
-        count = calls::add(&mut seen, count, id);
-    }
+    let mut seen = vec![0u64; n];
+    let count = ids[..n].iter().fold(0, |count, &id| calls::add(&mut seen, count, id));
     let asked: Vec<u64> = (0..400_000).map(|_| if r.below(2) == 0 { ids[r.below(n as u64) as usize] } else { r.next() }).collect();
     compare(
         &format!("marks, {n}: looked for, half of them there"),
@@ -168,36 +159,40 @@ fn marks(n: usize) {
         |_| asked.iter().filter(|&&id| calls::has(&seen, count, id)).count() as u64,
         |_| asked.iter().filter(|&&id| rust::has(&set, id)).count() as u64,
     );
-    let mut order: Vec<usize> = (0..n).collect();
-    for i in (1..n).rev() {
-        order.swap(i, r.below(i as u64 + 1) as usize);
-    }
-    let turn = 40_000;
-    let other: Vec<u64> = (0..turn).map(|_| r.next()).collect();
+    let mut held: Vec<u64> = ids[..n].to_vec();
+    let turns: Vec<(u64, u64)> = (0..40_000)
+        .map(|_| {
+            let (i, new) = (r.below(n as u64) as usize, r.next());
+            (std::mem::replace(&mut held[i], new), new)
+        })
+        .collect();
     compare(
         &format!("marks, {n}: one removed and one added"),
-        turn,
+        turns.len(),
         |_| {
             let (mut seen, mut count) = (seen.clone(), count);
-            let mut held: Vec<u64> = ids[..n].to_vec();
-            for (i, &id) in other.iter().enumerate() {
-                count = calls::remove(&mut seen, count, held[order[i % n]]);
-                count = calls::add(&mut seen, count, id);
-                held[order[i % n]] = id;
+            for &(old, new) in &turns {
+                count = calls::remove(&mut seen, count, old);
+                count = calls::add(&mut seen, count, new);
             }
             seen[..count].iter().fold(0, |a, b| a ^ b)
         },
         |_| {
             let mut set = set.clone();
-            let mut held: Vec<u64> = ids[..n].to_vec();
-            for (i, &id) in other.iter().enumerate() {
-                rust::remove(&mut set, held[order[i % n]]);
-                rust::add(&mut set, id);
-                held[order[i % n]] = id;
+            for &(old, new) in &turns {
+                rust::remove(&mut set, old);
+                rust::add(&mut set, new);
             }
             set.iter().fold(0, |a, b| a ^ b)
         },
     );
+}
+
+fn marks(n: usize) {
+    let mut r = Random(99887766);
+    let ids: Vec<u64> = (0..n * (400_000 / n)).map(|_| r.next()).collect();
+    marks_added(n, &ids);
+    marks_held(n, &ids, &mut r);
 }
 
 // Pushes to one of 272 rings of 64, one of its entries read before each.

@@ -54,11 +54,13 @@ fn is_before(a: Copy, b: Copy) -> bool
 {
     let early = a.delivery.time;
     let late = b.delivery.time;
+    let low = a.sequence;
+    let high = b.sequence;
     if early < late {
         return true;
     }
     if early == late {
-        return a.sequence < b.sequence;
+        return low < high;
     }
     false
 }
