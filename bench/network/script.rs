@@ -195,6 +195,29 @@ fn table(n: &mut Network, part: &str, o: &mut String) {
     }
 }
 
+/// What the opening wrote into `prices`: base and rate of each pair of regions, then the region of each till.
+fn geography(n: &Network, w: &[&str], o: &mut String) -> Res<()> {
+    let arg = |i: usize| -> Res<usize> { num(w.get(i).ok_or("argument missing")?) };
+    let planned = n.setup[13] != 0;
+    let regions = n.setup[14].max(1) as usize;
+    let region = |t: usize| n.prices[2 * regions * regions + t] as usize;
+    let pair = |a: usize, b: usize| {
+        let at = 2 * (region(a) * regions + region(b));
+        (n.prices[at], n.prices[at + 1])
+    };
+    let _ = match (w[0], planned) {
+        ("region", true) => writeln!(o, "region {}", region(arg(1)?)),
+        ("link", true) => {
+            let (base, rate) = pair(arg(1)?, arg(2)?);
+            writeln!(o, "link base={base} rate={rate}")
+        }
+        ("transmission", true) => writeln!(o, "transmission {}", arg(3)? as u64 * 1_000_000_000 / pair(arg(1)?, arg(2)?).1),
+        ("transmission", false) => writeln!(o, "transmission 0"),
+        (call, _) => writeln!(o, "{call} -"),
+    };
+    Ok(())
+}
+
 fn seen(n: &mut Network, t: u64, o: &mut String) {
     let v = n.marks(t);
     if v.number != 0 {
@@ -295,6 +318,9 @@ fn exec(n: &mut Network, line: &str, o: &mut String) -> Res<()> {
             None => (0..n.sizes.tills).for_each(|t| seen(n, t, o)),
         },
         "tills" | "blocks" | "rules" | "words" | "rings" => table(n, w[0], o),
+        "region" | "link" | "transmission" => geography(n, &w, o)?,
+        // a stream record of its own: no call of the network
+        "latency" => {}
         "state" => {
             for part in ["tills", "blocks", "rules", "words", "rings", "seen", "waiting"] {
                 exec(n, part, o)?;
