@@ -1,5 +1,5 @@
 -- Computed runs, on the tables: document 01's marked lines and tempting errors, which the theorem alone would not see where book and tables err alike.
--- Draws here are toys, so that each run is short: a fraction is a percentage that follows from the word count. `Real` has runs with the real ones.
+-- Draws here are toys, so that each run is short: a fraction is a percentage that follows from the word count. The crate `runs` has runs with the real ones.
 use mathlib.Core.Path.{_≡_, refl}
 use Prim.Native.Nat.{ℕ, zero, suc, _+_, _*_, _%_}
 use mathlib.Core.Bool.{Bool, true, false, cond, not}
@@ -71,11 +71,11 @@ settings waits log = record {
 }
 
 -- names "a" and "b" in a table of zeros
-abbrev names : List ℕ
+abbrev pub names : List ℕ
 names = 1 ∷ 97 ∷ (replicate 63 0 ++ (1 ∷ 98 ∷ replicate 1245 0))
 
 -- tables with something in every cell
-abbrev lent : Settings → Tables
+abbrev pub lent : Settings → Tables
 lent x =
     let n = lengthsOf x in
     record {
@@ -95,7 +95,7 @@ lent x =
     }
 
 -- tills 0 and 1 have the shard
-abbrev masks : List ℕ
+abbrev pub masks : List ℕ
 masks = 1 ∷ 1 ∷ 0 ∷ []
 
 -- the opening with toy draws, and the tables after a list of calls
@@ -121,14 +121,14 @@ reply cs c = replyBy plain (tables plain cs) c
 abbrev held : Opening → List Call → Live
 held o cs = live (small .sizes) (tables o cs)
 
-abbrev five : ℕ → ℕ → ℕ → ℕ → ℕ → Counts
+abbrev pub five : ℕ → ℕ → ℕ → ℕ → ℕ → Counts
 five sent deduplicated partition loss fault = record { sent = sent; deduplicated = deduplicated; partition = partition; loss = loss; fault = fault }
 
 -- one byte on the wire, type 1, class 2
-abbrev entry : ℕ → ℕ → ℕ → ℕ → Entry
+abbrev pub entry : ℕ → ℕ → ℕ → ℕ → Entry
 entry from now scope byte = record { from = from; now = now; kind = 1; class = 2; scope = scope; wire = byte ∷ []; tag = 77 }
 
-abbrev hello : Call
+abbrev pub hello : Call
 hello = accept (entry 0 1000 global 5) true
 
 abbrev counts : Reply → Counts
