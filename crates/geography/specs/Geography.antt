@@ -116,6 +116,11 @@ linkCost l bytes = record { base = l .base; transmission = record { ns = transmi
 unfoldable pub costOf : (planned : Bool) → List ℕ → (regions a b latency bytes : ℕ) → Cost
 costOf planned t regions a b latency bytes = pickCost planned (linkCost (linkAt t regions a b) bytes) (record { base = record { ns = latency }; transmission = record { ns = 0 } })
 
+-- the same by the plan alone, between two tills
+unfoldable pub planCost : (planned : Bool) (seed regions from to latency bytes : ℕ) → Cost
+planCost planned seed regions from to latency bytes =
+    pickCost planned (linkCost (planLink seed regions (regionOf seed regions from) (regionOf seed regions to)) bytes) (record { base = record { ns = latency }; transmission = record { ns = 0 } })
+
 -- a cursor of the stream with this key, at this count
 pub record Stands (k : List ℕ) (n : ℕ) (c : Cursor) : Type 0 where
   pub key : c .key ≡ k

@@ -6,7 +6,7 @@ use Prim.Native.Nat.{ℕ, zero, suc, _+_, _-_, _*_, _/_, _^_, _≤_, _<_, zero-l
 use native.Mathlib.Nat.{mul-pos, zero-mul, mul-zero, le-of-eq, le-trans, zero-lt-suc, lt-irrefl, mul-le-mul-right, mul-le-mul-left, mul-comm, lt-of-mul-lt-mul-right}
 use native.Mathlib.Omega.{arith}
 use lib.IntN.{ℤ, pos, negsuc}
-use lib.Dec.{T, eqb, eqb→eq, lit<, lit≤}
+use lib.Dec.{T, eqb, eqb→eq, leb→le, lit<}
 use lib.Pow.{pow-pos}
 use borrow.Author.Tests.{le-ltb}
 use lib.Ieee.{Float, nan, inf, fin, binary64, up, down, round, add, mul, neg, lt, le, eq, unlike, div, ofInt}
@@ -23,7 +23,7 @@ use Rattle.bounds.proofs.Compose as C
 use Rattle.bounds.proofs.Delay as Steps
 use Rattle.bounds.proofs.First.{jitter-first, spike-below}
 use Rattle.latency.specs.Latency.{jitterRange, jitters, jitterOf, floored, delayOf, longestDelay}
-use Rattle.latency.specs.Admitted.{fractionAdmitted, longestBase}
+use Rattle.latency.specs.Admitted.{Admitted, latencyAdmitted, fractionAdmitted, longestBase}
 
 or-split : (a b : Bool) → T (a || b) → T a ⊎ T b
 or-split true b t = inl tt
@@ -238,3 +238,8 @@ jitter-below-high n f d B A W J = go (admits f A)
 -- 10..50
 pub spike-below-high : (d : ℕ) → d < 2 ^ 64 → T (lt (realOf (whole 10) (whole 50) d) (whole 50))
 spike-below-high d W = spike-below d W
+
+-- ---- question 3's tests give what a latency asks for
+pub admitted : (n : ℕ) (f : Float) {x y : Bool} → x ≡ latencyAdmitted n → x ≡ true → y ≡ fractionAdmitted f → y ≡ true → Admitted n f
+unfolding latencyAdmitted
+admitted n f p h q k = record { base = leb→le n longestBase (subst T (sym (sym p ∙ h)) tt); fraction = subst T (sym (sym q ∙ k)) tt }
