@@ -1,4 +1,4 @@
--- From tables to lists: the windows that a table holds after each write.
+-- From tables to lists: the windows that a table holds after each write, and its length.
 use mathlib.Core.Path.{_≡_, refl, sym, ap, _∙_}
 use mathlib.Core.Bool.{Bool, true, false, cond, not, _&&_, _||_}
 use mathlib.Core.List.{List, [], _∷_, _++_}
@@ -6,12 +6,14 @@ use Prim.Native.Nat.{ℕ, _+_, _*_, _≤_, _<_}
 use native.Mathlib.Omega.{arith}
 use lib.Dec.{ltb}
 use lib.ListN.{length}
-use borrow.Author.Tests.{lt-ltb, ltb-true, ltb-false, le-ltb}
+use borrow.Author.Tests.{lt-ltb, ltb-true}
 use Rattle.rule.specs.Rule.{holds}
-use Rattle.rule.proofs.Laws.{yes, no}
+use Rattle.rule.proofs.Laws.{yes}
 use Rattle.rows.specs.Rows.{pick}
 use Rattle.rows.proofs.Rows.{rows-snoc, rows-kept}
+use Rattle.rows.proofs.Writes.{length-kept, chosen-length}
 use Rattle.shift.specs.Shift.{putWords}
+use Rattle.shift.proofs.Laws.{length-put}
 use Rattle.blocks.specs.declared.BlockWindow.{BlockWindow}
 use Rattle.blocks.specs.Blocks.{blockWidth, blockSlots, words, putAt, firstBlock, blocksOf, windowOf, joins, stops, blocked, other, unblocked, blockNumber, blockTable, openCount, unblockTable}
 use Rattle.blocks.proofs.Laws.{alone, long, back}
@@ -33,11 +35,11 @@ blocks-added ws n e r z =
     ap (λ (l : List ℕ). blocksOf l (n + 1)) (sym (yes _ _ _ _ (lt-ltb n blockSlots h) refl)) ∙ rows-snoc blockWidth firstBlock alone ws (words e) n refl (omega (arith, h))
 
 -- a refusal leaves the table as found
-full : (ws : List ℕ) (n : ℕ) (e : BlockWindow) (b : Bool) → ltb n blockSlots ≡ b → (_≡_ {A = ℕ} (cond b 0 12) 0 → ⊥) → cond b (putAt ws (n * blockWidth) e) ws ≡ ws
+full : (ws : List ℕ) (n : ℕ) (e : BlockWindow) (b : Bool) → ltb n blockSlots ≡ b → (_≡_ {A = ℕ} (cond b 0 12) 0 → ⊥) → ws ≡ cond b (putAt ws (n * blockWidth) e) ws
 full ws n e true q h = absurd (h refl)
 full ws n e false q h = refl
 
-pub block-refused : (ws : List ℕ) (n : ℕ) (e : BlockWindow) → (blockNumber n ≡ 0 → ⊥) → blockTable ws n e ≡ ws
+pub block-refused : (ws : List ℕ) (n : ℕ) (e : BlockWindow) → (blockNumber n ≡ 0 → ⊥) → ws ≡ blockTable ws n e
 unfolding blockTable blockNumber
 block-refused ws n e h = full ws n e (ltb n blockSlots) refl h
 
@@ -56,3 +58,13 @@ pub unblock-opens : (from to at : ℕ) (es : List BlockWindow) → blocked from 
 unfolding blocked
 unblock-opens from to at [] = refl
 unblock-opens from to at (e ∷ es) = none-step from to at e (unblocked from to es) (joins from to e) refl (unblock-opens from to at es)
+
+-- ---- each write leaves the table as long as it was
+pub block-length : (ws : List ℕ) (n : ℕ) (e : BlockWindow) → blockSlots * blockWidth ≤ length ws → length (blockTable ws n e) ≡ length ws
+unfolding blockTable putAt
+block-length ws n e r =
+    chosen-length (ltb n blockSlots) _ ws (λ t. let h = ltb-true n blockSlots t in length-put ws (n * blockWidth) (words e) (omega (arith, h)))
+
+pub unblock-length : (from to : ℕ) (ws : List ℕ) (n : ℕ) → n * blockWidth ≤ length ws → length (unblockTable from to ws n) ≡ length ws
+unfolding unblockTable
+unblock-length from to ws n r = length-kept blockWidth firstBlock words (other from to) long back ws n r

@@ -5,7 +5,7 @@ use mathlib.Core.List.{List, [], _∷_, _++_}
 use Prim.Native.Nat.{ℕ, _+_, _*_, _-_, _≤_, _<_}
 use native.Mathlib.Nat.{add-zero}
 use native.Mathlib.Omega.{arith}
-use lib.Dec.{lit<, ltb}
+use lib.Dec.{lit<}
 use lib.ListN.{length, getD, take, drop, set, length-append, List·getD-append}
 use lib.Seq.{getD-drop}
 use borrow.Author.Tests.{lt-ltb, le-ltb}

@@ -2,10 +2,10 @@
 use mathlib.Core.Path.{_≡_, refl, sym, ap, _∙_}
 use mathlib.Core.Bool.{Bool, true, false, cond, _&&_}
 use mathlib.Core.List.{List}
-use Prim.Native.Nat.{ℕ, zero, suc, _+_, _-_, _*_, _^_, _<_, _≤_}
+use Prim.Native.Nat.{ℕ, suc, _+_, _-_, _*_, _^_, _<_, _≤_}
 use native.Mathlib.Nat.{pow-suc, pow-le-pow-right}
 use native.Mathlib.Omega.{arith}
-use lib.Dec.{lit<, ltb, leb, eqb}
+use lib.Dec.{lit<, ltb, eqb}
 use lib.ListN.{length, getD}
 use borrow.Author.Tests.{eq-eqb, ne-eqb, le-leb, lt-leb, lt-ltb, le-ltb}
 use Rattle.rule.specs.declared.DropSpec.{DropSpec}
@@ -13,7 +13,7 @@ use Rattle.rule.specs.Rule.{has, kindBit, fromBit, toBit, tierBit, probabilityB
 use Rattle.rule.proofs.Laws.{yes, no}
 use Rattle.card.specs.declared.Card.the-variants.{Exact, Inexact}
 use Rattle.card.specs.declared.Places.{Places}
-use Rattle.card.specs.Card.{leAt, sizeOf, placesOf, fieldOf, specOf, mapOf, fieldsOf, exact, cardOf, Within}
+use Rattle.card.specs.Card.{leAt, sizeOf, placesOf, fieldOf, specOf, mapOf, fieldsOf, exact, cardOf}
 
 -- ---- the bytes from i + k to i + w are read: their number is below 256 ^ (w - k)
 pub room : (v n : ℕ) → v < 256 ^ n → n < 8 → v * 256 + 255 < 2 ^ 64

@@ -5,13 +5,13 @@ use mathlib.Core.List.{List}
 use Prim.Native.Nat.{ℕ, _+_, _^_, _<_}
 use lib.Dec.{leb, ltb}
 use lib.Ieee.{Float, nan, lt, eq, le, ofBits}
-use borrow.Author.Tests.{leb-true, leb-false, le-ltb}
+use borrow.Author.Tests.{leb-true, le-ltb}
 use Rattle.streams.specs.Streams.{wordPair}
 use Rattle.float.specs.Float.{clamped, zero64, one64}
 use Rattle.rule.specs.declared.FaultAction.{FaultAction}
 use Rattle.rule.specs.declared.FaultAction.the-variants.{DropWithProbability}
 use Rattle.rule.specs.Rule.{has, actionOf, probabilityBit, holds}
-use Rattle.decide.specs.Decide.{Tried, hits, tryAction}
+use Rattle.decide.specs.Decide.{hits, tryAction}
 use Rattle.decide.specs.Edges.{Window58, Window55, Probabilities}
 use Rattle.decide.proofs.Fraction.{pair-lt, fraction-least, fraction-below}
 

@@ -11,7 +11,6 @@ use Rattle.rule.specs.declared.Message.{Message}
 use Rattle.rule.specs.Rule.{ruleOf, applies}
 use Rattle.rules.specs.declared.FaultRule.{FaultRule}
 use Rattle.rules.specs.Rules.{fireAt}
-use Rattle.decide.specs.declared.Shot.{Shot}
 use Rattle.decide.specs.declared.Verdict.{Verdict}
 
 -- whether a rule drops a message, and the fault stream's word count after it
@@ -25,10 +24,7 @@ pub record Decision : Type 0 where
   pub place : ℕ
   pub words : ℕ
 
--- the cursor that a function answers stands at that count
-abbrev pub tried : Shot → Tried
-tried s = record { drops = s .drops; words = s .next .count }
-
+-- the cursor that `decide` answers stands at that count
 abbrev pub decision : Verdict → Decision
 decision v = record { drops = v .drops; place = v .place; words = v .next .count }
 
@@ -55,6 +51,11 @@ decideOf key m [] w = record { drops = false; place = 0; words = w }
 decideOf key m (r ∷ rs) w =
     let t = tryRule key m r w in
     cond (t .drops) (record { drops = true; place = 0; words = t .words }) (after 1 (decideOf key m rs (t .words)))
+
+-- the place of the first rule that applies; with none, their number
+unfoldable pub metOf : Message → List FaultRule → ℕ
+metOf m [] = 0
+metOf m (r ∷ rs) = cond (applies (ruleOf (r .spec)) m) 0 (suc (metOf m rs))
 
 -- the rules after a decision: the one that dropped the message has fired once more
 abbrev pub rulesAfter : Decision → List FaultRule → List FaultRule

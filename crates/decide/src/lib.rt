@@ -1,19 +1,14 @@
 // Which rule drops a message: the first, in install order, that applies and whose draw hits.
 ghost use mathlib.Core.Path.{_≡_};
 ghost use Prim.Native.Nat.{_+_, _*_, _≤_, _<_, _^_};
-ghost use lib.ListN.{length};
+ghost use lib.ListN.{length, drop};
 ghost use Rattle.streams.specs.Streams.{Holds};
+ghost use Rattle.rule.specs.Rule.{ruleOf, applies};
 ghost use Rattle.rules.specs.Rules.{ruleWidth, ruleAt, rulesOf};
-ghost use Rattle.decide.specs.Decide.{tried, decision, tryAction, tryRule, decideOf};
+ghost use Rattle.decide.specs.Decide.{decision, metOf, decideOf};
 use rule::FaultAction;
 use rule::Message;
 use streams::Cursor;
-
-// Whether a rule drops a message, and the fault stream after it.
-pub struct Shot {
-    pub drops: bool,
-    pub next: Cursor,
-}
 
 // Whether a message is dropped, by the rule at which place (their number where none does), and the fault stream after it.
 pub struct Verdict {
@@ -22,58 +17,65 @@ pub struct Verdict {
     pub next: Cursor,
 }
 
-// Only a probability takes a draw, whether it hits or not; it hits unless the fraction is at least the probability.
-fn shoot(a: FaultAction, c: Cursor) -> Shot
-    requires { ⌜ (c .count + 1 < 2 ^ 63) × Holds c ⌝ }
-    ensures { λ r. ⌜ (tried r ≡ tryAction (c .key) a (c .count)) × (r .next .key ≡ c .key) × Holds (r .next) ⌝ }
-{
-    match a {
-        FaultAction::Drop => Shot {
-            drops: true,
-            next: c,
-        },
-        FaultAction::DropWithProbability(p) => {
-            let d = streams::draw64(c);
-            let x = draw::fraction(d.value);
-            let next = d.next;
-            Shot {
-                drops: !(x >= p),
-                next,
-            }
-        }
-    }
-}
-
-// The rule whose row starts at b.
-fn step(ws: &[u64], b: usize, c: Cursor, m: Message) -> Shot
-    requires { ⌜ (b + ruleWidth ≤ length (now ws)) × (c .count + 1 < 2 ^ 63) × Holds c ⌝ }
-    ensures { λ r. ⌜ (tried r ≡ tryRule (c .key) m (ruleAt (now (ws .entry)) b) (c .count)) × (r .next .key ≡ c .key) × Holds (r .next) ⌝ }
+// Does the rule whose row starts at b apply to the message?
+fn meets(ws: &[u64], b: usize, m: Message) -> bool
+    requires { ⌜ b + ruleWidth ≤ length (now ws) ⌝ }
+    ensures { λ r. ⌜ r ≡ applies (ruleOf (ruleAt (now (ws .entry)) b .spec)) m ⌝ }
 {
     let row = rules::get(ws, b);
     let spec = row.spec;
     let r = rule::rule_of(spec);
-    if !rule::rule_applies(r, m) {
-        return Shot {
-            drops: false,
-            next: c,
-        };
-    }
-    let a = r.action;
-    shoot(a, c)
+    rule::rule_applies(r, m)
 }
 
-// The first n rules of the table, with the fault stream at a cursor. Nothing is written: `rules::fire` counts a drop.
+// The place of the first rule from i on, of n, that applies to the message; n where none does.
+fn met(ws: &[u64], i: usize, n: usize, m: Message) -> usize
+    requires { ⌜ (i ≤ n) × (n * ruleWidth ≤ length (now ws)) ⌝ }
+    ensures { λ r. ⌜ (r ≡ i + metOf m (drop i (rulesOf (now (ws .entry)) n))) × (r ≤ n) ⌝ }
+{
+    let mut k = i;
+    while k < n {
+        if meets(ws, k * rules::WIDTH, m) {
+            return k;
+        }
+        k += 1;
+    }
+    k
+}
+
+// What the rule whose row starts at b does.
+fn action(ws: &[u64], b: usize) -> FaultAction
+    requires { ⌜ b + ruleWidth ≤ length (now ws) ⌝ }
+    ensures { λ r. ⌜ r ≡ ruleOf (ruleAt (now (ws .entry)) b .spec) .action ⌝ }
+{
+    let row = rules::get(ws, b);
+    let spec = row.spec;
+    let r = rule::rule_of(spec);
+    r.action
+}
+
+// The first n rules of the table, with the fault stream at a cursor. A plain rule takes no draw; a probability takes one, whether it
+// hits or not, and hits unless the fraction is at least the probability. Nothing is written: `rules::fire` counts a drop.
 pub fn decide(ws: &[u64], n: usize, c: Cursor, m: Message) -> Verdict
     requires { ⌜ (n * ruleWidth ≤ length (now ws)) × (c .count + 2 * n < 2 ^ 63) × Holds c ⌝ }
     ensures { λ r. ⌜ (decision r ≡ decideOf (c .key) m (rulesOf (now (ws .entry)) n) (c .count)) × (r .next .key ≡ c .key) × Holds (r .next) ⌝ }
 {
-    let mut i: usize = 0;
     let mut cursor = c;
+    let mut i = met(ws, 0, n, m);
     while i < n {
         let before = cursor;
-        let s = step(ws, i * rules::WIDTH, before, m);
-        let next = s.next;
-        if s.drops {
+        let a = action(ws, i * rules::WIDTH);
+        let FaultAction::DropWithProbability(p) = a else {
+            return Verdict {
+                drops: true,
+                place: i,
+                next: before,
+            };
+        };
+        let d = streams::draw64(before);
+        let next = d.next;
+        let x = draw::fraction(d.value);
+        if !(x >= p) {
             return Verdict {
                 drops: true,
                 place: i,
@@ -81,7 +83,7 @@ pub fn decide(ws: &[u64], n: usize, c: Cursor, m: Message) -> Verdict
             };
         }
         cursor = next;
-        i += 1;
+        i = met(ws, i + 1, n, m);
     }
     Verdict {
         drops: false,

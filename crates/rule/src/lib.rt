@@ -55,7 +55,7 @@ pub struct Rule {
     pub window: TimeWindow,
 }
 
-// A message at its dispatch, and the time.
+// A message at its dispatch, and the time. Tiers: gossip 0, notification 1, request 2, response 3.
 pub struct Message {
     pub kind: u64,
     pub from: u64,

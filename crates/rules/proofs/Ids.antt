@@ -1,7 +1,7 @@
 -- Ids ascend, whatever calls came: so a removed id reads as gone, and removal is the Rust's `retain`.
 use mathlib.Core.Path.{_≡_, refl, sym, ap, _∙_}
 use mathlib.Core.Bool.{Bool, true, false, cond, not}
-use mathlib.Core.List.{List, [], _∷_, _++_}
+use mathlib.Core.List.{List, [], _∷_}
 use Prim.Native.Nat.{ℕ, zero, suc, _+_, _≤_, _<_}
 use native.Mathlib.Omega.{arith}
 use lib.Dec.{eqb}
@@ -10,7 +10,7 @@ use Rattle.rule.specs.declared.DropSpec.{DropSpec}
 use Rattle.rows.specs.Rows.{keep, pick}
 use Rattle.rules.specs.declared.FaultRule.{FaultRule}
 use Rattle.rules.specs.declared.Reading.{Reading}
-use Rattle.rules.specs.Rules.{newRule, withRule, without, readingOf, fireAt, Ascending}
+use Rattle.rules.specs.Rules.{withRule, without, readingOf, fireAt, Ascending}
 
 abbrev gone : Reading
 gone = record { found = 0; fired = 0 }

@@ -2,27 +2,26 @@
 use mathlib.Core.Path.{_≡_, refl, sym, ap, _∙_}
 use mathlib.Core.Bool.{Bool, true, false, cond, _&&_}
 use mathlib.Core.List.{List, [], _∷_, _++_}
-use Prim.Native.Nat.{ℕ, zero, suc, _+_, _*_, _-_, _%_, _^_, _/_, _≤_, _<_}
+use Prim.Native.Nat.{ℕ, suc, _+_, _*_, _-_, _%_, _^_, _/_, _≤_, _<_}
 use native.Mathlib.Nat.{add-zero, zero-add}
 use native.Mathlib.Omega.{arith}
 use lib.Dec.{lit<, eqb, ltb}
-use borrow.Author.Tests.{eq-eqb, ne-eqb, lt-ltb, le-ltb, ltb-true, ltb-false, eqb-true}
-use lib.ListN.{length, getD, take, drop, set, List·getD-append, length-set}
-use lib.Seq.{getD-drop, getD-take, getD-set-same, getD-set-other, set-out, length-take-le}
+use borrow.Author.Tests.{eq-eqb, ne-eqb, lt-ltb, le-ltb}
+use lib.ListN.{length, getD, take, drop, set, List·getD-append}
+use lib.Seq.{getD-drop, set-out}
 use Rattle.rule.specs.declared.DropSpec.{DropSpec}
 use Rattle.rule.proofs.Laws.{yes, no}
 use Rattle.card.specs.declared.Card.{Card}
 use Rattle.card.specs.declared.Card.the-variants.{Exact, Inexact}
-use Rattle.card.specs.Card.{exact, fieldsOf, cardOf}
+use Rattle.card.specs.Card.{cardOf}
 use Rattle.card.proofs.Laws.{exact-card, inexact-card}
-use Rattle.rows.proofs.Rows.{length-rows, drop-rows, rows-snoc, rows-close, rows-next, rows-end, rows-first}
-use Rattle.rows.proofs.Cell.{rows-set}
-use Rattle.shift.specs.Shift.{putWords, closed}
+use Rattle.rows.proofs.Rows.{length-rows, drop-rows, rows-next, rows-end, rows-first}
+use Rattle.shift.specs.Shift.{closed}
 use Rattle.shift.proofs.Laws.{stores, stored}
 use Rattle.rules.specs.declared.FaultRule.{FaultRule}
 use Rattle.rules.specs.declared.Reading.{Reading}
 use Rattle.rules.specs.declared.Removed.{Removed}
-use Rattle.rules.specs.Rules.{ruleWidth, firedWord, ruleSlots, mostRules, ruleAt, words, putAt, firstRule, rulesOf, newRule, withRule, without, readingOf, removedOf, firedMore, fireAt, installNumber, installTable, indexOf, removeTable, fireTable}
+use Rattle.rules.specs.Rules.{ruleWidth, firedWord, ruleSlots, mostRules, ruleAt, words, putAt, firstRule, rulesOf, newRule, without, readingOf, removedOf, installNumber, installTable, indexOf, removeTable, fireTable}
 
 -- ---- a row is its words
 ruleOf : (ℕ → ℕ) → FaultRule

@@ -77,7 +77,7 @@ fn put(ws: &mut [u64], b: usize, r: FaultRule)
 }
 
 // The place of the rule with this id among the first n, or n.
-fn find(ws: &[u64], n: usize, id: u64) -> usize
+pub fn find(ws: &[u64], n: usize, id: u64) -> usize
     requires { ⌜ n * ruleWidth ≤ length (now ws) ⌝ }
     ensures { λ r. ⌜ (r ≡ indexOf id (rulesOf (now (ws .entry)) n)) × (r ≤ n) ⌝ }
 {
