@@ -1,15 +1,14 @@
 -- A delivery and its eight words: each way undoes the other. Assumes nothing.
 use mathlib.Core.Path.{_≡_, refl, sym}
-use mathlib.Core.List.{List, [], _∷_, _++_}
-use Prim.Native.Nat.{ℕ, _+_, _≤_}
+use mathlib.Core.List.{List}
+use Prim.Native.Nat.{ℕ, _+_}
 use native.Mathlib.Nat.{add-zero}
 use native.Mathlib.Omega.{arith}
-use lib.ListN.{length, getD, take, drop}
+use lib.ListN.{getD, drop}
 use lib.Seq.{getD-drop}
-use Rattle.shift.proofs.Blocks.{cells, cells-eq}
-use Rattle.rows.specs.Table.{Form, Exact}
-use Rattle.delivery.specs.declared.Delivery.{Delivery}
-use Rattle.delivery.specs.Delivery.{width, read, words, form}
+use Rattle.shift.proofs.Blocks.{cells-eq}
+use Rattle.rows.specs.Table.{Exact}
+use Rattle.delivery.specs.Delivery.{width, read, form}
 
 pub exact : Exact form
 exact = record { long = λ d. refl; back = λ d m. refl; whole = λ l h. cells-eq l 0 0 width (omega arith) }

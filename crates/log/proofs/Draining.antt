@@ -1,21 +1,21 @@
 -- A drain: the records copied out one by one, and the head cleared. Assumes nothing.
 use mathlib.Core.Path.{_≡_, refl, sym, ap, _∙_}
 use mathlib.Core.List.{List, [], _∷_, _++_}
-use mathlib.Core.Bool.{Bool, true, false, cond}
-use Prim.Native.Nat.{ℕ, zero, suc, _+_, _*_, _-_, _≤_, _<_}
+use mathlib.Core.Bool.{Bool, cond}
+use Prim.Native.Nat.{ℕ, suc, _+_, _*_, _-_, _≤_, _<_}
 use native.Mathlib.Nat.{zero-mul}
 use native.Mathlib.Omega.{arith}
-use lib.ListN.{length, getD, take, drop, set, length-replicate, replicate, replicate-append-replicate}
+use lib.ListN.{length, getD, drop, set, length-replicate, replicate, replicate-append-replicate}
 use lib.Seq.{drop-cons, set-at, append-snoc}
 use Rattle.shift.specs.Shift.{putWords}
-use Rattle.rows.specs.Table.{Form, rowsOf, over}
+use Rattle.rows.specs.Table.{rowsOf, over}
 use Rattle.rows.proofs.Table.{over-more, rows-over}
-use Rattle.ring.specs.Ring.{slotOf, ringFrom, ring, slotAt, countAt, firstAt}
+use Rattle.ring.specs.Ring.{slotOf, ringFrom, slotAt, countAt, firstAt}
 use Rattle.ring.proofs.Laws.{from-snoc, length-from}
 use Rattle.delivery.specs.declared.Delivery.{Delivery}
 use Rattle.delivery.specs.Delivery as delivery
 use Rattle.delivery.proofs.Laws as delivery-laws
-use Rattle.log.specs.Log.{recordsAt, recordsOf, logOf, emptyLog, SoundLog, soundLog, clearedAt}
+use Rattle.log.specs.Log.{recordsAt, recordsOf, recordAt, logOf, emptyLog, SoundLog, soundLog, clearedAt}
 
 -- i records are copied
 module _ (m : ℕ) (log out : List ℕ) where
@@ -26,13 +26,13 @@ module _ (m : ℕ) (log out : List ℕ) where
   unfolding over
   copied-none = sym (ap (λ (k : ℕ). drop k out) (zero-mul delivery.width))
 
-  pub copied-more : (i s : ℕ) (d : Delivery) (l : List ℕ) → (i + 1) * delivery.width ≤ length out → s ≡ slotOf m (firstAt 0 log) i → d ≡ delivery.read (drop (recordsAt + s * delivery.width) log)
+  pub copied-more : (i : ℕ) (d : Delivery) (l : List ℕ) → (i + 1) * delivery.width ≤ length out → d ≡ recordAt m log i
       → l ≡ over delivery.form (firstOnes i) out → putWords l (i * delivery.width) (delivery.words d) ≡ over delivery.form (firstOnes (i + 1)) out
-  copied-more i s d l room hs hd e =
+  copied-more i d l room hd e =
       let at : ℕ → Delivery = slotAt delivery.form m 0 recordsAt log in
       let n : i + 1 ≡ suc i = omega arith in
       let z : 0 + i ≡ i = omega arith in
-      let row : d ≡ at (slotOf m (firstAt 0 log) (0 + i)) = hd ∙ ap at (hs ∙ ap (slotOf m (firstAt 0 log)) (sym z)) in
+      let row : d ≡ at (slotOf m (firstAt 0 log) (0 + i)) = hd ∙ ap at (ap (slotOf m (firstAt 0 log)) (sym z)) in
       ap (λ (x : List ℕ). putWords x (i * delivery.width) (delivery.words d)) e
       ∙ over-more delivery.form delivery-laws.exact (firstOnes i) out i d (length-from at m (firstAt 0 log) 0 i) room
       ∙ ap (λ (r : Delivery). over delivery.form (firstOnes i ++ (r ∷ [])) out) row

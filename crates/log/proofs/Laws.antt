@@ -2,25 +2,23 @@
 use mathlib.Core.Path.{_≡_, refl, sym, ap, _∙_}
 use mathlib.Core.List.{List, [], _∷_}
 use mathlib.Core.Bool.{Bool, true, false, cond, _&&_}
-use Prim.Native.Nat.{ℕ, suc, _+_, _*_, _-_, _≤_, _<_}
+use Prim.Native.Nat.{ℕ, _+_, _*_, _-_, _≤_}
 use native.Mathlib.Omega.{arith}
 use lib.Dec.{ltb, leb, eqb}
 use lib.ListN.{length, getD, take, drop, set, length-drop}
 use lib.Seq.{getD-take, getD-drop, drop-drop}
 use borrow.Author.Tests.{le-ltb, eqb-true, eqb-false}
 use Rattle.shift.specs.Shift.{putWords}
-use Rattle.rows.specs.Lists.{push}
-use Rattle.rows.specs.Table.{Form, rowsOf}
+use Rattle.rows.specs.Table.{rowsOf}
 use Rattle.rows.proofs.Table.{rows-within}
 use Rattle.ring.specs.declared.Push.{Push}
-use Rattle.ring.specs.Ring.{countAt, firstAt, soundAt, Sound, slotAt, nextAt, writtenAt, ring}
+use Rattle.ring.specs.Ring.{push, countAt, firstAt, soundAt, Sound, slotAt, nextAt, writtenAt}
 use Rattle.ring.proofs.Laws.{length-from}
 use Rattle.ring.proofs.Table.{sound-true, sound-same, length-written, written-sound, ring-written, ring-elsewhere, before-slots}
 use Rattle.delivery.specs.declared.Delivery.{Delivery}
 use Rattle.delivery.specs.Delivery as delivery
 use Rattle.delivery.proofs.Laws as delivery-laws
-use Rattle.log.specs.declared.Tally.{Tally}
-use Rattle.log.specs.Log.{Log, wrap, noTally, tallied, logged, classes, tallyWidth, forcedAt, talliesAt, recordsAt, sizeOf, tallyForm, recordsOf, talliesOf, logOf, SoundLog, tallyAt, talliedAt, notedAt, pushed}
+use Rattle.log.specs.Log.{wrap, noTally, tallied, logged, classes, tallyWidth, forcedAt, talliesAt, recordsAt, sizeOf, tallyForm, recordsOf, talliesOf, logOf, SoundLog, tallyAt, talliedAt, notedAt, pushed}
 use Rattle.log.proofs.Writing.{tally-exact, tallied-length, tallied-head, tallied-records, tallied-tallies, noted-length, noted-head, noted-rest, noted-forced}
 
 -- a cell, read from a part that holds it

@@ -1,22 +1,22 @@
 -- The steps of a push: the tally, the forced count, and what they leave alone. Assumes nothing.
 use mathlib.Core.Path.{_≡_, refl, sym, ap, _∙_}
-use mathlib.Core.List.{List, [], _∷_, _++_}
-use mathlib.Core.Bool.{Bool, true, false, cond, _&&_, false≢true}
-use Prim.Native.Nat.{ℕ, zero, suc, _+_, _*_, _-_, _%_, _^_, _≤_, _<_}
+use mathlib.Core.List.{List, [], _∷_}
+use mathlib.Core.Bool.{Bool, true, false, cond}
+use Prim.Native.Nat.{ℕ, _+_, _*_, _-_, _≤_, _<_}
 use native.Mathlib.Nat.{add-zero}
 use native.Mathlib.Omega.{arith}
 use lib.Dec.{ltb, eqb}
 use lib.ListN.{length, getD, take, drop, set, length-set, length-drop, List·getD-eq-default}
-use lib.Seq.{getD-drop, getD-set-same, getD-set-other, drop-set-lt, take-set-le, set-out}
+use lib.Seq.{getD-drop, getD-set-same, drop-set-lt, take-set-le, set-out}
 use borrow.Author.Tests.{ltb-true, ltb-false, lt-ltb, le-ltb, eq-eqb, ne-eqb, eqb-true, eqb-false}
 use Rattle.shift.specs.Shift.{putWords}
-use Rattle.shift.proofs.Laws.{length-put, stored, stores}
-use Rattle.shift.proofs.Blocks.{cells, cells-eq}
+use Rattle.shift.proofs.Laws.{length-put, stored}
+use Rattle.shift.proofs.Blocks.{cells-eq}
 use Rattle.shift.proofs.Parts.{put-before, put-behind, drop-put}
-use Rattle.rows.specs.Table.{Form, Exact, rowsOf}
-use Rattle.rows.proofs.Rows.{length-rows, rows-next, rows-split}
+use Rattle.rows.specs.Table.{Exact, rowsOf}
+use Rattle.rows.proofs.Rows.{length-rows}
 use Rattle.rows.proofs.Table.{rows-set, row-at}
-use Rattle.ring.specs.Ring.{countAt, firstAt, soundAt, Sound}
+use Rattle.ring.specs.Ring.{countAt, soundAt}
 use Rattle.ring.proofs.Table.{true-sound, sound-true}
 use Rattle.log.specs.declared.Tally.{Tally}
 use Rattle.log.specs.Log.{wrap, noTally, tallied, classes, tallyWidth, forcedAt, talliesAt, recordsAt, tallyForm, talliesOf, soundLog, SoundLog, tallyAt, talliedAt, notedAt}

@@ -1,13 +1,12 @@
 -- The delivery log in one table: count and first slot of its ring at 0 and 1, records forced out, tallies of each class, then the records.
 use mathlib.Core.List.{List, [], _∷_, _++_}
-use mathlib.Core.Bool.{Bool, true, false, cond}
-use Prim.Native.Nat.{ℕ, suc, _+_, _*_, _%_, _^_, _≤_, _<_}
+use mathlib.Core.Bool.{Bool, cond}
+use Prim.Native.Nat.{ℕ, _+_, _*_, _%_, _^_, _≤_, _<_}
 use lib.Dec.{ltb, eqb}
 use lib.ListN.{length, getD, set, drop, replicate}
 use Rattle.shift.specs.Shift.{putWords}
-use Rattle.rows.specs.Lists.{push}
 use Rattle.rows.specs.Table.{Form, rowsOf}
-use Rattle.ring.specs.Ring.{countAt, firstAt, soundAt, ringAt, writtenAt}
+use Rattle.ring.specs.Ring.{push, countAt, firstAt, soundAt, slotOf, slotAt, ringAt, writtenAt}
 use Rattle.delivery.specs.declared.Delivery.{Delivery}
 use Rattle.delivery.specs.Delivery as delivery
 use Rattle.log.specs.declared.Tally.{Tally}
@@ -65,6 +64,10 @@ tallyForm = record { width = tallyWidth; read = λ l. record { deliveries = getD
 
 abbrev pub recordsOf : ℕ → List ℕ → List Delivery
 recordsOf capacity log = ringAt delivery.form capacity 0 recordsAt log
+
+-- the k-th oldest
+abbrev pub recordAt : ℕ → List ℕ → ℕ → Delivery
+recordAt capacity log k = slotAt delivery.form capacity 0 recordsAt log (slotOf capacity (firstAt 0 log) k)
 
 abbrev pub talliesOf : List ℕ → List Tally
 talliesOf log = rowsOf tallyForm (drop talliesAt log) classes

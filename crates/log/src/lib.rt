@@ -1,20 +1,25 @@
 // The delivery log in one table: count and first slot of its ring, records forced out, tallies of each class, then the records.
 ghost use mathlib.Core.Path.{_≡_};
 ghost use mathlib.Core.Bool.{cond};
-ghost use Prim.Native.Nat.{_+_, _*_, _≤_};
+ghost use Prim.Native.Nat.{_+_, _*_, _≤_, _<_};
 ghost use lib.ListN.{length, getD};
 ghost use Rattle.delivery.specs.Delivery as delivery;
 ghost use Rattle.rows.specs.Table.{over};
 ghost use Rattle.ring.specs.Ring.{most, countAt};
-ghost use Rattle.log.specs.Log.{recordsAt, forcedAt, sizeOf, SoundLog, soundLog, recordsOf, tallyAt, talliedAt, notedAt, pushed, clearedAt};
-
+ghost use Rattle.log.specs.Log.{recordsAt, forcedAt, sizeOf, SoundLog, soundLog, recordsOf, recordAt, tallyAt, talliedAt, notedAt, pushed, clearedAt};
 use delivery::Delivery;
 
 // Where the forced count, the tallies and the records stand; how many classes have tallies.
 const FORCED: usize = 2;
+
 const TALLIES: usize = 3;
-const RECORDS: usize = 19;
+
+pub const RECORDS: usize = TALLIES + 8 * 2;
+
 const CLASSES: u64 = 8;
+
+// No log has more slots.
+pub const MOST: usize = 4096;
 
 // Deliveries and bytes of a class.
 pub struct Tally {
@@ -122,17 +127,25 @@ fn clear(log: &mut [u64])
     }
 }
 
+// The k-th oldest record.
+pub fn oldest(log: &[u64], capacity: usize, k: usize) -> Delivery
+    requires { ⌜ (capacity ≤ most) × (sizeOf capacity ≤ length (now log)) × (SoundLog capacity (now log)) × (k < countAt 0 (now log)) ⌝ }
+    ensures { λ d. ⌜ d ≡ recordAt capacity (now (log .entry)) k ⌝ }
+{
+    let first = log[1] as usize;
+    let s = ring::slot(capacity, first, k);
+    delivery::get(log, RECORDS + s * delivery::WIDTH)
+}
+
 // The records, oldest first, to the front of out.
 fn copy_out(log: &[u64], capacity: usize, out: &mut [u64])
     requires { ⌜ (capacity ≤ most) × (sizeOf capacity ≤ length (now log)) × (capacity * delivery.width ≤ length (now out)) × (SoundLog capacity (now log)) ⌝ }
     ensures { λ r. ⌜ now (out .exit) ≡ over delivery.form (recordsOf capacity (now (log .entry))) (now (out .entry)) ⌝ }
 {
     let count = log[0] as usize;
-    let first = log[1] as usize;
     let mut i: usize = 0;
     while i < count {
-        let s = ring::slot(capacity, first, i);
-        let d = delivery::get(log, RECORDS + s * delivery::WIDTH);
+        let d = oldest(log, capacity, i);
         delivery::put(out, i * delivery::WIDTH, d);
         i += 1;
     }

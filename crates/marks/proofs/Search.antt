@@ -5,19 +5,14 @@ use mathlib.Core.Bool.{Bool, true, false, cond, _&&_}
 use Prim.Native.Nat.{ℕ, zero, suc, _+_, _-_, _/_, _≤_, _<_}
 use native.Mathlib.Omega.{arith}
 use lib.Dec.{ltb, eqb}
-use lib.ListN.{length, getD, take, drop, set, length-take, length-drop, length-append, take-append-drop}
-use lib.Seq.{getD-take, getD-drop, length-take-le, drop-drop}
-use borrow.Author.Tests.{lt-ltb, le-ltb, eq-eqb, ne-eqb}
-use Rattle.shift.specs.Shift.{putWords, opened, insertedWords, closed}
+use lib.ListN.{length, getD, take, drop, set, length-take, length-drop, length-append}
+use lib.Seq.{getD-take, getD-drop, length-take-le}
+use borrow.Author.Tests.{lt-ltb, le-ltb, eq-eqb, ne-eqb, eqb-true, eqb-false}
+use Rattle.shift.specs.Shift.{putWords, opened, closed}
 use Rattle.shift.proofs.Laws.{opened-set}
 use Rattle.shift.proofs.Parts.{part-inserted, part-closed, is-put}
-use Rattle.marks.specs.Marks.{idsOf, halve, position, found, placed, removed}
-
-pub record Searching (seen : List ℕ) (start count id lo n : ℕ) : Type 0 where
-  pub within : lo + n ≤ count
-  pub turns : ℕ
-  pub enough : n ≤ turns
-  pub place : position id (idsOf seen start count) ≡ halve turns (idsOf seen start count) id lo n
+use Rattle.marks.specs.declared.Span.{Span}
+use Rattle.marks.specs.Marks.{idsOf, halve, halved, halvedFour, position, found, placedAt, removed}
 
 one : (t : ℕ) (ids : List ℕ) (id lo n : ℕ) → 0 < n
     → halve (suc t) ids id lo n ≡ halve t ids id (cond (ltb (getD ids (lo + (n - 1) / 2) 0) id) (lo + (n - 1) / 2 + 1) lo) (n / 2)
@@ -32,51 +27,125 @@ unfolding halve
 done zero ids id lo = refl
 done (suc t) ids id lo = refl
 
+at-zero : (ids : List ℕ) (id lo n : ℕ) → halve zero ids id lo n ≡ lo
+unfolding halve
+at-zero ids id lo n = refl
+
+-- where nothing is left, any number of halvings gives lo
+over : (t : ℕ) (ids : List ℕ) (id lo n : ℕ) → n ≡ 0 → halve t ids id lo n ≡ lo
+over t ids id lo n z = ap (halve t ids id lo) z ∙ done t ids id lo
+
+-- more halvings than are needed change nothing
+enough : (t u : ℕ) (ids : List ℕ) (id lo n : ℕ) → n ≤ t → n ≤ u → halve t ids id lo n ≡ halve u ids id lo n
+enough zero u ids id lo n h k = over zero ids id lo n (omega arith) ∙ sym (over u ids id lo n (omega arith))
+enough (suc t) zero ids id lo n h k = over (suc t) ids id lo n (omega arith) ∙ sym (over zero ids id lo n (omega arith))
+enough (suc t) (suc u) ids id lo n h k = go (eqb n 0) refl (λ l q. enough t u ids id l (n / 2) (omega arith) (omega arith))
+  where
+    go : (b : Bool) → eqb n 0 ≡ b → ((l : ℕ) → 0 < n → halve t ids id l (n / 2) ≡ halve u ids id l (n / 2)) → halve (suc t) ids id lo n ≡ halve (suc u) ids id lo n
+    go true e f = let z = eqb-true n 0 e in over (suc t) ids id lo n z ∙ sym (over (suc u) ids id lo n z)
+    go false e f =
+        let z = eqb-false n 0 e in
+        let some : 0 < n = omega (arith, z) in
+        one t ids id lo n some ∙ f (cond (ltb (getD ids (lo + (n - 1) / 2) 0) id) (lo + (n - 1) / 2 + 1) lo) some ∙ sym (one u ids id lo n some)
+
+-- a span narrows: it stays in the one before
+pub narrows : (b : Bool) (lo n : ℕ) → 0 < n → cond b (lo + (n - 1) / 2 + 1) lo + n / 2 ≤ lo + n
+narrows true lo n h = omega arith
+narrows false lo n h = omega arith
+
+-- the ids behind the first `count` do not matter
+pub halve-take : (t : ℕ) (l : List ℕ) (count id lo n : ℕ) → lo + n ≤ count → halve t (take count l) id lo n ≡ halve t l id lo n
+halve-take t l count id lo n h = go t lo n h
+  where
+    go : (t lo n : ℕ) → lo + n ≤ count → halve t (take count l) id lo n ≡ halve t l id lo n
+    go zero lo n h = zero-same lo n
+      where
+        zero-same : (lo n : ℕ) → halve zero (take count l) id lo n ≡ halve zero l id lo n
+        zero-same lo n = at-zero (take count l) id lo n ∙ sym (at-zero l id lo n)
+    go (suc t) lo n h = turn (eqb n 0) refl (λ k q. go t k (n / 2) q)
+      where
+        turn : (b : Bool) → eqb n 0 ≡ b → ((k : ℕ) → k + n / 2 ≤ count → halve t (take count l) id k (n / 2) ≡ halve t l id k (n / 2)) → halve (suc t) (take count l) id lo n ≡ halve (suc t) l id lo n
+        turn true e f = let z = eqb-true n 0 e in over (suc t) (take count l) id lo n z ∙ sym (over (suc t) l id lo n z)
+        turn false e f =
+            let z = eqb-false n 0 e in
+            let some : 0 < n = omega (arith, z) in
+            let mid : ℕ = lo + (n - 1) / 2 in
+            let same : getD (take count l) (lo + (n - 1) / 2) 0 ≡ getD l (lo + (n - 1) / 2) 0 = getD-take count l (lo + (n - 1) / 2) 0 (omega arith) in
+            let in-it = narrows (ltb (getD l (lo + (n - 1) / 2) 0) id) lo n some in
+            one t (take count l) id lo n some
+            ∙ ap (λ (x : ℕ). halve t (take count l) id (cond (ltb x id) (lo + (n - 1) / 2 + 1) lo) (n / 2)) same
+            ∙ f (cond (ltb (getD l (lo + (n - 1) / 2) 0) id) (lo + (n - 1) / 2 + 1) lo) (omega arith)
+            ∙ sym (one t l id lo n some)
+
+-- the ways out of `halve_once`
+module _ (ids : List ℕ) (id : ℕ) (s : Span) where
+  pub once-none : s .n ≡ 0 → s ≡ halved ids id s
+  unfolding halved
+  once-none h = sym (rw (eq-eqb (s .n) 0 h))
+
+  pub once-some : (mid lo a : ℕ) → (s .n ≡ 0 → ⊥) → mid ≡ s .lo + (s .n - 1) / 2 → a ≡ getD ids mid 0 → lo ≡ cond (ltb a id) (mid + 1) (s .lo) → record { lo = lo; n = s .n / 2 } ≡ halved ids id s
+  unfolding halved
+  once-some mid lo a h em ea el =
+      let e : lo ≡ cond (ltb (getD ids (s .lo + (s .n - 1) / 2) 0) id) (s .lo + (s .n - 1) / 2 + 1) (s .lo)
+      = el ∙ ap (λ (x : ℕ). cond (ltb x id) (mid + 1) (s .lo)) ea ∙ ap (λ (x : ℕ). cond (ltb (getD ids x 0) id) (x + 1) (s .lo)) em in
+      ap (λ (x : ℕ). record { lo = x; n = s .n / 2 }) e ∙ sym (ap (λ (b : Bool). cond b s (record { lo = cond (ltb (getD ids (s .lo + (s .n - 1) / 2) 0) id) (s .lo + (s .n - 1) / 2 + 1) (s .lo); n = s .n / 2 })) (ne-eqb (s .n) 0 h))
+
+-- one halving leads to the same place
+pub leads-on : (ids : List ℕ) (id : ℕ) (s : Span) → halve (s .n) ids id (s .lo) (s .n) ≡ halve (halved ids id s .n) ids id (halved ids id s .lo) (halved ids id s .n)
+unfolding halved
+leads-on ids id s = go (eqb (s .n) 0) refl
+  where
+    next : Span
+    next = record { lo = cond (ltb (getD ids (s .lo + (s .n - 1) / 2) 0) id) (s .lo + (s .n - 1) / 2 + 1) (s .lo); n = s .n / 2 }
+
+    go : (b : Bool) → eqb (s .n) 0 ≡ b → halve (s .n) ids id (s .lo) (s .n) ≡ halve (cond b s next .n) ids id (cond b s next .lo) (cond b s next .n)
+    go true e = refl
+    go false e =
+        let z = eqb-false (s .n) 0 e in
+        let some : 0 < s .n = omega (arith, z) in
+        let m : s .n ≡ suc (s .n - 1) = omega arith in
+        ap (λ (t : ℕ). halve t ids id (s .lo) (s .n)) m
+        ∙ one (s .n - 1) ids id (s .lo) (s .n) some
+        ∙ enough (s .n - 1) (s .n / 2) ids id (next .lo) (s .n / 2) (omega arith) (omega arith)
+
+pub leads-four : (ids : List ℕ) (id : ℕ) (s : Span) → halve (s .n) ids id (s .lo) (s .n) ≡ halve (halvedFour ids id s .n) ids id (halvedFour ids id s .lo) (halvedFour ids id s .n)
+unfolding halvedFour
+leads-four ids id s =
+    let a = halved ids id s in
+    let b = halved ids id a in
+    let c = halved ids id b in
+    leads-on ids id s ∙ leads-on ids id a ∙ leads-on ids id b ∙ leads-on ids id c
+
+-- the ways out of `halve_on`
+pub on-more : (ids : List ℕ) (id goal : ℕ) (s a : Span) → a ≡ halved ids id s → goal ≡ halve (s .n) ids id (s .lo) (s .n) → goal ≡ halve (a .n) ids id (a .lo) (a .n)
+on-more ids id goal s a e g = g ∙ leads-on ids id s ∙ ap (λ (x : Span). halve (x .n) ids id (x .lo) (x .n)) (sym e)
+
+pub on-less : (ids : List ℕ) (id : ℕ) (s : Span) → 0 < s .n → halved ids id s .n < s .n
+unfolding halved
+on-less ids id s h = rw (ne-eqb (s .n) 0 (λ z. omega arith)) (omega arith)
+
+pub on-end : (ids : List ℕ) (id goal lo n : ℕ) → n ≤ 0 → goal ≡ halve n ids id lo n → lo ≡ goal
+on-end ids id goal lo n h g = sym (g ∙ over n ids id lo n (omega arith))
+
+-- twelve halvings, and those left
+pub found-at : (seen : List ℕ) (start count id : ℕ) (a b c : Span) (r : ℕ) → start + count ≤ length seen
+    → a ≡ halvedFour (drop start seen) id (record { lo = 0; n = count }) → b ≡ halvedFour (drop start seen) id a → c ≡ halvedFour (drop start seen) id b
+    → r ≡ halve (c .n) (drop start seen) id (c .lo) (c .n) → r ≡ position id (idsOf seen start count)
+unfolding position
+found-at seen start count id a b c r fits ea eb ec er =
+    let l : List ℕ = drop start seen in
+    let ln : length (take count l) ≡ count = length-take-le count l (rw length-drop (omega arith)) in
+    let step : (s x : Span) → x ≡ halvedFour l id s → halve (s .n) l id (s .lo) (s .n) ≡ halve (x .n) l id (x .lo) (x .n) = λ s x e. (leads-four l id s ∙ ap (λ (y : Span). halve (y .n) l id (y .lo) (y .n)) (sym e)) in
+    er
+    ∙ sym (step (record { lo = 0; n = count }) a ea ∙ step a b eb ∙ step b c ec)
+    ∙ sym (ap (λ (k : ℕ). halve k (take count l) id 0 k) ln ∙ halve-take count l count id 0 count (omega arith))
+
 module _ (seen : List ℕ) (start count id : ℕ) (fits : start + count ≤ length seen) where
   pub length-ids : length (idsOf seen start count) ≡ count
   length-ids = length-take-le count (drop start seen) (rw length-drop (omega arith))
 
   pub reads : (k : ℕ) → k < count → getD (idsOf seen start count) k 0 ≡ getD seen (start + k) 0
   reads k h = getD-take count (drop start seen) k 0 h ∙ getD-drop start seen k 0
-
-  pub begin : Searching seen start count id 0 count
-  unfolding position
-  begin = record {
-    within = omega arith;
-    turns = length (idsOf seen start count);
-    enough = omega (arith, length-ids);
-    place = ap (halve (length (idsOf seen start count)) (idsOf seen start count) id 0) length-ids;
-  }
-
-  module _ (lo n : ℕ) (some : 0 < n) where
-    turn : (b : Bool) → ltb (getD seen (start + (lo + (n - 1) / 2)) 0) id ≡ b → lo + n ≤ count → (t : ℕ) → n ≤ t
-        → position id (idsOf seen start count) ≡ halve t (idsOf seen start count) id lo n
-        → Searching seen start count id (cond b (lo + (n - 1) / 2 + 1) lo) (n / 2)
-    turn b e w zero q p = absurd (omega arith)
-    turn b e w (suc t) q p =
-        let r = reads (lo + (n - 1) / 2) (omega arith) in
-        let f : ltb (getD (idsOf seen start count) (lo + (n - 1) / 2) 0) id ≡ b = ap (λ (x : ℕ). ltb x id) r ∙ e in
-        record {
-          within = inside b;
-          turns = t;
-          enough = omega arith;
-          place = p ∙ one t (idsOf seen start count) id lo n some ∙ ap (λ (x : Bool). halve t (idsOf seen start count) id (cond x (lo + (n - 1) / 2 + 1) lo) (n / 2)) f;
-        }
-      where
-        inside : (b : Bool) → cond b (lo + (n - 1) / 2 + 1) lo + n / 2 ≤ count
-        inside true = omega arith
-        inside false = omega arith
-
-    pub above : getD seen (start + (lo + (n - 1) / 2)) 0 < id → Searching seen start count id lo n → Searching seen start count id (lo + (n - 1) / 2 + 1) (n / 2)
-    above h s = turn true (lt-ltb _ _ h) (s .within) (s .turns) (s .enough) (s .place)
-
-    pub below : id ≤ getD seen (start + (lo + (n - 1) / 2)) 0 → Searching seen start count id lo n → Searching seen start count id lo (n / 2)
-    below h s = turn false (le-ltb _ _ h) (s .within) (s .turns) (s .enough) (s .place)
-
-  pub ended : (lo n : ℕ) → n ≤ 0 → Searching seen start count id lo n → lo ≡ position id (idsOf seen start count)
-  ended lo n h s =
-      let e : n ≡ 0 = omega arith in
-      sym (s .place ∙ ap (halve (s .turns) (idsOf seen start count) id lo) e ∙ done (s .turns) (idsOf seen start count) id lo)
 
   -- what stands at the place that was found
   module _ (p : ℕ) (at : p ≡ position id (idsOf seen start count)) where
@@ -111,11 +180,9 @@ module _ (seen : List ℕ) (start count id : ℕ) (fits : start + count ≤ leng
         )
 
 -- one id more
-pub added : (seen : List ℕ) (start count id p : ℕ) (l : List ℕ) → start + count + 1 ≤ length seen → p ≤ count → p ≡ position id (idsOf seen start count)
-    → l ≡ opened seen (start + p) (start + count) 1 → set l (start + p) id ≡ putWords seen start (placed id (idsOf seen start count))
-added seen start count id p l room h at e =
-    let ids : List ℕ = idsOf seen start count in
+pub added : (seen : List ℕ) (start count id p : ℕ) (l : List ℕ) → start + count + 1 ≤ length seen → p ≤ count
+    → l ≡ opened seen (start + p) (start + count) 1 → set l (start + p) id ≡ putWords seen start (placedAt p id (idsOf seen start count))
+added seen start count id p l room h e =
     ap (λ (x : List ℕ). set x (start + p) id) e
     ∙ opened-set seen (start + p) (start + count) id (omega arith) room
     ∙ part-inserted seen start count p (id ∷ []) h room
-    ∙ ap (λ (k : ℕ). putWords seen start (take k ids ++ (id ∷ drop k ids))) at

@@ -1,26 +1,80 @@
 // The marks of a till: the ids it has seen, rising, in a part of a table. An id's place is found by halving.
 ghost use mathlib.Core.Path.{_≡_};
 ghost use Prim.Native.Nat.{_+_, _≤_};
-ghost use lib.ListN.{length};
+ghost use lib.ListN.{length, drop};
+ghost use mathlib.Core.Bool.{cond};
 ghost use Rattle.shift.specs.Shift.{putWords};
-ghost use Rattle.marks.specs.Marks.{idsOf, position, found, placed, removed};
+ghost use Rattle.marks.specs.Marks.{idsOf, halve, halved, halvedFour, position, found, placedAt, placed, removed};
 
-// The place of id among the `count` ids from `start` on.
+// What is left to search: the place is one of lo .. lo + n.
+struct Span {
+    lo: usize,
+    n: usize,
+}
+
+fn pick(first: bool, a: usize, b: usize) -> usize
+    ensures { λ r. ⌜ r ≡ cond first a b ⌝ }
+{
+    if first {
+        return a;
+    }
+    b
+}
+
+// One halving. It branches on the count alone, so that no id is guessed at.
+fn halve_once(seen: &[u64], start: usize, s: Span, id: u64) -> Span
+    requires { ⌜ start + (s .lo + s .n) ≤ length (now seen) ⌝ }
+    ensures is { λ r. ⌜ r ≡ halved (drop start (now (seen .entry))) id s ⌝ }
+    ensures within { λ r. ⌜ r .lo + r .n ≤ s .lo + s .n ⌝ }
+{
+    let lo = s.lo;
+    let n = s.n;
+    if n == 0 {
+        return s;
+    }
+    let mid = lo + (n - 1) / 2;
+    let next = pick(seen[start + mid] < id, mid + 1, lo);
+    Span { lo: next, n: n / 2 }
+}
+
+// Four of them.
+fn halve_four(seen: &[u64], start: usize, s: Span, id: u64) -> Span
+    requires { ⌜ start + (s .lo + s .n) ≤ length (now seen) ⌝ }
+    ensures is { λ r. ⌜ r ≡ halvedFour (drop start (now (seen .entry))) id s ⌝ }
+    ensures within { λ r. ⌜ r .lo + r .n ≤ s .lo + s .n ⌝ }
+{
+    let a = halve_once(seen, start, s, id);
+    let b = halve_once(seen, start, a, id);
+    let c = halve_once(seen, start, b, id);
+    halve_once(seen, start, c, id)
+}
+
+// As many as are left.
+fn halve_on(seen: &[u64], start: usize, s: Span, id: u64) -> usize
+    requires { ⌜ start + (s .lo + s .n) ≤ length (now seen) ⌝ }
+    ensures is { λ r. ⌜ r ≡ halve (s .n) (drop start (now (seen .entry))) id (s .lo) (s .n) ⌝ }
+    ensures within { λ r. ⌜ r ≤ s .lo + s .n ⌝ }
+{
+    let mut lo = s.lo;
+    let mut n = s.n;
+    while 0 < n {
+        let a = halve_once(seen, start, Span { lo: lo, n: n }, id);
+        lo = a.lo;
+        n = a.n;
+    }
+    lo
+}
+
+// The place of id among the `count` ids from `start` on. Twelve halvings stand in a row: they are enough below 4,096 ids.
 pub fn find(seen: &[u64], start: usize, count: usize, id: u64) -> usize
     requires { ⌜ start + count ≤ length (now seen) ⌝ }
     ensures is { λ r. ⌜ r ≡ position id (idsOf (now (seen .entry)) start count) ⌝ }
     ensures within { λ r. ⌜ r ≤ count ⌝ }
 {
-    let mut lo: usize = 0;
-    let mut n = count;
-    while 0 < n {
-        let half = (n - 1) / 2;
-        if seen[start + (lo + half)] < id {
-            lo = lo + half + 1;
-        }
-        n = n / 2;
-    }
-    lo
+    let a = halve_four(seen, start, Span { lo: 0, n: count }, id);
+    let b = halve_four(seen, start, a, id);
+    let c = halve_four(seen, start, b, id);
+    halve_on(seen, start, c, id)
 }
 
 // Does id stand among them?
@@ -35,15 +89,23 @@ pub fn has(seen: &[u64], start: usize, count: usize, id: u64) -> bool
     false
 }
 
-// One id more, at its place; those from there on move up.
+// id at place p; those from there on move up.
+pub fn insert_at(seen: &mut [u64], start: usize, count: usize, p: usize, id: u64)
+    requires { ⌜ (p ≤ count) × (start + count + 1 ≤ length (now seen)) ⌝ }
+    ensures { λ r. ⌜ now (seen .exit) ≡ putWords (now (seen .entry)) start (placedAt p id (idsOf (now (seen .entry)) start count)) ⌝ }
+{
+    let at = start + p;
+    shift::move_up(seen, at, start + count, 1);
+    seen[at] = id;
+}
+
+// One id more, at its place.
 pub fn insert(seen: &mut [u64], start: usize, count: usize, id: u64)
     requires { ⌜ start + count + 1 ≤ length (now seen) ⌝ }
     ensures { λ r. ⌜ now (seen .exit) ≡ putWords (now (seen .entry)) start (placed id (idsOf (now (seen .entry)) start count)) ⌝ }
 {
     let p = find(seen, start, count, id);
-    let at = start + p;
-    shift::move_up(seen, at, start + count, 1);
-    seen[at] = id;
+    insert_at(seen, start, count, p, id);
 }
 
 // One id less, if it stands there; those behind it move down. How many are left.

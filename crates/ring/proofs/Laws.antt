@@ -7,11 +7,10 @@ use Prim.Native.Nat.{ℕ, zero, suc, _+_, _-_, _≤_, _<_}
 use native.Mathlib.Nat.{add-zero}
 use native.Mathlib.Omega.{arith}
 use lib.Dec.{ltb}
-use lib.ListN.{length, getD, take, drop, length-append}
+use lib.ListN.{length, getD, drop}
 use borrow.Author.Tests.{lt-ltb, le-ltb, ltb-true, ltb-false}
 use Rattle.ring.specs.declared.Push.{Push}
-use Rattle.rows.specs.Lists.{push}
-use Rattle.ring.specs.Ring.{slotOf, pushSlot, ringFrom, ring}
+use Rattle.ring.specs.Ring.{push, slotOf, pushSlot, ringFrom, ring}
 
 -- a slot is first + k, or that less the capacity
 pub slot-is : (m first k : ℕ) → ((first + k < m) × (slotOf m first k ≡ first + k)) ⊎ ((m ≤ first + k) × (slotOf m first k ≡ first + k - m))

@@ -1,23 +1,21 @@
 -- A ring in a table of words: one entry more, the head in range again, and all else as it was. Assumes nothing.
 use mathlib.Core.Path.{_≡_, refl, sym, ap, _∙_}
 use mathlib.Core.List.{List, [], _∷_, _++_}
-use mathlib.Core.Bool.{Bool, true, false, cond, _&&_, true≢false, false≢true}
-use Prim.Native.Nat.{ℕ, zero, suc, _+_, _*_, _-_, _≤_, _<_}
+use mathlib.Core.Bool.{Bool, true, false, cond, _&&_, false≢true}
+use Prim.Native.Nat.{ℕ, _+_, _*_, _-_, _≤_, _<_}
 use native.Mathlib.Nat.{add-zero, zero-add, add-mul, mul-le-mul-right}
 use native.Mathlib.Omega.{arith}
 use lib.Dec.{ltb, leb}
 use lib.ListN.{length, getD, take, drop, length-drop, List·getD-eq-default}
 use lib.Seq.{getD-take, getD-drop, drop-drop, drop-at, length-take-le}
-use borrow.Author.Tests.{ltb-true, ltb-false, leb-true, lt-ltb, le-ltb, le-leb, lt-leb}
+use borrow.Author.Tests.{ltb-true, ltb-false, leb-true, lt-ltb, le-leb, lt-leb}
 use Rattle.shift.specs.Shift.{putWords}
 use Rattle.shift.proofs.Laws.{length-put}
 use Rattle.shift.proofs.Parts.{put-before, put-here, put-behind}
-use Rattle.rows.specs.Lists.{push}
 use Rattle.rows.specs.Table.{Form, Exact}
-use Rattle.rows.proofs.Table.{alone, read-within}
-use Rattle.ring.specs.declared.Push.{Push}
-use Rattle.ring.specs.Ring.{slotOf, pushSlot, ringFrom, ring, countAt, firstAt, soundAt, Sound, slotAt, ringAt, entryAt, nextAt, writtenAt, pushedAt}
-use Rattle.ring.proofs.Laws.{slot-in, push-in, push-counts, push-ring, ring-same, ring-at, length-from}
+use Rattle.rows.proofs.Table.{read-within}
+use Rattle.ring.specs.Ring.{push, slotOf, ring, countAt, firstAt, soundAt, Sound, slotAt, ringAt, entryAt, nextAt, writtenAt, pushedAt}
+use Rattle.ring.proofs.Laws.{push-in, push-counts, push-ring, ring-same, ring-at, length-from}
 
 -- THE HEAD: the test and the facts
 pub sound-true : (m h : ℕ) (ws : List ℕ) → Sound m h ws → soundAt m h ws ≡ true

@@ -1,13 +1,17 @@
 -- A ring of `m` slots: its oldest entry stands in the slot `first`, the others behind it, round the end.
 -- In a table of words its count and first slot stand at h and h + 1, its slots from `base` on.
 use mathlib.Core.List.{List, [], _∷_, _++_}
-use mathlib.Core.Bool.{Bool, true, false, cond, _&&_}
+use mathlib.Core.Bool.{Bool, cond, _&&_}
 use Prim.Native.Nat.{ℕ, zero, suc, _+_, _*_, _-_, _≤_, _<_}
 use lib.Dec.{ltb, leb}
-use lib.ListN.{getD, drop}
+use lib.ListN.{length, getD, drop}
 use Rattle.shift.specs.Shift.{putWords}
 use Rattle.rows.specs.Table.{Form}
 use Rattle.ring.specs.declared.Push.{Push}
+
+-- one more at the end; where the places are taken, the oldest is given up
+abbrev pub push : {R : Type 0} → ℕ → List R → R → List R
+push places l a = cond (ltb (length l) places) (l ++ (a ∷ [])) (drop 1 (l ++ (a ∷ [])))
 
 -- no ring has more slots
 abbrev pub most : ℕ

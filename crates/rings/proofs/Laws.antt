@@ -1,22 +1,21 @@
 -- Ring r after one entry more, and the other rings. Assumes nothing.
 use mathlib.Core.Path.{_≡_, refl, sym, ap, _∙_}
 use mathlib.Core.List.{List, [], _∷_}
-use mathlib.Core.Bool.{Bool, true, false, cond, _&&_}
+use mathlib.Core.Bool.{Bool, true, false, cond}
 use Prim.Native.Nat.{ℕ, _+_, _*_, _≤_, _<_}
 use native.Mathlib.Nat.{add-zero}
 use native.Mathlib.Omega.{arith}
 use lib.Dec.{ltb}
 use lib.ListN.{length, getD, set, take, drop}
 use lib.Seq.{getD-drop}
-use borrow.Author.Tests.{ltb-true, ltb-false, lt-ltb, le-ltb, not-true}
+use borrow.Author.Tests.{ltb-true, ltb-false, lt-ltb, le-ltb}
 use Rattle.shift.specs.Shift.{putWords}
-use Rattle.shift.proofs.Blocks.{cells, cells-eq}
-use Rattle.rows.specs.Lists.{push, upTo}
-use Rattle.rows.specs.Table.{Form, Exact}
+use Rattle.shift.proofs.Blocks.{cells-eq}
+use Rattle.rows.specs.Table.{Exact}
 use Rattle.rows.proofs.Lists.{upTo-set}
 use Rattle.ring.specs.declared.Push.{Push}
-use Rattle.ring.specs.Ring.{countAt, firstAt, soundAt, Sound, slotOf, slotAt, entryAt, nextAt, writtenAt, pushedAt}
-use Rattle.ring.proofs.Table.{entry-oldest, sound-true, sound-same, pushed-is, length-written, written-sound, ring-written, ring-elsewhere, before-head, before-slots, behind-slots}
+use Rattle.ring.specs.Ring.{push, firstAt, soundAt, slotOf, entryAt, nextAt, writtenAt, pushedAt}
+use Rattle.ring.proofs.Table.{entry-oldest, sound-same, pushed-is, length-written, written-sound, ring-written, ring-elsewhere, before-head, before-slots, behind-slots}
 use Rattle.rings.specs.declared.Entry.{Entry}
 use Rattle.rings.specs.Rings.{slots, width, headWidth, span, read, words, form, none, Fits, headOf, baseOf, countOf, SoundRing, entries, allRings, entryOf, pushed}
 

@@ -4,7 +4,8 @@ ghost use mathlib.Core.Path.{_≡_};
 ghost use Prim.Native.Nat.{_+_, _*_, _≤_, _<_};
 ghost use lib.ListN.{length, getD, drop};
 ghost use Rattle.shift.specs.Shift.{putWords};
-ghost use Rattle.rings.specs.Rings.{width, read, words, none, kinds, scopes, numberOf, Fits, countOf, entryOf, pushed};
+ghost use Rattle.ring.specs.Ring.{soundAt};
+ghost use Rattle.rings.specs.Rings.{slots, headOf, width, read, words, none, kinds, scopes, numberOf, Fits, countOf, entryOf, pushed};
 
 // How many entries a ring keeps.
 pub const SLOTS: usize = 64;
@@ -14,7 +15,10 @@ pub const WIDTH: usize = 3;
 
 const HEAD: usize = 2;
 
-const SPAN: usize = 192;
+const SPAN: usize = SLOTS * WIDTH;
+
+// Words of a ring: its head and its entries.
+pub const SIZE: usize = HEAD + SPAN;
 
 // Scopes of a type: a ring for each shard, and one for global.
 pub const SCOPES: usize = 17;
@@ -73,6 +77,14 @@ pub fn count(ws: &[u64], rings: usize, r: usize) -> u64
     ensures { λ n. ⌜ n ≡ countOf (now (ws .entry)) r ⌝ }
 {
     ws[r * HEAD]
+}
+
+// Are ring r's count and first slot within its slots?
+pub fn is_sound(ws: &[u64], rings: usize, r: usize) -> bool
+    requires { ⌜ Fits rings r (now ws) ⌝ }
+    ensures { λ b. ⌜ b ≡ soundAt slots (headOf r) (now (ws .entry)) ⌝ }
+{
+    ring::is_sound(ws, r * HEAD, SLOTS)
 }
 
 // The k-th oldest entry of ring r; zeros where there is none.

@@ -8,7 +8,7 @@ use lib.ListN.{length, take, drop, length-drop, length-append, take-append-drop}
 use lib.Seq.{drop-drop, drop-at, take-at, drop-append-le, length-take-le, drop-append-add}
 use mathlib.Core.Bool.{Bool, true, false}
 use Rattle.shift.specs.Shift.{insertedWords, closed}
-use Rattle.rows.specs.Rows.{rows, allOf, pick, keep, flat, kept}
+use Rattle.rows.specs.Rows.{rows, pick, keep, flat, kept}
 
 -- k rows of n: the words of the others
 pub part : (k n S : ℕ) → k ≤ n → n * S ≡ k * S + (n - k) * S

@@ -1,15 +1,15 @@
 -- Laws of a form of rows: what is read of rows written, and what an insertion and a removal make of a table. Assumes nothing.
-use mathlib.Core.Path.{_≡_, refl, sym, ap, _∙_}
+use mathlib.Core.Path.{_≡_, sym, ap, _∙_}
 use mathlib.Core.List.{List, [], _∷_, _++_, append-assoc, append-nil}
 use mathlib.Core.Bool.{true}
 use Prim.Native.Nat.{ℕ, zero, suc, _+_, _*_, _-_, _≤_, _<_}
-use native.Mathlib.Nat.{zero-mul, suc-mul, add-mul, mul-le-mul-right}
+use native.Mathlib.Nat.{zero-mul, suc-mul, add-mul}
 use native.Mathlib.Omega.{arith}
 use lib.ListN.{length, getD, take, drop, set, length-append, length-take, length-drop, take-append-drop}
 use lib.Seq.{drop-drop, take-add, drop-at, take-at, set-split, getD-at}
 use Rattle.shift.specs.Shift.{insertedWords, closed, putWords}
 use Rattle.shift.proofs.Laws.{region-before}
-use Rattle.rows.specs.Rows.{rows, flat}
+use Rattle.rows.specs.Rows.{flat}
 use Rattle.rows.specs.Table.{Form, Exact, rowsOf, over}
 use Rattle.rows.proofs.Rows.{part, length-rows, rows-split, rows-next, take-rows, drop-rows, rows-take, rows-put, length-flat, flat-append, rows-flat}
 

@@ -1,9 +1,7 @@
 -- Small functions on the lists that tables hold.
-use mathlib.Core.List.{List, [], _∷_, _++_}
-use mathlib.Core.Bool.{Bool, true, false, cond}
+use mathlib.Core.List.{List, [], _∷_}
+use mathlib.Core.Bool.{Bool, cond}
 use Prim.Native.Nat.{ℕ, zero, suc}
-use lib.Dec.{ltb}
-use lib.ListN.{length, drop}
 
 module _ {A : Type 0} where
   -- a fact at each element
@@ -19,10 +17,6 @@ module _ {A : Type 0} where
   abbrev pub behind : (A → Bool) → List A → List A
   behind q [] = []
   behind q (a ∷ l) = cond (q a) (behind q l) (a ∷ l)
-
-  -- one more at the end; where the places are taken, the oldest is given up
-  abbrev pub push : ℕ → List A → A → List A
-  push places l a = cond (ltb (length l) places) (l ++ (a ∷ [])) (drop 1 (l ++ (a ∷ [])))
 
   -- f at 0, 1, .. : n of them
   abbrev pub upTo : ℕ → (ℕ → A) → List A

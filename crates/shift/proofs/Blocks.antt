@@ -1,10 +1,10 @@
 -- Moves of words, a block at a time: a block, and moves that follow one another. Assumes nothing.
 use mathlib.Core.Path.{_≡_, refl, sym, ap, _∙_}
 use mathlib.Core.List.{List, [], _∷_, _++_, append-assoc}
-use Prim.Native.Nat.{ℕ, zero, suc, _+_, _-_, _≤_, _<_}
+use Prim.Native.Nat.{ℕ, zero, suc, _+_, _-_, _≤_}
 use native.Mathlib.Nat.{add-zero}
 use native.Mathlib.Omega.{arith}
-use lib.ListN.{length, getD, take, drop, length-take, length-append, length-drop}
+use lib.ListN.{length, getD, take, drop, length-append, length-drop}
 use lib.Seq.{drop-cons, length-take-le, take-append-le, drop-append-le, take-take, drop-at, take-at, take-add, drop-drop}
 use Rattle.shift.specs.Shift.{opened, closed, putWords}
 use Rattle.shift.proofs.Laws.{drop-take, closed-behind, length-put, stores, stores-eq}

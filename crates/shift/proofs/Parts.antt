@@ -1,11 +1,11 @@
 -- A part of a table from s on: an insertion and a removal in it, as words put there. Assumes nothing.
 use mathlib.Core.Path.{_≡_, refl, sym, ap, _∙_}
-use mathlib.Core.List.{List, [], _∷_, _++_, append-assoc}
-use Prim.Native.Nat.{ℕ, suc, _+_, _-_, _≤_, _<_}
+use mathlib.Core.List.{List, _++_, append-assoc}
+use Prim.Native.Nat.{ℕ, _+_, _-_, _≤_}
 use native.Mathlib.Omega.{arith}
-use lib.ListN.{length, take, drop, set, length-take, length-append, length-drop, take-append-drop}
+use lib.ListN.{length, take, drop, length-take, length-append, length-drop, take-append-drop}
 use lib.Seq.{take-take, drop-drop, length-take-le, drop-append-le, take-append-le, drop-at, take-at, take-add}
-use Rattle.shift.specs.Shift.{opened, closed, putWords, insertedWords}
+use Rattle.shift.specs.Shift.{closed, putWords, insertedWords}
 use Rattle.shift.proofs.Laws.{region-inserted, region-closed, inserted-before, inserted-behind, closed-before, closed-behind}
 
 -- a table that has v from s on, and all else as another

@@ -1,16 +1,16 @@
 -- The order: kept by an insertion and by the removal of a front part; on copies in order the due ones are those at the front. Assumes nothing.
 use mathlib.Core.Path.{_≡_, refl, sym, ap, _∙_}
 use mathlib.Core.Bool.{Bool, true, false, cond, not, _&&_, _||_, true≢false, false≢true}
-use mathlib.Core.List.{List, [], _∷_, _++_}
-use Prim.Native.Nat.{ℕ, zero, suc, _+_, _*_, _-_, _≤_, _<_}
+use mathlib.Core.List.{List, [], _∷_}
+use Prim.Native.Nat.{ℕ, zero, suc, _+_, _-_, _≤_, _<_}
 use native.Mathlib.Omega.{arith}
-use lib.Dec.{eqb, leb, ltb}
+use lib.Dec.{eqb, ltb}
 use lib.ListN.{length, drop, length-drop}
-use borrow.Author.Tests.{ltb-true, ltb-false, leb-false, eqb-true, eqb-false, lt-ltb, le-ltb, lt-leb, eq-eqb}
+use borrow.Author.Tests.{ltb-true, ltb-false, leb-false, eqb-true, lt-ltb, lt-leb, eq-eqb}
 use Rattle.rows.specs.Rows.{keep, pick}
 use Rattle.rows.specs.Lists.{Each, front, behind}
 use Rattle.rows.specs.Table.{over}
-use Rattle.rows.proofs.Lists.{each-map, drop-front}
+use Rattle.rows.proofs.Lists.{each-map}
 use Rattle.rows.proofs.Rows.{length-rows}
 use Rattle.rows.proofs.Table.{rows-over}
 use Rattle.waiting.specs.declared.Copy.{Copy}
@@ -134,6 +134,36 @@ length-insert c (x ∷ w) = go (passes c (x ∷ w)) (length-insert c w)
     go : (b : Bool) → length (insertCopy c w) ≡ suc (length w) → length (cond b (x ∷ insertCopy c w) (c ∷ x ∷ w)) ≡ suc (suc (length w))
     go true h = ap suc h
     go false h = refl
+
+-- each copy stands there once more, c, or as often as before: by any test
+pub kept-insert : (q : Copy → Bool) (c : Copy) (w : List Copy) → length (keep q (insertCopy c w)) ≡ cond (q c) 1 0 + length (keep q w)
+kept-insert q c [] = one (q c)
+  where
+    one : (b : Bool) → length (pick b (c ∷ []) []) ≡ cond b 1 0 + 0
+    one true = refl
+    one false = refl
+kept-insert q c (x ∷ w) = go (passes c (x ∷ w)) (kept-insert q c w)
+  where
+    both : (a b : Bool) (n m : ℕ) → n ≡ cond a 1 0 + m → cond b (suc n) n ≡ cond a 1 0 + cond b (suc m) m
+    both true true n m e = omega arith
+    both true false n m e = e
+    both false true n m e = omega arith
+    both false false n m e = e
+
+    size : (b : Bool) (y : Copy) (l : List Copy) → length (pick b (y ∷ l) l) ≡ cond b (suc (length l)) (length l)
+    size true y l = refl
+    size false y l = refl
+
+    front-one : (b : Bool) (n : ℕ) → cond b (suc n) n ≡ cond b 1 0 + n
+    front-one true n = omega arith
+    front-one false n = omega arith
+
+    go : (b : Bool) → length (keep q (insertCopy c w)) ≡ cond (q c) 1 0 + length (keep q w)
+        → length (keep q (cond b (x ∷ insertCopy c w) (c ∷ x ∷ w))) ≡ cond (q c) 1 0 + length (pick (q x) (x ∷ keep q w) (keep q w))
+    go true h =
+        size (q x) x (keep q (insertCopy c w)) ∙ both (q c) (q x) (length (keep q (insertCopy c w))) (length (keep q w)) h
+        ∙ ap (λ (n : ℕ). cond (q c) 1 0 + n) (sym (size (q x) x (keep q w)))
+    go false h = size (q c) c (keep q (x ∷ w)) ∙ front-one (q c) (length (keep q (x ∷ w)))
 
 -- on copies in order the insertion is the usual one: before the first that c is before
 abbrev pub ordered : Copy → List Copy → List Copy

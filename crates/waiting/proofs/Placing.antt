@@ -5,16 +5,16 @@ use mathlib.Core.Bool.{Bool, true, false, cond, not, _||_}
 use Prim.Native.Nat.{ℕ, zero, suc, _+_, _*_, _-_, _≤_, _<_}
 use native.Mathlib.Nat.{zero-add}
 use native.Mathlib.Omega.{arith}
-use lib.Dec.{ltb, leb, eqb}
+use lib.Dec.{ltb}
 use lib.ListN.{length, take, drop, length-drop}
 use borrow.Author.Tests.{lt-ltb, le-ltb, eq-eqb, ne-eqb, le-leb, lt-leb}
-use Rattle.shift.specs.Shift.{putWords, opened, insertedWords, closed}
+use Rattle.shift.specs.Shift.{putWords, opened}
 use Rattle.shift.proofs.Laws.{opened-put, length-opened}
 use Rattle.shift.proofs.Blocks.{up-part, opened-before}
 use Rattle.rows.specs.Lists.{front}
-use Rattle.rows.specs.Table.{Form, over}
+use Rattle.rows.specs.Table.{over}
 use Rattle.rows.proofs.Rows.{rows-split, rows-next, rows-first, rows-end, length-rows}
-use Rattle.rows.proofs.Table.{over-inserted, over-closed, read-within}
+use Rattle.rows.proofs.Table.{over-inserted, read-within}
 use Rattle.waiting.specs.declared.Copy.{Copy}
 use Rattle.waiting.specs.Waiting.{width, read, words, form, copies, before, passes, insertCopy, past, placeOf, onTime}
 use Rattle.waiting.proofs.Reading.{exact}

@@ -8,7 +8,7 @@ use lib.Seq.{getD-drop, take-add}
 use Rattle.shift.specs.Shift.{putWords}
 use Rattle.shift.proofs.Laws.{stores}
 use Rattle.shift.proofs.Blocks.{cells, cells-eq, put-stores}
-use Rattle.rows.specs.Table.{Form, Exact}
+use Rattle.rows.specs.Table.{Exact}
 use Rattle.delivery.specs.declared.Delivery.{Delivery}
 use Rattle.delivery.specs.Delivery as delivery
 use Rattle.delivery.proofs.Laws as delivery-laws

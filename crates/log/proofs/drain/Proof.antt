@@ -11,54 +11,43 @@ use Rattle.log.proofs.Draining.{by-head}
 use borrow.Author.Tests.{not-true, not-false}
 use Rattle.log.proofs.drain.Statement.{statement}
 use Rattle.log.proofs.drain.Tie as tie
-use Rattle.log.proofs.drain.Reads as reads
-use Rattle.log.proofs.drain.Lts as lts
-use Rattle.log.proofs.clear.Reads as clear-reads
-use Rattle.log.proofs.copy_out.Reads as copy-out-reads
-use Rattle.log.proofs.is_sound.Reads as is-sound-reads
 
--- src/lib.rt:148:9
 is-sound-requires : tie.Need-is-sound-requires
 is-sound-requires c κs = search needs
 
--- src/lib.rt:149:9
 same-length : tie.Need-same-length
 same-length c = search needs
 
--- src/lib.rt:149:9
 returns : tie.Need-returns
 returns c = let a = c .before .before .before .before .before .args in
     let no : soundLog (a .capacity) (a .log .now) ≡ false = sym (c .before .is-sound .ensures) ∙ not-true _ (c .if1 .taken) in
     (by-head (a .capacity) (a .log .now) false _ 0 no, (by-head (a .capacity) (a .log .now) false _ (a .out .now) no, by-head (a .capacity) (a .log .now) false _ (a .log .now) no))
 
--- src/lib.rt:151:16
 slice-read-many : tie.Need-slice-read-many
 slice-read-many c = search needs
 
--- src/lib.rt:152:5
 copy-out-requires : tie.Need-copy-out-requires
 copy-out-requires c κs = let a = c .before .before .before .before .before .before .before .before .args in (c .before .before .before .before .before .before .before .before .pre .0, c .before .before .before .before .before .before .before .before .pre .1, c .before .before .before .before .before .before .before .before .pre .2, sound-log (a .capacity) (a .log .now) (sym (c .before .before .before .before .is-sound .ensures) ∙ not-false _ (c .before .before .before .if1 .left)))
 
--- src/lib.rt:153:5
 clear-requires : tie.Need-clear-requires
 clear-requires c κs = search needs
 
--- src/lib.rt:142:1
 same-length-2 : tie.Need-same-length-2
 same-length-2 c = search needs
 
--- src/lib.rt:142:1
 same-length-3 : tie.Need-same-length-3
 same-length-3 c = search needs
 
--- src/lib.rt:142:1
 returns-2 : tie.Need-returns-2
 returns-2 c = let a = c .before .before .before .before .before .before .before .before .before .before .before .before .before .before .before .args in
     let yes : soundLog (a .capacity) (a .log .now) ≡ true = sym (c .before .before .before .before .before .before .before .before .before .before .before .is-sound .ensures) ∙ not-false _ (c .before .before .before .before .before .before .before .before .before .before .if1 .left) in
-    let w = a .log .now in
-    (by-head (a .capacity) w true (countAt 0 w) 0 yes,
-    (c .before .before .before .before .before .before .copy-out .ensures ∙ by-head (a .capacity) w true (over delivery.form (recordsOf (a .capacity) w) (a .out .now)) (a .out .now) yes,
-    c .before .before .clear .ensures ∙ by-head (a .capacity) w true (clearedAt w) w yes))
+    let w = a .log .now in (
+      by-head (a .capacity) w true (countAt 0 w) 0 yes,
+      (
+        c .before .before .before .before .before .before .copy-out .ensures ∙ by-head (a .capacity) w true (over delivery.form (recordsOf (a .capacity) w) (a .out .now)) (a .out .now) yes,
+        c .before .before .clear .ensures ∙ by-head (a .capacity) w true (clearedAt w) w yes,
+      ),
+    )
 
 pub drain-spec : {M : Type 1} → statement M
 drain-spec =

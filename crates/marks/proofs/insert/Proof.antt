@@ -1,41 +1,22 @@
+use Prim.Native.Nat.{ℕ}
+use mathlib.Core.Path.{ap, _∙_}
 use borrow.Author.Needs.{needs}
-use Rattle.marks.proofs.Search.{added}
+use Rattle.marks.specs.Marks.{idsOf, placedAt}
+use Rattle.shift.specs.Shift.{putWords}
 use Rattle.marks.proofs.insert.Statement.{statement}
 use Rattle.marks.proofs.insert.Tie as tie
 
 find-requires : tie.Need-find-requires
 find-requires c κs = search needs
 
-add-at : tie.Need-add-at
-add-at c = search needs
-
-add-move-up : tie.Need-add-move-up
-add-move-up c = search needs
-
-move-up-requires : tie.Need-move-up-requires
-move-up-requires c κs = search needs
-
-mul-seen : tie.Need-mul-seen
-mul-seen c = search needs
-
-slice-write-seen : tie.Need-slice-write-seen
-slice-write-seen c = search needs
+insert-at-requires : tie.Need-insert-at-requires
+insert-at-requires c κs = search needs
 
 same-length : tie.Need-same-length
 same-length c = search needs
 
 returns : tie.Need-returns
-returns c = let a = c .before .before .before .before .before .before .before .args in added (a .seen .now) (a .start) (a .count) (a .id) (c .before .before .before .before .find .result) (c .before .before .move-up .last .0) (c .before .before .before .before .before .before .before .pre) (c .before .before .before .before .find .ensures .1) (c .before .before .before .before .find .ensures .0) (c .before .before .move-up .ensures)
+returns c = let a = c .before .before .before .before .before .before .before .args in c .before .before .insert-at .ensures ∙ ap (λ (k : ℕ). putWords (a .seen .now) (a .start) (placedAt k (a .id) (idsOf (a .seen .now) (a .start) (a .count)))) (c .before .before .before .before .find .ensures .0)
 
 pub insert-spec : {M : Type 1} → statement M
-insert-spec =
-    tie.close
-    (tie.spec
-    find-requires
-    add-at
-    add-move-up
-    move-up-requires
-    mul-seen
-    slice-write-seen
-    same-length
-    returns)
+insert-spec = tie.close (tie.spec find-requires insert-at-requires same-length returns)

@@ -1,4 +1,3 @@
-use Rattle.waiting.specs.Waiting.{before}
 use Rattle.waiting.proofs.Placing.{by-time, by-sequence, later}
 use Rattle.waiting.proofs.is_before.Statement.{statement}
 use Rattle.waiting.proofs.is_before.Tie as tie
@@ -7,7 +6,7 @@ returns : tie.Need-returns
 returns c = by-time (c .before .args .a) (c .before .args .b) (c .if1 .taken)
 
 returns-2 : tie.Need-returns-2
-returns-2 c = by-sequence (c .before .before .before .before .args .a) (c .before .before .before .before .args .b) (c .before .before .if2 .taken)
+returns-2 c = by-sequence (c .before .before .args .a) (c .before .before .args .b) (c .if2 .taken)
 
 returns-3 : tie.Need-returns-3
 returns-3 c = later (c .before .before .args .a) (c .before .before .args .b) (c .before .if1 .left) (c .if2 .left)
