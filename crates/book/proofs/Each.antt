@@ -7,7 +7,8 @@ use mathlib.Core.List.{List, [], _∷_, _++_}
 use lib.ListN.{length, getD, set, replicate, drop}
 use lib.Dec.{ltb}
 use Rattle.rows.specs.Rows.{allOf, pick, keep}
-use Rattle.rows.specs.Lists.{Each, front, behind, push, upTo}
+use Rattle.rows.specs.Lists.{Each, front, behind, upTo}
+use Rattle.ring.specs.Ring.{push}
 use Rattle.network.specs.Lists.{every}
 
 module _ {A : Type 0} (P : A → Type 0) where

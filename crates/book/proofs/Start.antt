@@ -37,7 +37,7 @@ use Rattle.book.proofs.Asking.{all-yes, rising-opening}
 use Rattle.book.proofs.Fitting.{Limited}
 use Rattle.book.proofs.StepFits.{opening-fits}
 use Rattle.book.proofs.Formed.{fourOf, Fixed, NetFormed, Formed, Wrote}
-use Rattle.book.proofs.WriteLaws.{till-exact}
+use Rattle.book.proofs.Parts.{till-exact}
 use Rattle.book.proofs.Held.{Held}
 
 -- n zeros, and behind them what stood there

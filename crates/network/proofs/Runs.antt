@@ -29,6 +29,7 @@ use Rattle.ring.specs.Ring as ring
 use Rattle.log.specs.Log as log
 use Rattle.rows.specs.Table as table
 use Rattle.rows.specs.Rows as rows
+use Rattle.scan.specs.Scan as scan
 use Rattle.shift.specs.Shift as shift
 use Rattle.rules.specs.Rules as rules
 use Rattle.blocks.specs.Blocks as blocks
@@ -273,7 +274,7 @@ pub record Runs : Type 0 where
   pub crowd : Crowd
 
 pub runs : Runs
-unfolding admitted.latencyAdmitted admitted.fractionAdmitted admitted.rateAdmitted ieee.eq ieee.le ieee.ofBits waiting.before marks.halve marks.position ring.slotOf ring.pushSlot ring.pushedAt log.tallyAt log.talliedAt log.notedAt log.pushed log.clearedAt table.over rows.kept shift.putWords shift.closed rules.without rules.readingOf rules.fireAt rules.installNumber rules.installTable rules.indexOf rules.removeTable rules.fireTable rules.putAt blocks.windowOf blocks.joins blocks.stops blocks.blocked blocks.blockTable blocks.openCount blocks.unblockTable blocks.putAt rule.has rule.filterOf rule.windowOf rule.actionOf rule.ruleOf rule.holds rule.passes rule.applies card.leAt card.sizeOf card.placesOf card.fieldOf card.specOf card.exact bytes.bytes8 real.keysOf real.linkKey real.pricedBy digest.hash digest.tree digest.chunk digest.blocks digest.parent compress.compressed compress.folded accepting.drawn accepting.offered
+unfolding admitted.latencyAdmitted admitted.fractionAdmitted admitted.rateAdmitted ieee.eq ieee.le ieee.ofBits waiting.before marks.halve marks.position ring.slotOf ring.pushSlot ring.pushedAt log.tallyAt log.talliedAt log.notedAt log.pushed log.clearedAt table.over rows.kept shift.putWords shift.closed rules.without rules.readingOf rules.fireAt rules.installNumber rules.installTable rules.indexOf rules.removeTable rules.fireTable rules.putAt blocks.windowOf blocks.joins blocks.stops blocks.blocked blocks.blockTable blocks.openCount blocks.unblockTable blocks.putAt rule.has rule.filterOf rule.windowOf rule.actionOf rule.ruleOf rule.holds rule.passes rule.applies card.leAt card.sizeOf card.placesOf card.fieldOf card.specOf card.exact bytes.bytes8 real.keysOf real.linkKey real.pricedBy digest.hash digest.tree digest.chunk digest.blocks digest.parent compress.compressed compress.folded accepting.drawn accepting.offered scan.near scan.nearEntry scan.copiesNear scan.logNear scan.ringNear scan.ringsNear scan.columnWithin
 runs = record {
   numbers = record { opens = refl; key-short = refl; never-opened = refl; no-till = refl; no-shard = refl; too-late = refl; no-mark-free = refl; no-row = refl; bad-card = refl; not-opening = refl };
   accepts = record { third-down = refl; third-down-again = refl; sender-down = refl; to-shard = refl; blocked-now = refl; blocked-words = refl; no-loss-draw = refl; in-window = refl; before-window = refl; after-window = refl; fault-unmarked = refl; fault-resent = refl; fired = refl; gone = refl };

@@ -8,7 +8,7 @@ use Rattle.rows.specs.Rows.{keep}
 use Rattle.waiting.specs.declared.Copy.{Copy}
 use Rattle.waiting.specs.Waiting.{insertCopy}
 use Rattle.decide.specs.Decide.{Decision, rulesAfter}
-use Rattle.rows.specs.Lists.{push}
+use Rattle.ring.specs.Ring.{push}
 use Rattle.network.specs.Lists.{bit, below, bitAt}
 use Rattle.rings.specs.Rings.{slots, numberOf}
 use Rattle.marks.specs.Marks.{placed}
