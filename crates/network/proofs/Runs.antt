@@ -38,6 +38,7 @@ use Rattle.card.specs.Card as card
 use Rattle.digest.specs.Blake3 as digest
 use Rattle.compress.specs.Compress as compress
 use Rattle.geography.specs.Bytes as bytes
+use Rattle.draw.specs.Fraction as fraction
 use Rattle.network.specs.Real as real
 use Rattle.network.specs.Accept as accepting
 
@@ -241,6 +242,7 @@ pub record Flushes : Type 0 where
   pub sender-gone : rowsTo (reply (hello ∷ takeDown 0 ∷ []) flying) ≡ []
   -- two originals of one id wait at one till: accept, down, up, accept; the flush drop of the first clears the mark that the second set
   pub two-wait : map kindOf (held plain (hello ∷ takeDown 1 ∷ bringUp 1 1 ∷ hello ∷ []) .waiting) ≡ 11 ∷ 21 ∷ 11 ∷ []
+  pub second-unmarked : held plain (hello ∷ takeDown 1 ∷ bringUp 1 1 ∷ accept (entry 0 5000 global 5) true ∷ blockDuring 0 1 1001001 1001002 ∷ flush 1002000 3 ∷ []) .seen ≡ [] ∷ [] ∷ (116005 ∷ []) ∷ []
   -- a host handler takes a global entry, and none for a shard
   pub host-shard : deliveredIn (reply (handlers 1 0 2 ∷ accept (entry 0 1000 0 5) true ∷ []) flying .answer) ≡ 0
   pub host-global : deliveredIn (reply (handlers 1 0 2 ∷ hello ∷ []) flying .answer) ≡ 1
@@ -265,7 +267,15 @@ pub record Crowd : Type 0 where
   pub two-fit : firstNo (asked (big 3) (crowded 3) hello) ≡ 0
   pub three-do-not : firstNo (asked (big 4) (crowded 4) hello) ≡ 11
 
+-- ---- A rate of 0, of either sign, takes no draw; above 0 it takes two words
+
+pub record Rates : Type 0 where
+  pub at-zero : (key : List ℕ) (words : ℕ) → real.chance key 0 words ≡ record { value = false; words = words + 0 }
+  pub at-minus-zero : (key : List ℕ) (words : ℕ) → real.chance key 0x8000000000000000 words ≡ record { value = false; words = words + 0 }
+  pub above-zero : (key : List ℕ) (words : ℕ) → real.chance key 0x3fe0000000000000 words .words ≡ words + 2
+
 pub record Runs : Type 0 where
+  pub rates : Rates
   pub numbers : Numbers
   pub accepts : Accepts
   pub losses : Losses
@@ -274,12 +284,13 @@ pub record Runs : Type 0 where
   pub crowd : Crowd
 
 pub runs : Runs
-unfolding admitted.latencyAdmitted admitted.fractionAdmitted admitted.rateAdmitted ieee.eq ieee.le ieee.ofBits waiting.before marks.halve marks.position ring.slotOf ring.pushSlot ring.pushedAt log.tallyAt log.talliedAt log.notedAt log.pushed log.clearedAt table.over rows.kept shift.putWords shift.closed rules.without rules.readingOf rules.fireAt rules.installNumber rules.installTable rules.indexOf rules.removeTable rules.fireTable rules.putAt blocks.windowOf blocks.joins blocks.stops blocks.blocked blocks.blockTable blocks.openCount blocks.unblockTable blocks.putAt rule.has rule.filterOf rule.windowOf rule.actionOf rule.ruleOf rule.holds rule.passes rule.applies card.leAt card.sizeOf card.placesOf card.fieldOf card.specOf card.exact bytes.bytes8 real.keysOf real.linkKey real.pricedBy digest.hash digest.tree digest.chunk digest.blocks digest.parent compress.compressed compress.folded accepting.drawn accepting.offered scan.near scan.nearEntry scan.copiesNear scan.logNear scan.ringNear scan.ringsNear scan.columnWithin
+unfolding real.chance fraction.hitsAt fraction.hitWords ieee.lt admitted.latencyAdmitted admitted.fractionAdmitted admitted.rateAdmitted ieee.eq ieee.le ieee.ofBits waiting.before marks.halve marks.position ring.slotOf ring.pushSlot ring.pushedAt log.tallyAt log.talliedAt log.notedAt log.pushed log.clearedAt table.over rows.kept shift.putWords shift.closed rules.without rules.readingOf rules.fireAt rules.installNumber rules.installTable rules.indexOf rules.removeTable rules.fireTable rules.putAt blocks.windowOf blocks.joins blocks.stops blocks.blocked blocks.blockTable blocks.openCount blocks.unblockTable blocks.putAt rule.has rule.filterOf rule.windowOf rule.actionOf rule.ruleOf rule.holds rule.passes rule.applies card.leAt card.sizeOf card.placesOf card.fieldOf card.specOf card.exact bytes.bytes8 real.keysOf real.linkKey real.pricedBy digest.hash digest.tree digest.chunk digest.blocks digest.parent compress.compressed compress.folded accepting.drawn accepting.offered scan.near scan.nearEntry scan.copiesNear scan.logNear scan.ringNear scan.ringsNear scan.columnWithin
 runs = record {
+  rates = record { at-zero = λ key words. refl; at-minus-zero = λ key words. refl; above-zero = λ key words. refl };
   numbers = record { opens = refl; key-short = refl; never-opened = refl; no-till = refl; no-shard = refl; too-late = refl; no-mark-free = refl; no-row = refl; bad-card = refl; not-opening = refl };
   accepts = record { third-down = refl; third-down-again = refl; sender-down = refl; to-shard = refl; blocked-now = refl; blocked-words = refl; no-loss-draw = refl; in-window = refl; before-window = refl; after-window = refl; fault-unmarked = refl; fault-resent = refl; fired = refl; gone = refl };
   losses = record { lost = refl; lost-words = refl; resent = refl; resent-words = refl };
   echoes = record { kinds = refl; sequences = refl; ids = refl; first-words = refl; second-words = refl; ring = refl; in-transit = refl; log-of-one = refl; forced-out = refl; drained-short = refl; drained-empty = refl };
-  flushes = record { lands = refl; delivered = refl; dropped = refl; mark-gone = refl; sent-again = refl; window-ends = refl; down-in-flight = refl; up-again = refl; unhandled = refl; sender-gone = refl; two-wait = refl; host-shard = refl; host-global = refl; not-due = refl; next = refl; unblock-all = refl; is-blocked = refl; end-open = refl };
+  flushes = record { lands = refl; delivered = refl; dropped = refl; mark-gone = refl; sent-again = refl; window-ends = refl; down-in-flight = refl; up-again = refl; unhandled = refl; sender-gone = refl; two-wait = refl; second-unmarked = refl; host-shard = refl; host-global = refl; not-due = refl; next = refl; unblock-all = refl; is-blocked = refl; end-open = refl };
   crowd = record { two-fit = refl; three-do-not = refl };
 }
