@@ -12,7 +12,7 @@ use borrow.Author.Tests.{ltb-true, ltb-false}
 use Rattle.shift.specs.Shift.{putWords, closed}
 use Rattle.rows.specs.Rows.{rows, keep, flat, kept}
 use Rattle.rows.specs.Lists.{Each}
-use Rattle.rows.specs.Table.{Form, Exact, rowsOf, over}
+use Rattle.rows.specs.Table.{Form, rowsOf, over}
 use Rattle.rows.proofs.Lists.{each-drop}
 use Rattle.ring.specs.Ring.{slotOf, pushSlot, nextAt, writtenAt, pushedAt, soundAt, countAt, firstAt}
 use Rattle.ring.specs.declared.Push.{Push}
@@ -50,24 +50,21 @@ module _ (bits : ℕ) where
   fit-flat words [] e = tt
   fit-flat words (r ∷ rs) e = each-append In (words r) (flat words rs) (e .0) (fit-flat words rs (e .1))
 
-  module _ {R : Type 0} (f : Form R) (x : Exact f) where
-    pub rows-fit : (n : ℕ) (ws : List ℕ) → n * f .width ≤ length ws → Fit bits ws → Each (λ (r : R). Fit bits (f .words r)) (rowsOf f ws n)
-    rows-fit zero ws h e = tt
-    rows-fit (suc n) ws h e =
-        (
-          subst (Fit bits) (sym (x .whole ws (omega (arith, suc-mul n (f .width))))) (each-take In (f .width) ws e),
-          rows-fit n (drop (f .width) ws) (omega (arith, suc-mul n (f .width), length-drop (f .width) ws)) (each-drop In (f .width) ws e),
-        )
+  -- a row whose words are cells, read anywhere
+  module _ {R : Type 0} (f : Form R) (reads : (l : List ℕ) → Fit bits l → Fit bits (f .words (f .read l))) where
+    pub rows-fit : (n : ℕ) (ws : List ℕ) → Fit bits ws → Each (λ (r : R). Fit bits (f .words r)) (rowsOf f ws n)
+    rows-fit zero ws e = tt
+    rows-fit (suc n) ws e = (reads ws e, rows-fit n (drop (f .width) ws) (each-drop In (f .width) ws e))
 
     pub fit-over : (rs : List R) (ws : List ℕ) → Each (λ (r : R). Fit bits (f .words r)) rs → Fit bits ws → Fit bits (over f rs ws)
     unfolding over
     fit-over rs ws e g = each-append In (flat (f .words) rs) (drop (length rs * f .width) ws) (fit-flat (f .words) rs e) (each-drop In (length rs * f .width) ws g)
 
-    pub fit-kept : (q : R → Bool) (ws : List ℕ) (n : ℕ) → n * f .width ≤ length ws → Fit bits ws → Fit bits (kept (f .width) (f .read) (f .words) q ws n)
+    pub fit-kept : (q : R → Bool) (ws : List ℕ) (n : ℕ) → Fit bits ws → Fit bits (kept (f .width) (f .read) (f .words) q ws n)
     unfolding kept
-    fit-kept q ws n h e =
+    fit-kept q ws n e =
         let l = keep q (rowsOf f ws n) in
-        each-append In (flat (f .words) l) (drop (length l * f .width) ws) (fit-flat (f .words) l (each-keep (λ (r : R). Fit bits (f .words r)) q (rowsOf f ws n) (rows-fit n ws h e))) (each-drop In (length l * f .width) ws e)
+        each-append In (flat (f .words) l) (drop (length l * f .width) ws) (fit-flat (f .words) l (each-keep (λ (r : R). Fit bits (f .words r)) q (rowsOf f ws n) (rows-fit n ws e))) (each-drop In (length l * f .width) ws e)
 
 -- ---- Rings and log
 

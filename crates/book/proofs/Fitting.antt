@@ -21,7 +21,7 @@ use Rattle.marks.specs.Marks.{placed, Rises}
 use Rattle.marks.proofs.Rising.{length-placed, rises-placed}
 use Rattle.rules.specs.declared.FaultRule.{FaultRule}
 use Rattle.decide.specs.Decide.{Decision, rulesAfter}
-use Rattle.network.specs.Opening.{Sizes, Opening, links, longestWire, mostTypes, mostClasses, mostShards}
+use Rattle.network.specs.Opening.{Sizes, Opening, links, longestWire, mostTills, mostTypes, mostClasses, mostShards, mostSlots}
 use Rattle.rules.specs.Rules.{ruleSlots, fireAt}
 use Rattle.blocks.specs.Blocks.{blockSlots}
 use Rattle.blocks.specs.declared.BlockWindow.{BlockWindow}
@@ -95,6 +95,10 @@ length-ruled v rs = go (v .drops)
 
 -- what question 2 leaves of the sizes
 pub record Limited (z : Sizes) : Type 0 where
+  pub tills : z .tills ≤ mostTills
+  pub seen : z .seenSlots ≤ mostSlots
+  pub waiting : z .waitSlots ≤ mostSlots
+  pub log : z .logSlots ≤ mostSlots
   pub types : z .types ≤ mostTypes
   pub classes : z .classes ≤ mostClasses
   pub shards : z .shards ≤ mostShards
@@ -185,7 +189,7 @@ module _ (o : Opening) (m : Message) where
   unfolding drawn
   drawn-good k s t b f = record {
     few = drawn-few o m t s;
-    near = drawn-each o m t NearCopy (λ (c : Carried). nearEntry (limitsOf (o .sizes)) c ≡ true) (near-echo k t b) (near-own k) s (near-ring s (f .rings));
+    near = drawn-each o m t NearCopy (λ (c : Carried). nearEntry (limitsOf (o .sizes)) c ≡ true) (λ c w. near-echo k t b c _) (near-own k) s (near-ring s (f .rings));
   }
 
   -- question 10 at a till

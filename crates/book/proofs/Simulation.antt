@@ -68,7 +68,7 @@ module _ (o : Opening) where
         let w = words-wrote (o .sizes) T f (link (m .from) t) n in
         ruled-wrote (o .sizes) (wordsT T (link (m .from) t) n) (w .formed) v
 
-    effect-wrote : (c : Class) (T : Tables) (d : Drawn) (t : ℕ) → Formed (o .sizes) T → Good o m d → t < o .sizes .tills
+    pub effect-wrote : (c : Class) (T : Tables) (d : Drawn) (t : ℕ) → Formed (o .sizes) T → Good o m d → t < o .sizes .tills
         → (c ≡ sent → length (idsAt (live (o .sizes) T) t) < o .sizes .seenSlots) → cell (T .net) waitingAt + 3 ≤ o .sizes .waitSlots → Wrote (o .sizes) (effectT o m c T d t) (effect o m c (live (o .sizes) T) d t)
     effect-wrote deduplicated T d t f g b r w = record { formed = f; holds = refl }
     effect-wrote partition T d t f g b r w = record { formed = f; holds = refl }
@@ -120,11 +120,11 @@ module _ (o : Opening) where
   -- ---- Flush
 
   -- a copy in range is for a till
-  near-to : (d : Delivery) → near (limitsOf (o .sizes)) d ≡ true → d .to < o .sizes .tills
+  pub near-to : (d : Delivery) → near (limitsOf (o .sizes)) d ≡ true → d .to < o .sizes .tills
   unfolding near
   near-to d h = ltb-true (d .to) (o .sizes .tills) (both (ltb (d .to) (o .sizes .tills)) _ (both (ltb (d .from) (o .sizes .tills)) _ h .1) .0)
 
-  ids-few : (z : Sizes) (T : Tables) (t : ℕ) → Formed z T → t < z .tills → length (idsAt (live z T) t) ≤ z .seenSlots
+  pub ids-few : (z : Sizes) (T : Tables) (t : ℕ) → Formed z T → t < z .tills → length (idsAt (live z T) t) ≤ z .seenSlots
   ids-few z T t f b =
       let i : ℕ = idsStart z t in
       let n : ℕ = cell (T .seen) t in
