@@ -37,7 +37,7 @@ use Rattle.book.proofs.Asking.{all-yes, rising-opening}
 use Rattle.book.proofs.Fitting.{Limited}
 use Rattle.book.proofs.StepFits.{opening-fits}
 use Rattle.book.proofs.Formed.{fourOf, Fixed, NetFormed, Formed, Wrote}
-use Rattle.book.proofs.WriteLaws.{till-exact}
+use Rattle.book.proofs.Parts.{till-exact}
 use Rattle.book.proofs.Held.{Held}
 
 -- n zeros, and behind them what stood there
@@ -173,7 +173,7 @@ module _ (x : Settings) (masks : List ℕ) (lent : Tables) (accepted : openNumbe
   pub limited : Limited z
   limited =
       let l = every-each (sizeTests x) (limits .0) in
-      record { types = leb-true _ _ (l .1 .0); classes = leb-true _ _ (l .1 .1 .0); shards = leb-true _ _ (l .1 .1 .1 .0) }
+      record { tills = leb-true _ _ (l .0); seen = leb-true _ _ (l .1 .1 .1 .1 .1 .1 .1 .0); waiting = leb-true _ _ (l .1 .1 .1 .1 .1 .0); log = leb-true _ _ (l .1 .1 .1 .1 .1 .1 .1 .1 .0); types = leb-true _ _ (l .1 .0); classes = leb-true _ _ (l .1 .1 .0); shards = leb-true _ _ (l .1 .1 .1 .0) }
 
   pub open-held : Held (openingOf x (lent .names)) (openTables x masks lent) (openingLive (x .sizes) masks)
   open-held = record { fixed = fixed; wrote = record { formed = formed; holds = holds }; fits = opening-fits (openingOf x (lent .names)) masks (yes .1 .1 .1 .0) }
