@@ -1,7 +1,10 @@
 -- Question 1, table by table: the tests of `Lent`, of the lists that they read and nothing else.
-use mathlib.Core.Bool.{Bool}
-use mathlib.Core.List.{List}
+use mathlib.Core.Bool.{Bool, _&&_}
+use mathlib.Core.List.{List, []}
 use Prim.Native.Nat.{ℕ}
+use lib.Dec.{ltb}
+use Rattle.blocks.specs.declared.BlockWindow.{BlockWindow}
+use Rattle.network.specs.Live.{Till}
 use Rattle.network.specs.Lists.{every}
 use Rattle.network.specs.Tables.{sizesAt, settingsAt}
 use Rattle.network.specs.Limits.{sizeTests, rangeTests}
@@ -27,8 +30,8 @@ namesHeld setup names = every (namesTests (sizesAt setup) (setNames (alone setup
 unfoldable pub tillsHeld : (setup tills : List ℕ) → Bool
 tillsHeld setup tills = every (tillsTests (sizesAt setup) (setTills (alone setup) tills))
 
-unfoldable pub wordsHeld : (setup words : List ℕ) → Bool
-wordsHeld setup words = every (wordsTests (sizesAt setup) (setWords (alone setup) words))
+unfoldable pub wordsHeld : (words : List ℕ) → Bool
+wordsHeld words = every (wordsTests (sizesAt []) (setWords (alone []) words))
 
 unfoldable pub keysHeld : (setup keys : List ℕ) → Bool
 keysHeld setup keys = every (keysTests (sizesAt setup) (setKeys (alone setup) keys))
@@ -45,11 +48,18 @@ waitingHeld setup net waiting = every (waitingTests (sizesAt setup) (setWaiting 
 unfoldable pub ringsHeld : (setup rings : List ℕ) → Bool
 ringsHeld setup rings = every (ringsTests (sizesAt setup) (setRings (alone setup) rings))
 
-unfoldable pub rulesHeld : (setup rules : List ℕ) → Bool
-rulesHeld setup rules = every (rulesTests (sizesAt setup) (setRules (alone setup) rules))
+unfoldable pub rulesHeld : (rules : List ℕ) → Bool
+rulesHeld rules = every (rulesTests (sizesAt []) (setRules (alone []) rules))
 
 unfoldable pub blocksHeld : (setup net blocks : List ℕ) → Bool
 blocksHeld setup net blocks = every (blocksTests (sizesAt setup) (setBlocks (setNet (alone setup) net) blocks))
 
 unfoldable pub logHeld : (setup log : List ℕ) → Bool
 logHeld setup log = every (logTests (sizesAt setup) (setLog (alone setup) log))
+
+-- a row's masks below two powers of 2; a window between tills that exist
+unfoldable pub masksBelow : (types shards : ℕ) → Till → Bool
+masksBelow types shards t = ltb (t .gossip) types && ltb (t .host) types && ltb (t .shards) shards
+
+unfoldable pub endsBelow : (tills : ℕ) → BlockWindow → Bool
+endsBelow tills b = ltb (b .from) tills && ltb (b .to) tills
