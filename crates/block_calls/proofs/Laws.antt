@@ -7,7 +7,7 @@ use native.Mathlib.Omega.{arith}
 use native.Mathlib.Numerals.{add-one}
 use lib.Dec.{leb, ltb}
 use lib.ListN.{length, set}
-use borrow.Author.Tests.{lt-ltb, le-ltb, le-leb, lt-leb, eqb-true}
+use borrow.Author.Tests.{lt-ltb, le-ltb, le-leb, lt-leb}
 use Rattle.rows.proofs.Rows.{length-rows}
 use Rattle.blocks.specs.Blocks.{blockWidth, blockSlots, firstBlock, blocksOf, blocked, always, during, blockNumber, blockTable, openCount, unblockTable}
 use Rattle.blocks.specs.declared.BlockWindow.{BlockWindow}
@@ -21,6 +21,7 @@ use Rattle.network.specs.Writes.{callReply, stepT}
 use Rattle.held.specs.Held.{setupHeld, netHeld, blocksHeld}
 use Rattle.held.proofs.Ladder.{yes, no, both, only}
 use Rattle.held.proofs.Passed.{PassedSetup, PassedNet, setup-says, net-says}
+use Rattle.held.proofs.PassedRows.{PassedBlocks, blocks-say}
 use Rattle.reply.specs.declared.Done.{Done}
 use Rattle.reply.specs.declared.Value.{Value}
 use Rattle.reply.specs.Reply.{refusedBy}
@@ -42,15 +43,15 @@ both-passed true false rest h = absurd (omega arith)
 both-passed false y rest h = absurd (omega arith)
 
 pub passed : (s n b : List ℕ) (from to rest : ℕ) → pairNumber s n b from to rest ≡ 0 → Passed s n b × (rest ≡ 0)
-unfolding pairNumber blocksLent blocksHeld
+unfolding pairNumber blocksLent
 passed s n b from to rest h =
     let q = both-passed (blocksLent s n b) (ltb (max from to) (sizesAt s .tills)) rest h in
     let q1 = both _ _ (q .0) in
     let q2 = both _ _ (q1 .1) in
-    let q3 = both _ _ (only _ (q2 .1)) in
+    let z : PassedBlocks s n b = blocks-say s n b (only _ (q2 .1)) in
     let x : PassedSetup s = setup-says s (q1 .0) in
     let y : PassedNet s n = net-says s n (q2 .0) in
-    (record { setup = x .size; net = y .size; count = y .blocks; blocks = eqb-true _ _ (q3 .0) }, q .2)
+    (record { setup = x .size; net = y .size; count = y .blocks; blocks = z .size }, q .2)
 
 -- ---- The ladders
 
