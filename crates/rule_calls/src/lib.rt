@@ -1,0 +1,191 @@
+// The rule calls on the network's tables: install, remove, fired, decide.
+ghost use mathlib.Core.Path.{_≡_};
+ghost use Prim.Native.Nat.{_%_, _^_};
+ghost use lib.ListN.{length};
+ghost use Rattle.decide.specs.Decide.{decision};
+ghost use Rattle.geography.specs.Geography.{Stands};
+ghost use Rattle.network.specs.Tables.{setupWidth, settingsAt};
+ghost use Rattle.network.specs.Real.{faultKeyOf};
+ghost use Rattle.rule_calls.specs.Calls.{DoesInstall, DoesRemove, DoesFired, DoesDecide, rulesLent, decideNumber, Decidable, verdictOf};
+use decide::Verdict;
+use reply::Value;
+use rule::Message;
+use streams::Cursor;
+
+// The latest time, 2^60; the words that a stream may have given, 2^40; the last tier.
+pub const LATEST: u64 = 1152921504606846976;
+
+pub const MOST_WORDS: u64 = 1099511627776;
+
+pub const LAST_TIER: u64 = 3;
+
+// Question 1.
+fn lent(setup: &[u64], net: &[u64], rules: &[u64]) -> bool
+    ensures { λ r. ⌜ r ≡ rulesLent (now (setup .entry)) (now (net .entry)) (now (rules .entry)) ⌝ }
+{
+    if !held::setup_held(setup) {
+        return false;
+    }
+    if !held::net_held(setup, net) {
+        return false;
+    }
+    held::rules_held(rules)
+}
+
+// Questions 1, 12 and 13, then the rule, which stands last. The value is its id.
+pub fn install(setup: &[u64], net: &mut [u64], rules: &mut [u64], card: &[u8]) -> Value
+    ensures { λ r. ⌜ DoesInstall (now (setup .entry)) (now (net .entry)) (now (rules .entry)) (now (net .exit)) (now (rules .exit)) (now (card .entry)) r ⌝ }
+{
+    if !lent(setup, net, rules) {
+        return reply::refused(1);
+    }
+    let n = net[held::RULES];
+    let ever = net[held::INSTALLED];
+    let number = rules::install(rules, n as usize, ever, card);
+    if number != 0 {
+        return reply::refused(number);
+    }
+    net[held::RULES] = n + 1;
+    net[held::INSTALLED] = ever + 1;
+    Value {
+        number: 0,
+        found: 1,
+        value: ever,
+    }
+}
+
+// The rule goes, if there is one. The value is its last fired count.
+pub fn remove(setup: &[u64], net: &mut [u64], rules: &mut [u64], id: u64) -> Value
+    ensures { λ r. ⌜ DoesRemove (now (setup .entry)) (now (net .entry)) (now (rules .entry)) (now (net .exit)) (now (rules .exit)) id r ⌝ }
+{
+    if !lent(setup, net, rules) {
+        return reply::refused(1);
+    }
+    let n = net[held::RULES];
+    let gone = rules::remove(rules, n as usize, id);
+    net[held::RULES] = gone.left as u64;
+    Value {
+        number: 0,
+        found: gone.found,
+        value: gone.fired,
+    }
+}
+
+// How often a rule has fired, if there is one.
+pub fn fired(setup: &[u64], net: &[u64], rules: &[u64], id: u64) -> Value
+    ensures { λ r. ⌜ DoesFired (now (setup .entry)) (now (net .entry)) (now (rules .entry)) id r ⌝ }
+{
+    if !lent(setup, net, rules) {
+        return reply::refused(1);
+    }
+    let n = net[held::RULES];
+    let rule = rules::fired(rules, n as usize, id);
+    Value {
+        number: 0,
+        found: rule.found,
+        value: rule.fired,
+    }
+}
+
+// Questions 1, 4, 5, 7 and 8.
+fn decide_refusal(setup: &[u64], net: &[u64], rules: &[u64], m: Message) -> u64
+    ensures { λ r. ⌜ r ≡ decideNumber (now (setup .entry)) (now (net .entry)) (now (rules .entry)) m ⌝ }
+{
+    if !lent(setup, net, rules) {
+        return 1;
+    }
+    let tills = held::cell(setup, held::TILLS);
+    if tills <= m.from {
+        return 4;
+    }
+    if tills <= m.to {
+        return 4;
+    }
+    if held::cell(setup, held::TYPES) <= m.kind {
+        return 5;
+    }
+    if LAST_TIER < m.tier {
+        return 5;
+    }
+    if LATEST < m.now {
+        return 7;
+    }
+    if MOST_WORDS <= held::cell(net, held::FAULT_WORDS) {
+        return 8;
+    }
+    0
+}
+
+fn low(x: u64) -> u32
+    ensures { λ r. ⌜ r ≡ x % 2 ^ 32 ⌝ }
+{
+    (x % 4294967296) as u32
+}
+
+// The fault stream at a word count.
+fn fault_at(setup: &[u64], count: u64) -> Cursor
+    requires { ⌜ length (now setup) ≡ setupWidth ⌝ }
+    ensures { λ r. ⌜ Stands (faultKeyOf (settingsAt (now (setup .entry)) .faultKey)) count r ⌝ }
+{
+    let a = low(setup[held::FAULT_KEY]);
+    let b = low(setup[held::FAULT_KEY + 1]);
+    let c = low(setup[held::FAULT_KEY + 2]);
+    let d = low(setup[held::FAULT_KEY + 3]);
+    let e = low(setup[held::FAULT_KEY + 4]);
+    let f = low(setup[held::FAULT_KEY + 5]);
+    let g = low(setup[held::FAULT_KEY + 6]);
+    let h = low(setup[held::FAULT_KEY + 7]);
+    streams::at([a, b, c, d, e, f, g, h], count)
+}
+
+// What the rules say of a message, with the fault stream at its word count.
+fn verdict(setup: &[u64], net: &[u64], rules: &[u64], m: Message) -> Verdict
+    requires { ⌜ Decidable (now setup) (now net) (now rules) ⌝ }
+    ensures { λ r. ⌜ decision r ≡ verdictOf (now (setup .entry)) (now (net .entry)) (now (rules .entry)) m ⌝ }
+{
+    let n = net[held::RULES];
+    let c = fault_at(setup, net[held::FAULT_WORDS]);
+    decide::decide(rules, n as usize, c, m)
+}
+
+// The word count moves, and the rule that drops has fired once more. The value is 1 for a drop, or 0.
+pub fn decide(
+    setup: &[u64],
+    net: &mut [u64],
+    rules: &mut [u64],
+    from: u64,
+    to: u64,
+    kind: u64,
+    tier: u64,
+    at: u64,
+) -> Value
+    ensures { λ r. ⌜ DoesDecide (now (setup .entry)) (now (net .entry)) (now (rules .entry)) (now (net .exit)) (now (rules .exit)) «from» to kind tier at r ⌝ }
+{
+    let m = Message {
+        kind,
+        from,
+        to,
+        tier,
+        now: at,
+    };
+    let number = decide_refusal(setup, net, rules, m);
+    if number != 0 {
+        return reply::refused(number);
+    }
+    let v = verdict(setup, net, rules, m);
+    let next = v.next;
+    net[held::FAULT_WORDS] = next.count;
+    if v.drops {
+        rules::fire(rules, v.place);
+        return Value {
+            number: 0,
+            found: 1,
+            value: 1,
+        };
+    }
+    Value {
+        number: 0,
+        found: 1,
+        value: 0,
+    }
+}
