@@ -100,21 +100,7 @@ module _ (s n r : List ℕ) (m : Message) where
             unfolding decideNumber
             none h = yes _ _ _ _ lent (yes _ _ _ _ (lt-ltb _ _ near) (yes _ _ _ _ both5 (yes _ _ _ _ (le-leb _ _ time) (yes _ _ _ _ (lt-ltb _ _ h) refl))))
 
--- ---- The fault stream's key, word by word
-
-module _ (s : List ℕ) where
-  abbrev keyWord : ℕ → ℕ
-  keyWord i = cell s (keyAt + i) % 2 ^ 32
-
-  pub key-words : faultKeyOf (settingsAt s .faultKey) ≡ keyWord 0 ∷ keyWord 1 ∷ keyWord 2 ∷ keyWord 3 ∷ keyWord 4 ∷ keyWord 5 ∷ keyWord 6 ∷ keyWord 7 ∷ []
-  unfolding faultKeyOf
-  key-words = rw (getD-drop keyAt s 0 0, getD-drop keyAt s 1 0, getD-drop keyAt s 2 0, getD-drop keyAt s 3 0, getD-drop keyAt s 4 0, getD-drop keyAt s 5 0, getD-drop keyAt s 6 0, getD-drop keyAt s 7 0)
-
-  -- a cursor whose key was read word by word
-  pub stands : (n : ℕ) (c : Cursor) (k0 k1 k2 k3 k4 k5 k6 k7 : ℕ) → k0 ≡ keyWord 0 → k1 ≡ keyWord 1 → k2 ≡ keyWord 2 → k3 ≡ keyWord 3 → k4 ≡ keyWord 4 → k5 ≡ keyWord 5 → k6 ≡ keyWord 6 → k7 ≡ keyWord 7
-      → c .key ≡ k0 ∷ k1 ∷ k2 ∷ k3 ∷ k4 ∷ k5 ∷ k6 ∷ k7 ∷ [] → c .count ≡ n → Holds c → Stands (faultKeyOf (settingsAt s .faultKey)) n c
-  stands n c k0 k1 k2 k3 k4 k5 k6 k7 e0 e1 e2 e3 e4 e5 e6 e7 key count holds =
-      record { key = key ∙ (rw (e0, e1, e2, e3, e4, e5, e6, e7)) ∙ sym key-words; count = count; holds = holds }
+-- ---- The verdict
 
 pub verdict-is : (s n r : List ℕ) (m : Message) (c : Cursor) (v : Verdict) → Stands (faultKeyOf (settingsAt s .faultKey)) (cell n faultWordsAt) c
     → decision v ≡ decideOf (c .key) m (rulesOf r (cell n rulesAt)) (c .count) → decision v ≡ verdictOf s n r m

@@ -1,16 +1,10 @@
 // The rule calls on the network's tables: install, remove, fired, decide.
 ghost use mathlib.Core.Path.{_≡_};
-ghost use Prim.Native.Nat.{_%_, _^_};
-ghost use lib.ListN.{length};
 ghost use Rattle.decide.specs.Decide.{decision};
-ghost use Rattle.geography.specs.Geography.{Stands};
-ghost use Rattle.network.specs.Tables.{setupWidth, settingsAt};
-ghost use Rattle.network.specs.Real.{faultKeyOf};
 ghost use Rattle.rule_calls.specs.Calls.{DoesInstall, DoesRemove, DoesFired, DoesDecide, rulesLent, decideNumber, Decidable, verdictOf};
 use decide::Verdict;
 use reply::Value;
 use rule::Message;
-use streams::Cursor;
 
 // The latest time, 2^60; the words that a stream may have given, 2^40; the last tier.
 pub const LATEST: u64 = 1152921504606846976;
@@ -116,35 +110,13 @@ fn decide_refusal(setup: &[u64], net: &[u64], rules: &[u64], m: Message) -> u64
     0
 }
 
-fn low(x: u64) -> u32
-    ensures { λ r. ⌜ r ≡ x % 2 ^ 32 ⌝ }
-{
-    (x % 4294967296) as u32
-}
-
-// The fault stream at a word count.
-fn fault_at(setup: &[u64], count: u64) -> Cursor
-    requires { ⌜ length (now setup) ≡ setupWidth ⌝ }
-    ensures { λ r. ⌜ Stands (faultKeyOf (settingsAt (now (setup .entry)) .faultKey)) count r ⌝ }
-{
-    let a = low(setup[held::FAULT_KEY]);
-    let b = low(setup[held::FAULT_KEY + 1]);
-    let c = low(setup[held::FAULT_KEY + 2]);
-    let d = low(setup[held::FAULT_KEY + 3]);
-    let e = low(setup[held::FAULT_KEY + 4]);
-    let f = low(setup[held::FAULT_KEY + 5]);
-    let g = low(setup[held::FAULT_KEY + 6]);
-    let h = low(setup[held::FAULT_KEY + 7]);
-    streams::at([a, b, c, d, e, f, g, h], count)
-}
-
 // What the rules say of a message, with the fault stream at its word count.
 fn verdict(setup: &[u64], net: &[u64], rules: &[u64], m: Message) -> Verdict
     requires { ⌜ Decidable (now setup) (now net) (now rules) ⌝ }
     ensures { λ r. ⌜ decision r ≡ verdictOf (now (setup .entry)) (now (net .entry)) (now (rules .entry)) m ⌝ }
 {
     let n = net[held::RULES];
-    let c = fault_at(setup, net[held::FAULT_WORDS]);
+    let c = link_draws::fault_at(setup, net[held::FAULT_WORDS]);
     decide::decide(rules, n as usize, c, m)
 }
 
