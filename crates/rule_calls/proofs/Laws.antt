@@ -8,11 +8,16 @@ use native.Mathlib.Numerals.{add-one}
 use lib.Dec.{eqb, leb, ltb}
 use lib.ListN.{length, set, drop}
 use lib.Seq.{getD-drop}
-use borrow.Author.Tests.{lt-ltb, le-ltb, le-leb, lt-leb, ltb-true, ne-eqb}
+use borrow.Author.Tests.{lt-ltb, le-ltb, le-leb, lt-leb, ltb-true, eq-eqb, ne-eqb}
 use Rattle.rule.specs.declared.Message.{Message}
 use Rattle.rows.proofs.Rows.{length-rows}
-use Rattle.card.specs.Card.{exact}
+use Rattle.rule.specs.declared.DropSpec.{DropSpec}
+use Rattle.card.specs.Card.{exact, cardOf}
+use Rattle.card.specs.declared.Card.{Card}
+use Rattle.card.specs.declared.Card.the-variants.{Exact, Inexact}
+use Rattle.card.proofs.Laws.{exact-card, inexact-card}
 use Rattle.rules.specs.Rules.{ruleWidth, ruleSlots, mostRules, firstRule, rulesOf, without, readingOf, removedOf, installNumber, installTable, removeTable, fireTable}
+use Rattle.rules.proofs.Held.{install-room}
 use Rattle.rules.specs.declared.Reading as rules
 use Rattle.rules.specs.declared.Removed.{Removed}
 use Rattle.streams.specs.Streams.{Holds}
@@ -33,7 +38,7 @@ use Rattle.held.proofs.PassedRows.{rules-say}
 use Rattle.reply.specs.declared.Value.{Value}
 use Rattle.reply.specs.Reply.{refusedBy}
 use Rattle.reply.proofs.Laws as reply
-use Rattle.rule_calls.specs.Calls.{lend, Changes, rulesLent, lentNumber, cardNumber, decideNumber, Passed, Decidable, verdictOf}
+use Rattle.rule_calls.specs.Calls.{lend, Changes, rulesLent, lentNumber, placeNumber, exactNumber, firstOf, cardNumber, decideNumber, Passed, Decidable, verdictOf}
 
 -- ---- What passed questions say
 
@@ -56,10 +61,71 @@ decidable s n r m h =
     let q8 = under (ltb (cell n faultWordsAt) mostWords) 0 7 (q7 .1) in
     record { lent = passed s n r (q1 .0); words = ltb-true _ _ (q8 .0) }
 
+-- ---- The ladder of `install`
+
+module _ (n : List ℕ) where
+  pub full : ruleSlots ≤ cell n rulesAt → 12 ≡ placeNumber n
+  unfolding placeNumber
+  full h = no _ _ _ _ (sym (off _ _ (le-ltb _ _ h))) refl
+
+  module _ (room : cell n rulesAt < ruleSlots) where
+    pub spent : mostRules ≤ cell n installedAt → 12 ≡ placeNumber n
+    unfolding placeNumber
+    spent h = no _ _ _ _ (sym (on _ _ _ (lt-ltb _ _ room) (sym (le-ltb _ _ h)))) refl
+
+    pub free : cell n installedAt < mostRules → 0 ≡ placeNumber n
+    unfolding placeNumber
+    free h = yes _ _ _ _ (sym (on _ _ _ (lt-ltb _ _ room) (sym (lt-ltb _ _ h)))) refl
+
+pub inexact : (card : List ℕ) (c : Card) → c ≡ cardOf card → c ≡ Inexact → 13 ≡ exactNumber card
+unfolding exactNumber
+inexact card c e h = no _ _ _ _ (inexact-card card (sym e ∙ h)) refl
+
+pub is-exact : (card : List ℕ) (c : Card) (d : DropSpec) → c ≡ cardOf card → c ≡ Exact d → 0 ≡ exactNumber card
+unfolding exactNumber
+is-exact card c d e h = yes _ _ _ _ (exact-card card d (sym e ∙ h) .0) refl
+
+pub first-passes : (a b : ℕ) → a ≡ 0 → b ≡ firstOf a b
+unfolding firstOf
+first-passes a b h = yes _ _ _ _ (eq-eqb _ _ h) refl
+
+pub first-refuses : (a b : ℕ) → (a ≡ 0 → ⊥) → a ≡ firstOf a b
+unfolding firstOf
+first-refuses a b h = no _ _ _ _ (ne-eqb _ _ h) refl
+
+pub no-card : (s n r card : List ℕ) → rulesLent s n r ≡ false → 1 ≡ cardNumber s n r card
+unfolding cardNumber
+no-card s n r card h = no _ _ _ _ h refl
+
+pub asks-card : (s n r card : List ℕ) (a b N : ℕ) → rulesLent s n r ≡ true → a ≡ placeNumber n → b ≡ exactNumber card → N ≡ firstOf a b → N ≡ cardNumber s n r card
+unfolding cardNumber
+asks-card s n r card a b N h p q e = yes _ _ _ _ h (e ∙ (rw (p, q)))
+
+-- the two questions are those of the rule table
+in-order : (n card : List ℕ) → firstOf (placeNumber n) (exactNumber card) ≡ installNumber (cell n rulesAt) (cell n installedAt) card
+unfolding firstOf placeNumber exactNumber installNumber
+in-order n card = go (ltb (cell n rulesAt) ruleSlots && ltb (cell n installedAt) mostRules) (cond (exact card) 0 13)
+  where
+    go : (b : Bool) (x : ℕ) → cond (eqb (cond b 0 12) 0) x (cond b 0 12) ≡ cond b x 12
+    go true x = refl
+    go false x = refl
+
 -- an installed rule was not the last that may be
-pub fewer : (k ever : ℕ) (card : List ℕ) → installNumber k ever card ≡ 0 → ever < mostRules
+fewer : (k ever : ℕ) (card : List ℕ) → installNumber k ever card ≡ 0 → ever < mostRules
 unfolding installNumber
 fewer k ever card h = ltb-true _ _ (both (ltb k ruleSlots) (ltb ever mostRules) (under _ (cond (exact card) 0 13) 11 h .0) .1)
+
+pub record Installable (s n r card : List ℕ) : Type 0 where
+  pub lent : Passed s n r
+  pub count : cell n rulesAt < ruleSlots
+  pub ever : cell n installedAt < mostRules
+
+pub installable : (s n r card : List ℕ) → cardNumber s n r card ≡ 0 → Installable s n r card
+unfolding cardNumber
+installable s n r card h =
+    let q = under (rulesLent s n r) _ 0 h in
+    let z : installNumber (cell n rulesAt) (cell n installedAt) card ≡ 0 = sym (in-order n card) ∙ q .1 in
+    record { lent = passed s n r (q .0); count = install-room _ _ card z; ever = fewer _ _ card z }
 
 -- ---- The ladder of `decide`
 
@@ -117,10 +183,11 @@ module _ (T : Tables) (s n r : List ℕ) where
   unfolding rulesLent setupHeld netHeld rulesHeld
   lent-fired id = refl
 
-  lent-install : (card : List ℕ) → lentNumber s n r (cardNumber n card) ≡ callReply (lend T s n r) (install card) .number
-  unfolding installNumber rulesLent setupHeld netHeld rulesHeld
-  lent-install card =
-      ap (λ (k : ℕ). lentNumber s n r (cond (ltb k ruleSlots && ltb (cell n installedAt) mostRules) (cond (exact card) 0 13) 12)) (sym (length-rows ruleWidth firstRule (cell n rulesAt) r))
+  number-install : (card : List ℕ) → cardNumber s n r card ≡ callReply (lend T s n r) (install card) .number
+  unfolding cardNumber installNumber rulesLent setupHeld netHeld rulesHeld
+  number-install card =
+      ap (lentNumber s n r) (in-order n card)
+      ∙ ap (λ (k : ℕ). lentNumber s n r (cond (ltb k ruleSlots && ltb (cell n installedAt) mostRules) (cond (exact card) 0 13) 12)) (sym (length-rows ruleWidth firstRule (cell n rulesAt) r))
 
   number-decide : (m : Message) → decideNumber s n r m ≡ callReply (lend T s n r) (decide m) .number
   unfolding decideNumber rulesLent setupHeld netHeld rulesHeld
@@ -140,42 +207,29 @@ module _ (c : Call) (s n r : List ℕ) (N : ℕ) (same : (T : Tables) → N ≡ 
 
 -- question 1 refuses
 module _ (s n r : List ℕ) (h : rulesLent s n r ≡ false) (v : Value) (q : v ≡ refusedBy 1) where
-  first-no : (c : Call) (rest : ℕ) → ((T : Tables) → lentNumber s n r rest ≡ callReply (lend T s n r) c .number) → Changes c s n r n r v
-  first-no c rest same = refused-by c s n r 1 (λ T. no _ _ _ _ h refl ∙ same T) v q (λ z. omega arith)
-
-  pub install-not-lent : (card : List ℕ) → Changes (install card) s n r n r v
-  install-not-lent card = first-no (install card) (cardNumber n card) (λ T. lent-install T s n r card)
+  first-no : (c : Call) → ((T : Tables) → lentNumber s n r 0 ≡ callReply (lend T s n r) c .number) → Changes c s n r n r v
+  first-no c same = refused-by c s n r 1 (λ T. no _ _ _ _ h refl ∙ same T) v q (λ z. omega arith)
 
   pub remove-not-lent : (id : ℕ) → Changes (remove id) s n r n r v
-  remove-not-lent id = first-no (remove id) 0 (λ T. lent-remove T s n r id)
+  remove-not-lent id = first-no (remove id) (λ T. lent-remove T s n r id)
 
   pub fired-not-lent : (id : ℕ) → Changes (reading (fired id)) s n r n r v
-  fired-not-lent id = first-no (reading (fired id)) 0 (λ T. lent-fired T s n r id)
+  fired-not-lent id = first-no (reading (fired id)) (λ T. lent-fired T s n r id)
+
+-- ---- `install`
+
+module _ (s n r card : List ℕ) (N : ℕ) (e : N ≡ cardNumber s n r card) where
+  pub install-refused : (v : Value) → v ≡ refusedBy N → (N ≡ 0 → ⊥) → Changes (install card) s n r n r v
+  install-refused v q h = refused-by (install card) s n r N (λ T. e ∙ number-install T s n r card) v q h
+
+  pub install-done : N ≡ 0 → (k ever : ℕ) (n′ r′ : List ℕ) → k ≡ cell n rulesAt → ever ≡ cell n installedAt → r′ ≡ installTable r k ever card → n′ ≡ set (set n rulesAt (k + 1)) installedAt (ever + 1)
+      → Changes (install card) s n r n′ r′ (record { number = 0; found = 1; value = ever })
+  install-done h k ever n′ r′ k-is ever-is p q =
+      changed-by (install card) s n r N (λ T. e ∙ number-install T s n r card) h 1 ever n′ r′ (λ T. ap (number 1) (sym ever-is)) (λ T. rw (p, q, add-one k, add-one ever, k-is, ever-is))
+
+-- ---- `remove` and `fired`
 
 module _ (s n r : List ℕ) (h : rulesLent s n r ≡ true) (k : ℕ) (k-is : k ≡ cell n rulesAt) where
-  -- ---- `install`
-
-  module _ (ever : ℕ) (ever-is : ever ≡ cell n installedAt) (card : List ℕ) (N : ℕ) (e : N ≡ installNumber k ever card) where
-    number-is : (T : Tables) → N ≡ callReply (lend T s n r) (install card) .number
-    number-is T =
-        e ∙ ap (λ (i : ℕ). installNumber i ever card) k-is ∙ ap (λ (i : ℕ). installNumber (cell n rulesAt) i card) ever-is
-        ∙ yes _ _ _ _ h refl ∙ lent-install T s n r card
-
-    -- a card that is refused leaves the rules as found
-    same-rules : (N ≡ 0 → ⊥) → r ≡ installTable r k ever card
-    unfolding installTable
-    same-rules z = no _ _ _ _ (ne-eqb _ _ (λ y. z (e ∙ y))) refl
-
-    pub install-refused : (r′ : List ℕ) (v : Value) → r′ ≡ installTable r k ever card → v ≡ refusedBy N → (N ≡ 0 → ⊥) → Changes (install card) s n r n r′ v
-    install-refused r′ v p q z = rw (p ∙ sym (same-rules z)) (refused-by (install card) s n r N number-is v q z)
-
-    pub install-done : (n′ r′ : List ℕ) → N ≡ 0 → r′ ≡ installTable r k ever card → n′ ≡ set (set n rulesAt (k + 1)) installedAt (ever + 1)
-        → Changes (install card) s n r n′ r′ (record { number = 0; found = 1; value = ever })
-    install-done n′ r′ z p q =
-        changed-by (install card) s n r N number-is z 1 ever n′ r′ (λ T. ap (number 1) (sym ever-is)) (λ T. rw (p, q, add-one k, add-one ever, k-is, ever-is))
-
-  -- ---- `remove` and `fired`
-
   pub remove-done : (id : ℕ) (g : Removed) (n′ r′ : List ℕ) → g ≡ removedOf id (rulesOf r k) → r′ ≡ removeTable r k id → n′ ≡ set n rulesAt (g .left)
       → Changes (remove id) s n r n′ r′ (record { number = 0; found = g .found; value = g .fired })
   remove-done id g n′ r′ e p q =

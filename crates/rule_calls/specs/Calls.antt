@@ -3,10 +3,11 @@ use mathlib.Core.Path.{_≡_}
 use mathlib.Core.Bool.{Bool, true, cond, _&&_}
 use mathlib.Core.List.{List}
 use Prim.Native.Nat.{ℕ, max, _*_, _≤_, _<_}
-use lib.Dec.{leb, ltb}
+use lib.Dec.{eqb, leb, ltb}
 use lib.ListN.{length}
 use Rattle.rule.specs.declared.Message.{Message}
-use Rattle.rules.specs.Rules.{ruleSlots, ruleWidth, rulesOf, installNumber}
+use Rattle.card.specs.Card.{exact}
+use Rattle.rules.specs.Rules.{ruleSlots, ruleWidth, mostRules, rulesOf}
 use Rattle.decide.specs.Decide.{Decision, decideOf}
 use Rattle.network.specs.Opening.{latestNow, mostWords}
 use Rattle.network.specs.Calls.{Call, install, remove, decide, reading, fired}
@@ -48,9 +49,20 @@ rulesLent s n r = setupHeld s && (netHeld s n && (rulesHeld r && true))
 abbrev pub lentNumber : (setup net rules : List ℕ) → (rest : ℕ) → ℕ
 lentNumber s n r rest = cond (rulesLent s n r) rest 1
 
--- 12 and 13
-abbrev pub cardNumber : (net card : List ℕ) → ℕ
-cardNumber n card = installNumber (cell n rulesAt) (cell n installedAt) card
+-- 12: is a rule place free, and were fewer than 4,294,967,295 rules ever installed? 13: is the card exact?
+unfoldable pub placeNumber : (net : List ℕ) → ℕ
+placeNumber n = cond (ltb (cell n rulesAt) ruleSlots && ltb (cell n installedAt) mostRules) 0 12
+
+unfoldable pub exactNumber : (card : List ℕ) → ℕ
+exactNumber card = cond (exact card) 0 13
+
+-- the first of two numbers that refuses
+unfoldable pub firstOf : ℕ → ℕ → ℕ
+firstOf a b = cond (eqb a 0) b a
+
+-- 1, 12 and 13
+unfoldable pub cardNumber : (setup net rules card : List ℕ) → ℕ
+cardNumber s n r card = lentNumber s n r (firstOf (placeNumber n) (exactNumber card))
 
 -- 1, 4, 5, 7 and 8
 unfoldable pub decideNumber : (setup net rules : List ℕ) → Message → ℕ

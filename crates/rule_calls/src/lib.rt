@@ -1,7 +1,8 @@
 // The rule calls on the network's tables: install, remove, fired, decide.
 ghost use mathlib.Core.Path.{_≡_};
 ghost use Rattle.decide.specs.Decide.{decision};
-ghost use Rattle.rule_calls.specs.Calls.{DoesInstall, DoesRemove, DoesFired, DoesDecide, rulesLent, decideNumber, Decidable, verdictOf};
+ghost use Rattle.rule_calls.specs.Calls.{DoesInstall, DoesRemove, DoesFired, DoesDecide, rulesLent, placeNumber, exactNumber, firstOf, cardNumber, decideNumber, Decidable, verdictOf};
+use card::Card;
 use decide::Verdict;
 use reply::Value;
 use rule::Message;
@@ -26,19 +27,63 @@ fn lent(setup: &[u64], net: &[u64], rules: &[u64]) -> bool
     held::rules_held(rules)
 }
 
-// Questions 1, 12 and 13, then the rule, which stands last. The value is its id.
+// Question 12: is a rule place free, and were fewer rules ever installed than may be?
+fn place_number(net: &[u64]) -> u64
+    ensures { λ r. ⌜ r ≡ placeNumber (now (net .entry)) ⌝ }
+{
+    if rules::SLOTS as u64 <= held::cell(net, held::RULES) {
+        return 12;
+    }
+    if rules::MOST <= held::cell(net, held::INSTALLED) {
+        return 12;
+    }
+    0
+}
+
+// Question 13: is the card exact?
+fn card_number(card: &[u8]) -> u64
+    ensures { λ r. ⌜ r ≡ exactNumber (now (card .entry)) ⌝ }
+{
+    let found = card::read(card);
+    let Card::Exact(spec) = found else {
+        return 13;
+    };
+    0
+}
+
+// The first of two numbers that refuses.
+fn first_of(a: u64, b: u64) -> u64
+    ensures { λ r. ⌜ r ≡ firstOf a b ⌝ }
+{
+    if a == 0 {
+        return b;
+    }
+    a
+}
+
+// Questions 1, 12 and 13.
+fn install_refusal(setup: &[u64], net: &[u64], rules: &[u64], card: &[u8]) -> u64
+    ensures { λ r. ⌜ r ≡ cardNumber (now (setup .entry)) (now (net .entry)) (now (rules .entry)) (now (card .entry)) ⌝ }
+{
+    if !lent(setup, net, rules) {
+        return 1;
+    }
+    let place = place_number(net);
+    let exact = card_number(card);
+    first_of(place, exact)
+}
+
+// A new rule stands last. The value is its id.
 pub fn install(setup: &[u64], net: &mut [u64], rules: &mut [u64], card: &[u8]) -> Value
     ensures { λ r. ⌜ DoesInstall (now (setup .entry)) (now (net .entry)) (now (rules .entry)) (now (net .exit)) (now (rules .exit)) (now (card .entry)) r ⌝ }
 {
-    if !lent(setup, net, rules) {
-        return reply::refused(1);
-    }
-    let n = net[held::RULES];
-    let ever = net[held::INSTALLED];
-    let number = rules::install(rules, n as usize, ever, card);
+    let number = install_refusal(setup, net, rules, card);
     if number != 0 {
         return reply::refused(number);
     }
+    let n = net[held::RULES];
+    let ever = net[held::INSTALLED];
+    rules::install(rules, n as usize, ever, card);
     net[held::RULES] = n + 1;
     net[held::INSTALLED] = ever + 1;
     Value {
