@@ -1,13 +1,12 @@
 -- The ways through the rule calls: the ladder of `decide`, what passed questions say, and the ways of each call.
 use mathlib.Core.Path.{_≡_, refl, sym, ap, _∙_}
 use mathlib.Core.Bool.{Bool, true, false, cond, _&&_}
-use mathlib.Core.List.{List, _∷_, []}
-use Prim.Native.Nat.{ℕ, suc, max, _+_, _*_, _%_, _^_, _≤_, _<_}
+use mathlib.Core.List.{List}
+use Prim.Native.Nat.{ℕ, max, _+_, _≤_, _<_}
 use native.Mathlib.Omega.{arith}
 use native.Mathlib.Numerals.{add-one}
 use lib.Dec.{eqb, leb, ltb}
-use lib.ListN.{length, set, drop}
-use lib.Seq.{getD-drop}
+use lib.ListN.{set}
 use borrow.Author.Tests.{lt-ltb, le-ltb, le-leb, lt-leb, ltb-true, eq-eqb, ne-eqb}
 use Rattle.rule.specs.declared.Message.{Message}
 use Rattle.rows.proofs.Rows.{length-rows}
@@ -16,19 +15,18 @@ use Rattle.card.specs.Card.{exact, cardOf}
 use Rattle.card.specs.declared.Card.{Card}
 use Rattle.card.specs.declared.Card.the-variants.{Exact, Inexact}
 use Rattle.card.proofs.Laws.{exact-card, inexact-card}
-use Rattle.rules.specs.Rules.{ruleWidth, ruleSlots, mostRules, firstRule, rulesOf, without, readingOf, removedOf, installNumber, installTable, removeTable, fireTable}
+use Rattle.rules.specs.Rules.{ruleWidth, ruleSlots, mostRules, firstRule, rulesOf, readingOf, removedOf, installNumber, installTable, removeTable, fireTable}
 use Rattle.rules.proofs.Held.{install-room}
 use Rattle.rules.specs.declared.Reading as rules
 use Rattle.rules.specs.declared.Removed.{Removed}
-use Rattle.streams.specs.Streams.{Holds}
 use Rattle.streams.specs.declared.Cursor.{Cursor}
 use Rattle.decide.specs.Decide.{Decision, decision, decideOf}
 use Rattle.decide.specs.declared.Verdict.{Verdict}
 use Rattle.geography.specs.Geography.{Stands}
 use Rattle.network.specs.Lists.{bit}
 use Rattle.network.specs.Opening.{latestNow, mostWords}
-use Rattle.network.specs.Calls.{Call, Answer, install, remove, decide, reading, fired, number, answerOf, firedOf}
-use Rattle.network.specs.Tables.{Tables, cell, sizesAt, settingsAt, live, setupWidth, netWidth, keyAt, rulesAt, installedAt, faultWordsAt}
+use Rattle.network.specs.Calls.{Call, install, remove, decide, reading, fired, number, answerOf}
+use Rattle.network.specs.Tables.{Tables, cell, sizesAt, settingsAt, live, rulesAt, installedAt, faultWordsAt}
 use Rattle.network.specs.Real.{openingAt, drawsOf, faultKeyOf}
 use Rattle.network.specs.Writes.{callReply, stepT, ruledT}
 use Rattle.held.specs.Held.{setupHeld, netHeld, rulesHeld}
@@ -36,7 +34,7 @@ use Rattle.held.proofs.Ladder.{yes, no, under, on, off, both, only}
 use Rattle.held.proofs.Passed.{PassedSetup, PassedNet, setup-says, net-says}
 use Rattle.held.proofs.PassedRows.{rules-say}
 use Rattle.reply.specs.declared.Value.{Value}
-use Rattle.reply.specs.Reply.{refusedBy}
+use Rattle.reply.specs.Reply.{refusedBy, answeredBy}
 use Rattle.reply.proofs.Laws as reply
 use Rattle.rule_calls.specs.Calls.{lend, Changes, rulesLent, lentNumber, placeNumber, exactNumber, firstOf, cardNumber, decideNumber, Passed, Decidable, verdictOf}
 
@@ -201,9 +199,9 @@ module _ (c : Call) (s n r : List ℕ) (N : ℕ) (same : (T : Tables) → N ≡ 
   refused-by v q h = λ T. (q ∙ reply.value-refused (lend T s n r) c N (same T) h, reply.stays (lend T s n r) c N (same T) h)
 
   changed-by : N ≡ 0 → (f v : ℕ) (n′ r′ : List ℕ) → ((T : Tables) → answerOf (openingAt (lend T s n r)) (live (sizesAt s) (lend T s n r)) c ≡ number f v)
-      → ((T : Tables) → stepT (openingAt (lend T s n r)) (lend T s n r) c ≡ lend T s n′ r′) → Changes c s n r n′ r′ (record { number = 0; found = f; value = v })
+      → ((T : Tables) → stepT (openingAt (lend T s n r)) (lend T s n r) c ≡ lend T s n′ r′) → (w : Value) → w ≡ record { number = 0; found = f; value = v } → Changes c s n r n′ r′ w
   unfolding Changes
-  changed-by h f v n′ r′ answer step = λ T. (reply.value (lend T s n r) c N (same T) h f v (answer T), reply.steps (lend T s n r) c N (same T) h ∙ step T)
+  changed-by h f v n′ r′ answer step w w-is = λ T. (w-is ∙ reply.value (lend T s n r) c N (same T) h f v (answer T), reply.steps (lend T s n r) c N (same T) h ∙ step T)
 
 -- question 1 refuses
 module _ (s n r : List ℕ) (h : rulesLent s n r ≡ false) (v : Value) (q : v ≡ refusedBy 1) where
@@ -223,9 +221,9 @@ module _ (s n r card : List ℕ) (N : ℕ) (e : N ≡ cardNumber s n r card) whe
   install-refused v q h = refused-by (install card) s n r N (λ T. e ∙ number-install T s n r card) v q h
 
   pub install-done : N ≡ 0 → (k ever : ℕ) (n′ r′ : List ℕ) → k ≡ cell n rulesAt → ever ≡ cell n installedAt → r′ ≡ installTable r k ever card → n′ ≡ set (set n rulesAt (k + 1)) installedAt (ever + 1)
-      → Changes (install card) s n r n′ r′ (record { number = 0; found = 1; value = ever })
-  install-done h k ever n′ r′ k-is ever-is p q =
-      changed-by (install card) s n r N (λ T. e ∙ number-install T s n r card) h 1 ever n′ r′ (λ T. ap (number 1) (sym ever-is)) (λ T. rw (p, q, add-one k, add-one ever, k-is, ever-is))
+      → (w : Value) → w ≡ answeredBy ever → Changes (install card) s n r n′ r′ w
+  install-done h k ever n′ r′ k-is ever-is p q w w-is =
+      changed-by (install card) s n r N (λ T. e ∙ number-install T s n r card) h 1 ever n′ r′ (λ T. ap (number 1) (sym ever-is)) (λ T. rw (p, q, add-one k, add-one ever, k-is, ever-is)) w w-is
 
 -- ---- `remove` and `fired`
 
@@ -234,11 +232,11 @@ module _ (s n r : List ℕ) (h : rulesLent s n r ≡ true) (k : ℕ) (k-is : k �
       → Changes (remove id) s n r n′ r′ (record { number = 0; found = g .found; value = g .fired })
   remove-done id g n′ r′ e p q =
       changed-by (remove id) s n r 0 (λ T. yes _ _ _ _ h refl ∙ lent-remove T s n r id) refl (g .found) (g .fired) n′ r′
-      (λ T. rw (e, k-is)) (λ T. rw (p, q, e, k-is))
+      (λ T. rw (e, k-is)) (λ T. rw (p, q, e, k-is)) _ refl
 
   pub fired-done : (id : ℕ) (g : rules.Reading) → g ≡ readingOf id (rulesOf r k) → Changes (reading (fired id)) s n r n r (record { number = 0; found = g .found; value = g .fired })
   fired-done id g e =
-      changed-by (reading (fired id)) s n r 0 (λ T. yes _ _ _ _ h refl ∙ lent-fired T s n r id) refl (g .found) (g .fired) n r (λ T. rw (e, k-is)) (λ T. refl)
+      changed-by (reading (fired id)) s n r 0 (λ T. yes _ _ _ _ h refl ∙ lent-fired T s n r id) refl (g .found) (g .fired) n r (λ T. rw (e, k-is)) (λ T. refl) _ refl
 
 -- ---- `decide`
 
@@ -253,9 +251,9 @@ module _ (s n r : List ℕ) (m : Message) (N : ℕ) (e : N ≡ decideNumber s n 
   decide-refused v q h = refused-by (decide m) s n r N (λ T. e ∙ number-decide T s n r m) v q h
 
   pub decide-done : N ≡ 0 → (v : Verdict) (b : Bool) (n′ r′ : List ℕ) → decision v ≡ verdictOf s n r m → v .drops ≡ b → n′ ≡ set n faultWordsAt (v .next .count)
-      → r′ ≡ cond b (fireTable r (v .place)) r → Changes (decide m) s n r n′ r′ (record { number = 0; found = 1; value = bit b })
+      → r′ ≡ cond b (fireTable r (v .place)) r → (w : Value) → w ≡ answeredBy (bit b) → Changes (decide m) s n r n′ r′ w
   unfolding drawsOf
-  decide-done h v b n′ r′ d t p q =
+  decide-done h v b n′ r′ d t p q w w-is =
       changed-by (decide m) s n r N (λ T. e ∙ number-decide T s n r m) h 1 (bit b) n′ r′
       (λ T. ap (λ (x : Decision). number 1 (bit (x .drops))) (sym d) ∙ ap (λ (x : Bool). number 1 (bit x)) t)
-      (λ T. ap (ruledT (lend T s n r)) (sym d) ∙ decided T s n r n′ r′ (decision v) b t p q)
+      (λ T. ap (ruledT (lend T s n r)) (sym d) ∙ decided T s n r n′ r′ (decision v) b t p q) w w-is

@@ -86,11 +86,7 @@ pub fn install(setup: &[u64], net: &mut [u64], rules: &mut [u64], card: &[u8]) -
     rules::install(rules, n as usize, ever, card);
     net[held::RULES] = n + 1;
     net[held::INSTALLED] = ever + 1;
-    Value {
-        number: 0,
-        found: 1,
-        value: ever,
-    }
+    reply::answered(ever)
 }
 
 // The rule goes, if there is one. The value is its last fired count.
@@ -194,15 +190,7 @@ pub fn decide(
     net[held::FAULT_WORDS] = next.count;
     if v.drops {
         rules::fire(rules, v.place);
-        return Value {
-            number: 0,
-            found: 1,
-            value: 1,
-        };
+        return reply::answered(1);
     }
-    Value {
-        number: 0,
-        found: 1,
-        value: 0,
-    }
+    reply::answered(0)
 }

@@ -2,27 +2,19 @@ use Rattle.rule_calls.proofs.Laws.{inexact, is-exact}
 use borrow.Author.Needs.{needs}
 use Rattle.rule_calls.proofs.card_number.Statement.{statement}
 use Rattle.rule_calls.proofs.card_number.Tie as tie
-use Rattle.rule_calls.proofs.card_number.Reads as reads
-use Rattle.rule_calls.proofs.card_number.Lts as lts
-use Rattle.card.proofs.read.Reads as read-reads
 
--- src/lib.rt:47:9
 read-requires : tie.Need-read-requires
 read-requires c κs = search needs
 
--- src/lib.rt:48:21
 enum-known-found : tie.Need-enum-known-found
 enum-known-found c = search needs
 
--- src/lib.rt:49:9
 enum-told : tie.Need-enum-told
 enum-told c = search needs
 
--- src/lib.rt:49:9
 returns : tie.Need-returns
 returns c = inexact (c .before .before .before .before .args .card .now) _ (c .before .before .read .ensures) (c .enum-told .given .1)
 
--- src/lib.rt:44:1
 returns-2 : tie.Need-returns-2
 returns-2 c = is-exact (c .before .before .before .before .before .args .card .now) _ _ (c .before .before .before .read .ensures) (c .before .found .given .1)
 

@@ -5,33 +5,22 @@ use Rattle.rule_calls.proofs.Laws.{passed, fired-not-lent, fired-done}
 use borrow.Author.Needs.{needs}
 use Rattle.rule_calls.proofs.fired.Statement.{statement}
 use Rattle.rule_calls.proofs.fired.Tie as tie
-use Rattle.rule_calls.proofs.fired.Reads as reads
-use Rattle.rule_calls.proofs.fired.Lts as lts
-use Rattle.reply.proofs.refused.Reads as refused-reads
-use Rattle.rule_calls.proofs.lent.Reads as lent-reads
-use Rattle.rules.proofs.fired.Reads as fired-reads
 
--- src/lib.rt:78:9
 lent-requires : tie.Need-lent-requires
 lent-requires c κs = search needs
 
--- src/lib.rt:79:9
 refused-requires : tie.Need-refused-requires
 refused-requires c κs = search needs
 
--- src/lib.rt:79:9
 returns : tie.Need-returns
 returns c = fired-not-lent (c .before .before .before .before .before .before .args .setup .now) (c .before .before .before .before .before .before .args .net .now) (c .before .before .before .before .before .before .args .rules .now) (is-no _ _ (c .before .before .lent .ensures) (c .before .if1 .taken)) _ (c .refused .ensures) (c .before .before .before .before .before .before .args .id)
 
--- src/lib.rt:81:13
 shared-slice-read-n : tie.Need-shared-slice-read-n
 shared-slice-read-n c = let p = passed _ _ _ (is-yes _ _ (c .before .before .lent .ensures) (c .before .if1 .left)) in omega (arith, p .net)
 
--- src/lib.rt:82:9
 fired-requires : tie.Need-fired-requires
 fired-requires c κs = let p = passed _ _ _ (is-yes _ _ (c .before .before .lent .ensures) (c .before .if1 .left)) in omega (arith, p .rules, p .count)
 
--- src/lib.rt:75:1
 returns-2 : tie.Need-returns-2
 returns-2 c = fired-done (c .before .before .before .before .before .before .before .args .setup .now) (c .before .before .before .before .before .before .before .args .net .now) (c .before .before .before .before .before .before .before .args .rules .now) (is-yes _ _ (c .before .before .before .lent .ensures) (c .before .before .if1 .left)) _ refl (c .before .before .before .before .before .before .before .args .id) _ (c .fired .ensures)
 

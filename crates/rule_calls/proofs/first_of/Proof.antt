@@ -1,14 +1,10 @@
 use Rattle.rule_calls.proofs.Laws.{first-passes, first-refuses}
 use Rattle.rule_calls.proofs.first_of.Statement.{statement}
 use Rattle.rule_calls.proofs.first_of.Tie as tie
-use Rattle.rule_calls.proofs.first_of.Reads as reads
-use Rattle.rule_calls.proofs.first_of.Lts as lts
 
--- src/lib.rt:59:9
 returns : tie.Need-returns
 returns c = first-passes _ _ (c .if1 .taken)
 
--- src/lib.rt:55:1
 returns-2 : tie.Need-returns-2
 returns-2 c = first-refuses _ _ (c .if1 .left)
 

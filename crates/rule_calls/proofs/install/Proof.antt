@@ -5,71 +5,54 @@ use Rattle.rule_calls.proofs.Laws.{installable, install-refused, instal
 use borrow.Author.Needs.{needs}
 use Rattle.rule_calls.proofs.install.Statement.{statement}
 use Rattle.rule_calls.proofs.install.Tie as tie
-use Rattle.rule_calls.proofs.install.Reads as reads
-use Rattle.rule_calls.proofs.install.Lts as lts
-use Rattle.reply.proofs.refused.Reads as refused-reads
-use Rattle.rule_calls.proofs.install_refusal.Reads as install-refusal-reads
-use Rattle.rules.proofs.install.Reads as install-reads
 
--- src/lib.rt:80:9
 install-refusal-requires : tie.Need-install-refusal-requires
 install-refusal-requires c κs = search needs
 
--- src/lib.rt:82:9
 refused-requires : tie.Need-refused-requires
 refused-requires c κs = search needs
 
--- src/lib.rt:82:9
 same-length : tie.Need-same-length
 same-length c = search needs
 
--- src/lib.rt:82:9
 same-length-2 : tie.Need-same-length-2
 same-length-2 c = search needs
 
--- src/lib.rt:82:9
 returns : tie.Need-returns
 returns c = install-refused (c .before .before .before .before .before .before .before .before .before .args .setup .now) (c .before .before .before .before .before .before .before .before .before .args .net .now) (c .before .before .before .before .before .before .before .before .before .args .rules .now) (c .before .before .before .before .before .before .before .before .before .args .card .now) _ (c .before .before .install-refusal .ensures) _ (c .refused .ensures) (c .before .if1 .taken)
 
--- src/lib.rt:84:13
 slice-read-n : tie.Need-slice-read-n
 slice-read-n c = let p = installable _ _ _ (c .before .before .before .before .before .before .before .before .before .args .card .now) (sym (c .before .before .install-refusal .ensures) ∙ c .before .if1 .left) in omega (arith, p .lent .net)
 
--- src/lib.rt:85:16
 slice-read-ever : tie.Need-slice-read-ever
 slice-read-ever c = let p = installable _ _ _ (c .before .before .before .before .before .before .before .before .before .before .args .card .now) (sym (c .before .before .before .install-refusal .ensures) ∙ c .before .before .if1 .left) in omega (arith, p .lent .net)
 
--- src/lib.rt:86:5
 install-requires : tie.Need-install-requires
 install-requires c κs = let p = installable _ _ _ (c .before .before .before .before .before .before .before .before .before .before .before .args .card .now) (sym (c .before .before .before .before .install-refusal .ensures) ∙ c .before .before .before .if1 .left) in omega (arith, p .lent .rules)
 
--- src/lib.rt:87:24
 add-net : tie.Need-add-net
 add-net c = let p = installable _ _ _ (c .before .before .before .before .before .before .before .before .before .before .before .before .before .before .args .card .now) (sym (c .before .before .before .before .before .before .before .install-refusal .ensures) ∙ c .before .before .before .before .before .before .if1 .left) in omega (arith, p .count)
 
--- src/lib.rt:87:5
 slice-write-net : tie.Need-slice-write-net
 slice-write-net c = let p = installable _ _ _ (c .before .before .before .before .before .before .before .before .before .before .before .before .before .before .args .card .now) (sym (c .before .before .before .before .before .before .before .install-refusal .ensures) ∙ c .before .before .before .before .before .before .if1 .left) in omega (arith, p .lent .net)
 
--- src/lib.rt:88:28
 add-net-2 : tie.Need-add-net-2
 add-net-2 c = let p = installable _ _ _ (c .before .before .before .before .before .before .before .before .before .before .before .before .before .before .args .card .now) (sym (c .before .before .before .before .before .before .before .install-refusal .ensures) ∙ c .before .before .before .before .before .before .if1 .left) in omega (arith, p .ever)
 
--- src/lib.rt:88:5
 slice-write-net-2 : tie.Need-slice-write-net-2
 slice-write-net-2 c = let p = installable _ _ _ (c .before .before .before .before .before .before .before .before .before .before .before .before .before .before .args .card .now) (sym (c .before .before .before .before .before .before .before .install-refusal .ensures) ∙ c .before .before .before .before .before .before .if1 .left) in simp length-set (omega (arith, p .lent .net))
 
--- src/lib.rt:77:1
+answered-requires : tie.Need-answered-requires
+answered-requires c κs = search needs
+
 same-length-3 : tie.Need-same-length-3
 same-length-3 c = search needs
 
--- src/lib.rt:77:1
 same-length-4 : tie.Need-same-length-4
 same-length-4 c = search needs
 
--- src/lib.rt:77:1
 returns-2 : tie.Need-returns-2
-returns-2 c = install-done (c .before .before .before .before .before .before .before .before .before .before .before .before .before .before .args .setup .now) (c .before .before .before .before .before .before .before .before .before .before .before .before .before .before .args .net .now) (c .before .before .before .before .before .before .before .before .before .before .before .before .before .before .args .rules .now) (c .before .before .before .before .before .before .before .before .before .before .before .before .before .before .args .card .now) _ (c .before .before .before .before .before .before .before .install-refusal .ensures) (c .before .before .before .before .before .before .if1 .left) _ _ _ _ refl refl (c .before .before .install .ensures .1) refl
+returns-2 c = install-done (c .before .before .before .before .before .before .before .before .before .before .before .before .before .before .before .args .setup .now) (c .before .before .before .before .before .before .before .before .before .before .before .before .before .before .before .args .net .now) (c .before .before .before .before .before .before .before .before .before .before .before .before .before .before .before .args .rules .now) (c .before .before .before .before .before .before .before .before .before .before .before .before .before .before .before .args .card .now) _ (c .before .before .before .before .before .before .before .before .install-refusal .ensures) (c .before .before .before .before .before .before .before .if1 .left) _ _ _ _ refl refl (c .before .before .before .install .ensures .1) refl _ (c .answered .ensures)
 
 pub install-spec : {M : Type 1} → statement M
 install-spec =
@@ -87,6 +70,7 @@ install-spec =
     slice-write-net
     add-net-2
     slice-write-net-2
+    answered-requires
     same-length-3
     same-length-4
     returns-2)

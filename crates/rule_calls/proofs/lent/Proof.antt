@@ -3,35 +3,24 @@ use Rattle.rule_calls.specs.Calls.{rulesLent}
 use borrow.Author.Needs.{needs}
 use Rattle.rule_calls.proofs.lent.Statement.{statement}
 use Rattle.rule_calls.proofs.lent.Tie as tie
-use Rattle.rule_calls.proofs.lent.Reads as reads
-use Rattle.rule_calls.proofs.lent.Lts as lts
-use Rattle.held.proofs.net_held.Reads as net-held-reads
-use Rattle.held.proofs.rules_held.Reads as rules-held-reads
-use Rattle.held.proofs.setup_held.Reads as setup-held-reads
 
--- src/lib.rt:26:9
 setup-held-requires : tie.Need-setup-held-requires
 setup-held-requires c κs = search needs
 
--- src/lib.rt:27:9
 returns : tie.Need-returns
 unfolding rulesLent
 returns c = off _ _ (is-no _ _ (c .before .setup-held .ensures) (c .if1 .taken))
 
--- src/lib.rt:29:9
 net-held-requires : tie.Need-net-held-requires
 net-held-requires c κs = search needs
 
--- src/lib.rt:30:9
 returns-2 : tie.Need-returns-2
 unfolding rulesLent
 returns-2 c = on _ _ _ (is-yes _ _ (c .before .before .before .setup-held .ensures) (c .before .before .if1 .left)) (off _ _ (is-no _ _ (c .before .net-held .ensures) (c .if2 .taken)))
 
--- src/lib.rt:32:5
 rules-held-requires : tie.Need-rules-held-requires
 rules-held-requires c κs = search needs
 
--- src/lib.rt:23:1
 returns-3 : tie.Need-returns-3
 unfolding rulesLent
 returns-3 c = on _ _ _ (is-yes _ _ (c .before .before .before .before .setup-held .ensures) (c .before .before .before .if1 .left)) (on _ _ _ (is-yes _ _ (c .before .before .net-held .ensures) (c .before .if2 .left)) (last _ _ (c .rules-held .ensures)))

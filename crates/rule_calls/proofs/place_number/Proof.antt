@@ -3,27 +3,19 @@ use Rattle.rule_calls.proofs.Laws.{full, spent, free}
 use borrow.Author.Needs.{needs}
 use Rattle.rule_calls.proofs.place_number.Statement.{statement}
 use Rattle.rule_calls.proofs.place_number.Tie as tie
-use Rattle.rule_calls.proofs.place_number.Reads as reads
-use Rattle.rule_calls.proofs.place_number.Lts as lts
-use Rattle.held.proofs.cell.Reads as cell-reads
 
--- src/lib.rt:34:31
 cell-requires : tie.Need-cell-requires
 cell-requires c κs = search needs
 
--- src/lib.rt:35:9
 returns : tie.Need-returns
 returns c = full (c .before .before .before .args .net .now) (omega (arith, c .before .cell .ensures, c .if1 .taken))
 
--- src/lib.rt:37:23
 cell-requires-2 : tie.Need-cell-requires-2
 cell-requires-2 c κs = search needs
 
--- src/lib.rt:38:9
 returns-2 : tie.Need-returns-2
 returns-2 c = spent (c .before .before .before .before .before .args .net .now) (omega (arith, c .before .before .before .cell .ensures, c .before .before .if1 .left)) (omega (arith, c .before .cell2 .ensures, c .if2 .taken))
 
--- src/lib.rt:31:1
 returns-3 : tie.Need-returns-3
 returns-3 c = free (c .before .before .before .before .before .args .net .now) (omega (arith, c .before .before .before .cell .ensures, c .before .before .if1 .left)) (omega (arith, c .before .cell2 .ensures, c .if2 .left))
 

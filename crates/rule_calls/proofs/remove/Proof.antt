@@ -5,53 +5,37 @@ use Rattle.rule_calls.proofs.Laws.{passed, remove-not-lent, remove-done
 use borrow.Author.Needs.{needs}
 use Rattle.rule_calls.proofs.remove.Statement.{statement}
 use Rattle.rule_calls.proofs.remove.Tie as tie
-use Rattle.rule_calls.proofs.remove.Reads as reads
-use Rattle.rule_calls.proofs.remove.Lts as lts
-use Rattle.reply.proofs.refused.Reads as refused-reads
-use Rattle.rule_calls.proofs.lent.Reads as lent-reads
-use Rattle.rules.proofs.remove.Reads as remove-reads
 
--- src/lib.rt:61:9
 lent-requires : tie.Need-lent-requires
 lent-requires c κs = search needs
 
--- src/lib.rt:62:9
 refused-requires : tie.Need-refused-requires
 refused-requires c κs = search needs
 
--- src/lib.rt:62:9
 same-length : tie.Need-same-length
 same-length c = search needs
 
--- src/lib.rt:62:9
 same-length-2 : tie.Need-same-length-2
 same-length-2 c = search needs
 
--- src/lib.rt:62:9
 returns : tie.Need-returns
 returns c = remove-not-lent (c .before .before .before .before .before .before .before .before .args .setup .now) (c .before .before .before .before .before .before .before .before .args .net .now) (c .before .before .before .before .before .before .before .before .args .rules .now) (is-no _ _ (c .before .before .lent .ensures) (c .before .if1 .taken)) _ (c .refused .ensures) (c .before .before .before .before .before .before .before .before .args .id)
 
--- src/lib.rt:64:13
 slice-read-n : tie.Need-slice-read-n
 slice-read-n c = let p = passed _ _ _ (is-yes _ _ (c .before .before .lent .ensures) (c .before .if1 .left)) in omega (arith, p .net)
 
--- src/lib.rt:65:9
 remove-requires : tie.Need-remove-requires
 remove-requires c κs = let p = passed _ _ _ (is-yes _ _ (c .before .before .before .lent .ensures) (c .before .before .if1 .left)) in omega (arith, p .rules, p .count)
 
--- src/lib.rt:66:5
 slice-write-net : tie.Need-slice-write-net
 slice-write-net c = let p = passed _ _ _ (is-yes _ _ (c .before .before .before .before .before .before .lent .ensures) (c .before .before .before .before .before .if1 .left)) in omega (arith, p .net)
 
--- src/lib.rt:58:1
 same-length-3 : tie.Need-same-length-3
 same-length-3 c = search needs
 
--- src/lib.rt:58:1
 same-length-4 : tie.Need-same-length-4
 same-length-4 c = search needs
 
--- src/lib.rt:58:1
 returns-2 : tie.Need-returns-2
 returns-2 c = remove-done (c .before .before .before .before .before .before .before .before .before .before .before .before .args .setup .now) (c .before .before .before .before .before .before .before .before .before .before .before .before .args .net .now) (c .before .before .before .before .before .before .before .before .before .before .before .before .args .rules .now) (is-yes _ _ (c .before .before .before .before .before .before .lent .ensures) (c .before .before .before .before .before .if1 .left)) _ refl (c .before .before .before .before .before .before .before .before .before .before .before .before .args .id) _ _ _ (c .before .before .remove .ensures .0) (c .before .before .remove .ensures .1) refl
 
