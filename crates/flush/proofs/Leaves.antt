@@ -1,7 +1,7 @@
 -- The small functions of the pass: tills, stops, handlers, a row's words, the counts of one copy. Assumes nothing.
 use mathlib.Core.Path.{_≡_, refl, sym, ap, _∙_}
-use mathlib.Core.Bool.{Bool, true, false, cond, not, _&&_, _||_}
-use mathlib.Core.List.{List, [], _∷_, _++_}
+use mathlib.Core.Bool.{Bool, true, false, not, _&&_, _||_}
+use mathlib.Core.List.{List, [], _∷_}
 use Prim.Native.Nat.{ℕ, _+_, _*_, _≤_, _<_}
 use native.Mathlib.Nat.{add-zero}
 use native.Mathlib.Omega.{arith}
@@ -12,7 +12,6 @@ use borrow.Author.Tests.{eq-eqb, ne-eqb}
 use Rattle.shift.specs.Shift.{putWords}
 use Rattle.shift.proofs.Laws.{stores}
 use Rattle.shift.proofs.Blocks.{put-stores}
-use Rattle.rows.specs.Table.{rowsOf}
 use Rattle.rows.proofs.Table.{row-at}
 use Rattle.rule.specs.Rule.{has}
 use Rattle.blocks.specs.Blocks.{blocked, blocksOf}
@@ -27,7 +26,7 @@ use Rattle.network.specs.Writes.{rowWidth, rowWords}
 use Rattle.flush.specs.declared.Extents.{Extents}
 use Rattle.flush.specs.declared.Taken.{Taken}
 use Rattle.flush.specs.declared.Moved.{Moved}
-use Rattle.flush.specs.Pass.{tillIn, upIn, ground, takenBy, rowAs, handledBy, droppedMore, landedMore, Landed}
+use Rattle.flush.specs.Pass.{tillIn, upIn, ground, takenBy, rowAs, handledBy, droppedMore, landedMore}
 
 -- ---- A till's cells
 

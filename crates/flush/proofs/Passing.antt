@@ -1,19 +1,18 @@
 -- The pass: one copy more of those at the front, table by table. Assumes nothing.
 use mathlib.Core.Path.{_≡_, refl, sym, ap, _∙_, subst}
-use mathlib.Core.Bool.{Bool, true, false, cond, not, _&&_}
+use mathlib.Core.Bool.{Bool, true, false, cond, not}
 use mathlib.Core.List.{List, [], _∷_, _++_, append-nil, map}
-use Prim.Native.Nat.{ℕ, zero, suc, _+_, _*_, _≤_, _<_}
+use Prim.Native.Nat.{ℕ, suc, _+_, _*_, _≤_, _<_}
 use native.Mathlib.Nat.{mul-le-mul-right}
 use native.Mathlib.Omega.{arith}
-use lib.ListN.{length, getD, take, drop, length-append}
+use lib.ListN.{length, take, drop, length-append}
 use lib.Seq.{take-add}
 use Rattle.shift.specs.Shift.{putWords}
 use Rattle.shift.proofs.Blocks.{cells, cells-eq}
 use Rattle.rows.specs.Rows.{keep, pick}
 use Rattle.rows.specs.Table.{Exact, over}
-use Rattle.rows.proofs.Rows.{rows-more, length-rows}
-use Rattle.rows.proofs.Table.{over-more, length-over}
-use Rattle.ring.specs.Ring.{most}
+use Rattle.rows.proofs.Rows.{rows-more}
+use Rattle.rows.proofs.Table.{over-more}
 use Rattle.log.specs.Log.{pushed}
 use Rattle.waiting.specs.declared.Copy.{Copy}
 use Rattle.waiting.specs.Waiting as waiting
@@ -23,9 +22,8 @@ use Rattle.network.specs.Live.{Live}
 use Rattle.network.specs.Flush.{Row, stops, rowOf, handled, lands, rowsOf, dropsOf}
 use Rattle.network.specs.Writes.{rowWidth, rowWords}
 use Rattle.flush.specs.declared.Extents.{Extents}
-use Rattle.flush.specs.declared.Taken.{Taken}
 use Rattle.flush.specs.declared.Moved.{Moved}
-use Rattle.flush.specs.Pass.{ground, takenBy, rowAs, handledBy, clearedOne, clearedBy, loggedBy, rowBy, droppedMore, landedMore, countedBy, cleared, recorded, rowForm, written, movedOf, Near, SeenRoom, LogRoom, Due, Landed, Turned, Passed}
+use Rattle.flush.specs.Pass.{ground, takenBy, rowAs, handledBy, clearedOne, clearedBy, loggedBy, rowBy, droppedMore, landedMore, countedBy, cleared, recorded, rowForm, written, movedOf, Near, SeenRoom, Due, Landed, Turned, Passed}
 use Rattle.flush.proofs.Seen.{cleared-room}
 
 -- ---- The output's rows

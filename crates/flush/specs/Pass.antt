@@ -2,7 +2,7 @@
 use Prim.Native.Nat.{ℕ, _+_, _*_, _≤_, _<_}
 use mathlib.Core.Path.{_≡_}
 use mathlib.Core.Bool.{Bool, cond, not, _&&_}
-use mathlib.Core.List.{List, [], _∷_, _++_}
+use mathlib.Core.List.{List, [], _∷_}
 use lib.Dec.{eqb}
 use lib.ListN.{length, getD, set, drop}
 use Rattle.shift.specs.Shift.{putWords}
@@ -16,7 +16,7 @@ use Rattle.network.specs.Lists.{bit, count, bitAt}
 use Rattle.network.specs.Opening.{global}
 use Rattle.network.specs.Live.{Till, downTill, Live, isOriginal}
 use Rattle.network.specs.Flush.{Row, stops, rowOf, handled, lands, rowsOf as landed, dropsOf}
-use Rattle.network.specs.Tables.{cell, tillForm, blockForm, waitingAt}
+use Rattle.network.specs.Tables.{cell, tillForm, blockForm}
 use Rattle.network.specs.Writes.{rowWidth, rowWords}
 use Rattle.flush.specs.declared.Extents.{Extents}
 use Rattle.flush.specs.declared.Taken.{Taken}

@@ -1,57 +1,44 @@
 -- The ways through flush: the ladder of its questions, what a passed ladder says, and the call by the network's definitions. Assumes nothing.
 use mathlib.Core.Path.{_≡_, refl, sym, ap, _∙_, subst}
-use mathlib.Core.Bool.{Bool, true, false, cond, not, _&&_}
+use mathlib.Core.Bool.{Bool, true, false, cond}
 use mathlib.Core.List.{List, [], _∷_, _++_, map}
 use Prim.Native.Nat.{ℕ, zero, suc, _+_, _*_, _-_, _/_, _≤_, _<_}
-use native.Mathlib.Nat.{div-mul-le-self, mul-le-mul-right, suc-mul, add-mul}
+use native.Mathlib.Nat.{div-mul-le-self, mul-le-mul-right, suc-mul}
 use native.Mathlib.Omega.{arith}
 use lib.Dec.{leb}
-use lib.ListN.{length, getD, set, drop}
+use lib.ListN.{length, set, drop}
 use lib.Seq.{drop-drop}
-use borrow.Author.Tests.{eqb-true, ltb-true, le-leb, lt-leb}
-use Rattle.rows.specs.Rows.{rows, allOf, flat}
+use borrow.Author.Tests.{le-leb, lt-leb}
+use Rattle.rows.specs.Rows.{rows, flat}
 use Rattle.rows.specs.Lists.{Each, front}
 use Rattle.rows.specs.Table.{over}
-use Rattle.rows.proofs.Rows.{length-rows}
 use Rattle.rows.proofs.Table.{row-at}
-use Rattle.rows.proofs.Scans.{pass-at}
-use Rattle.ring.specs.Ring.{most}
-use Rattle.log.specs.Log as log
 use Rattle.waiting.specs.declared.Copy.{Copy}
 use Rattle.waiting.specs.Waiting as waiting
 use Rattle.waiting.specs.Waiting.{copies, onTime}
 use Rattle.network.specs.Lists.{count}
-use Rattle.network.specs.Opening.{Sizes, latestNow}
+use Rattle.network.specs.Opening.{latestNow}
 use Rattle.network.specs.Live.{Live}
 use Rattle.network.specs.Flush.{Row, stops, rowOf, lands, rowsOf, dropsOf, handled, due}
-use Rattle.network.specs.Calls.{Call, flush, answerOf, movedBy, Answer}
-use Rattle.network.specs.Lent.{nearCopy}
-use Rattle.network.specs.Tables.{Tables, cell, live, sizesAt, netWidth, waitingAt, blocksAt}
-use Rattle.network.specs.Real.{openingAt}
-use Rattle.network.specs.Writes.{Reply, rowWidth, rowWords, outputOf, callTables, callReply, callOutput}
+use Rattle.network.specs.Calls.{flush, movedBy}
+use Rattle.network.specs.Tables.{Tables, cell, live, sizesAt, setupWidth, netWidth, waitingAt, blocksAt}
+use Rattle.network.specs.Writes.{Reply, rowWidth, rowWords, outputOf, callReply}
 use Rattle.held.specs.Held.{setupHeld, netHeld, tillsHeld, seenHeld, waitingHeld, blocksHeld, logHeld}
 use Rattle.held.proofs.Ladder.{yes, no, on, off, last, both, only}
 use Rattle.held.proofs.Passed.{PassedSetup, PassedNet, setup-says, net-says}
 use Rattle.held.proofs.PassedRows.{PassedTills, PassedBlocks, PassedSeen, tills-say, blocks-say, seen-says}
+use Rattle.held_rows.specs.HeldRows.{limitsOf}
+use Rattle.held_rows.proofs.Passed.{PassedWaiting, PassedLog, waiting-says, log-says}
+use Rattle.scan.proofs.Laws as scan
 use Rattle.reply.proofs.Laws as reply
 use Rattle.flush.specs.declared.Extents.{Extents}
 use Rattle.flush.specs.declared.Moved.{Moved}
-use Rattle.flush.specs.Pass.{ground, clearedOne, clearedBy, cleared, recorded, written, movedOf, Room, Near, Due, SeenRoom, LogRoom}
+use Rattle.flush.specs.Pass.{ground, clearedOne, clearedBy, cleared, recorded, written, movedOf, Near}
 use Rattle.flush_calls.specs.declared.Flushed.{Flushed}
 use Rattle.flush_calls.specs.Call.{lend, flushedOf, flushCall, DoesFlush, rowsLent, flushLent, flushNumber, dueCount, roomNumber, extentsAt, refusedBy, flushedBy, Ready, Worked}
 use Rattle.flush_calls.proofs.Tables.{due-within, due-first, written-front, flush-tables}
 
 -- ---- Rows in range
-
-near-of : (z : Sizes) (x : Extents) (c : Copy) → x .tills ≡ z .tills → z .types ≤ 16 → nearCopy z c ≡ true → Near x c
-near-of z x c e h p =
-    let q1 = both _ _ p in
-    let q2 = both _ _ (q1 .0) in
-    let q3 = both _ _ (q2 .0) in
-    let f : c .delivery .from < z .tills = ltb-true _ _ (q3 .0) in
-    let t : c .delivery .to < z .tills = ltb-true _ _ (q3 .1) in
-    let k : c .delivery .kind < z .types = ltb-true _ _ (q2 .1) in
-    record { from = omega (arith, f, e); to = omega (arith, t, e); kind = omega (arith, k, h) }
 
 -- a fact of each row, by its place
 each-row : (P : Copy → Type 0) (k : ℕ) (w : List ℕ) → ((i : ℕ) → i < k → P (waiting.read (drop (i * waiting.width) w))) → Each P (copies w k)
@@ -68,13 +55,12 @@ module _ (s n t e w b l : List ℕ) where
     pub net : PassedNet s n
     pub tills : PassedTills s t
     pub seen : PassedSeen s e
-    pub size : length w ≡ sizesAt s .waitSlots * waiting.width
-    pub near : allOf (nearCopy (sizesAt s)) (copies w (cell n waitingAt)) ≡ true
+    pub waiting : PassedWaiting s n w
     pub blocks : PassedBlocks s n b
-    pub log : length l ≡ log.sizeOf (sizesAt s .logSlots)
+    pub log : PassedLog s l
 
   pub holds : flushLent s n t e w b l ≡ true → Held
-  unfolding flushLent rowsLent waitingHeld logHeld
+  unfolding flushLent rowsLent
   holds h =
       let q1 = both (setupHeld s) _ h in
       let q2 = both (netHeld s n) _ (q1 .1) in
@@ -82,17 +68,14 @@ module _ (s n t e w b l : List ℕ) where
       let q4 = both (seenHeld s e) _ (q3 .1) in
       let q5 = both (waitingHeld s n w) _ (q4 .1) in
       let q6 = both (blocksHeld s n b) _ (q5 .1) in
-      let w1 = both _ _ (q5 .0) in
-      let l1 = both _ _ (only _ (q6 .1)) in
       record {
         setup = setup-says s (q1 .0);
         net = net-says s n (q2 .0);
         tills = tills-say s t (q3 .0);
         seen = seen-says s e (q4 .0);
-        size = eqb-true _ _ (w1 .0);
-        near = only _ (w1 .1);
+        waiting = waiting-says s n w (q5 .0);
         blocks = blocks-say s n b (q6 .0);
-        log = eqb-true _ _ (l1 .0);
+        log = log-says s l (only _ (q6 .1));
       }
 
   module _ (h : Held) (now k : ℕ) (ek : k ≡ dueCount n w now) where
@@ -105,15 +88,15 @@ module _ (s n t e w b l : List ℕ) where
     near-at i q =
         let d = waiting.read w in
         let N = cell n waitingAt in
-        let long = length-rows waiting.width waiting.read N w in
+        let c = waiting.read (drop (i * waiting.width) w) in
         let at = row-at waiting.form w N i d (omega (arith, q, within)) in
-        near-of (sizesAt s) (extentsAt s n) (waiting.read (drop (i * waiting.width) w)) refl (h .setup .sizes .types)
-        (ap (nearCopy (sizesAt s)) (sym at) ∙ pass-at (nearCopy (sizesAt s)) d (copies w N) i (omega (arith, q, within, long)) (h .near))
+        let near : scan.Near (limitsOf (sizesAt s)) (c .delivery) = subst (λ (x : Copy). scan.Near (limitsOf (sizesAt s)) (x .delivery)) at (h .waiting .near i d (omega (arith, q, within))) in
+        record { from = near .from; to = near .to; kind = omega (arith, near .kind, h .setup .sizes .types) }
 
     pub ready : (out : List ℕ) → k ≤ length out / rowWidth → Ready (extentsAt s n) k n t e w b l out
     unfolding extentsAt
     ready out room =
-        let N : cell n waitingAt * waiting.width ≤ length w = let m : cell n waitingAt * waiting.width ≤ sizesAt s .waitSlots * waiting.width = mul-le-mul-right waiting.width (h .net .waiting) in omega (arith, m, h .size) in
+        let N : cell n waitingAt * waiting.width ≤ length w = let m : cell n waitingAt * waiting.width ≤ sizesAt s .waitSlots * waiting.width = mul-le-mul-right waiting.width (h .net .waiting) in omega (arith, m, h .waiting .size) in
         let K : k * waiting.width ≤ cell n waitingAt * waiting.width = mul-le-mul-right waiting.width within in
         let o : k * rowWidth ≤ length out / rowWidth * rowWidth = mul-le-mul-right rowWidth room in
         record {
@@ -121,7 +104,7 @@ module _ (s n t e w b l : List ℕ) where
           room = record { tills = omega (arith, h .tills .size); blocks = omega (arith, h .blocks .size, h .net .blocks) };
           due = record { few = omega (arith, within, h .net .waiting, h .setup .sizes .waitSlots); rows = omega (arith, K, N); near = near-at; room = omega (arith, o, div-mul-le-self (length out) rowWidth) };
           seen = record { size = omega (arith, h .seen .size); counts = h .seen .counts };
-          log = record { few = h .setup .sizes .logSlots; size = omega (arith, h .log) };
+          log = record { few = h .setup .sizes .logSlots; size = omega (arith, h .log .size) };
           rows = N;
           within = within;
         }
@@ -309,3 +292,42 @@ answered-made m = refl
 pub extents-made : (s n : List ℕ) → record { tills = cell s 0; slots = cell s 4; log = cell s 6; windows = cell n blocksAt } ≡ extentsAt s n
 unfolding extentsAt
 extents-made s n = refl
+
+-- ---- The ways through `flush`
+
+module _ (s n t e w b l : List ℕ) where
+  pub refused-by : (out : List ℕ) (now r : ℕ) (v : Flushed) → r ≡ flushNumber s n t e w b l now 0 → (r ≡ 0 → ⊥) → v ≡ refusedBy r → DoesFlush s n n t e e w w b l l out out now v
+  refused-by out now r v q h p =
+      subst (DoesFlush s n n t e e w w b l l out out now) (sym p) (refused s n t e w b l out now r (refused-first s n t e w b l now (roomNumber (dueCount n w now) (length out / rowWidth)) r q h) h)
+
+  module _ (now r : ℕ) (q : r ≡ flushNumber s n t e w b l now 0) (h : r ≡ 0) where
+    held : Held s n t e w b l
+    held = holds s n t e w b l (passed s n t e w b l now 0 r q h .0)
+
+    pub net-long : length n ≡ netWidth
+    net-long = held .net .size
+
+    pub both-long : (length s ≡ setupWidth) × (length n ≡ netWidth)
+    both-long = (held .setup .size, held .net .size)
+
+    pub rows-room : cell n waitingAt * waiting.width ≤ length w
+    rows-room = let m : cell n waitingAt * waiting.width ≤ sizesAt s .waitSlots * waiting.width = mul-le-mul-right waiting.width (held .net .waiting) in omega (arith, m, held .waiting .size)
+
+    module _ (out : List ℕ) (k : ℕ) (ek : k ≡ length (front (onTime now) (copies w (cell n waitingAt)))) where
+      is-due-count : k ≡ dueCount n w now
+      unfolding dueCount
+      is-due-count = ek
+
+      asks-room : (m : ℕ) → m ≡ roomNumber k (length out / rowWidth) → m ≡ asks s n t e w b l out now
+      asks-room m p = p ∙ ap (λ (i : ℕ). roomNumber i (length out / rowWidth)) is-due-count ∙ passed s n t e w b l now (roomNumber (dueCount n w now) (length out / rowWidth)) r q h .1
+
+      pub refused-room : length out / rowWidth < k → (v : Flushed) → v ≡ refusedBy 14 → DoesFlush s n n t e e w w b l l out out now v
+      refused-room f v p = subst (DoesFlush s n n t e e w w b l l out out now) (sym p) (refused s n t e w b l out now 14 (asks-room 14 (no-room k (length out / rowWidth) f)) (λ z. omega arith))
+
+      module _ (f : k ≤ length out / rowWidth) (z : Extents) (ez : z ≡ extentsAt s n) where
+        pub ready-by : Ready z k n t e w b l out
+        ready-by = subst (λ (x : Extents). Ready x k n t e w b l out) (sym ez) (ready s n t e w b l held now k is-due-count out f)
+
+        pub done-by : (n′ e′ w′ l′ out′ : List ℕ) (v : Flushed) → Worked z k n n′ t e e′ w w′ b l l′ out out′ v → DoesFlush s n n′ t e e′ w w′ b l l′ out out′ now v
+        done-by n′ e′ w′ l′ out′ v d =
+            done s n n′ t e e′ w w′ b l l′ out out′ now k is-due-count held v (subst (λ (x : Extents). Worked x k n n′ t e e′ w w′ b l l′ out out′ v) ez d) (asks-room 0 (has-room k (length out / rowWidth) f))

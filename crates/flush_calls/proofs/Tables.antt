@@ -1,12 +1,12 @@
 -- The pass, table by table, is the network's flush: decisions are taken from the tables before it, and each write is one of a table of its own. Assumes nothing.
-use mathlib.Core.Path.{_≡_, refl, sym, ap, _∙_, subst}
+use mathlib.Core.Path.{_≡_, refl, sym, ap, _∙_}
 use mathlib.Core.Bool.{Bool, true, false, cond, _&&_}
 use mathlib.Core.List.{List, [], _∷_, _++_}
-use Prim.Native.Nat.{ℕ, zero, suc, _+_, _*_, _-_, _≤_, _<_}
+use Prim.Native.Nat.{ℕ, suc, _+_, _-_, _≤_, _<_}
 use native.Mathlib.Omega.{arith}
-use lib.ListN.{length, getD, set, drop, take, length-drop}
+use lib.ListN.{length, set, drop, take, length-drop}
 use Rattle.rows.specs.Rows.{flat}
-use Rattle.rows.specs.Lists.{Each, front, behind, upTo}
+use Rattle.rows.specs.Lists.{Each, front, behind}
 use Rattle.rows.specs.Table.{over}
 use Rattle.rows.proofs.Rows.{take-rows, length-rows}
 use Rattle.rows.proofs.Lists.{take-front, drop-front, getD-upTo}
@@ -19,11 +19,10 @@ use Rattle.waiting.specs.Waiting as waiting
 use Rattle.waiting.specs.Waiting.{copies, onTime}
 use Rattle.network.specs.Opening.{Sizes}
 use Rattle.network.specs.Live.{Live, isOriginal, idsAt}
-use Rattle.network.specs.Flush.{Row, stops, lands, rowsOf, due, later}
+use Rattle.network.specs.Flush.{stops, lands, rowsOf, due, later}
 use Rattle.network.specs.Tables.{Tables, cell, live, idsStart, waitingAt}
-use Rattle.network.specs.Writes.{rowWidth, rowWords, setSeen, setLog, setWaiting, setNet, marksT, clearT, recordAllT, flushT}
-use Rattle.flush.specs.declared.Extents.{Extents}
-use Rattle.flush.specs.Pass.{ground, unmarked, clearedOne, clearedBy, cleared, recorded, rowForm, written}
+use Rattle.network.specs.Writes.{rowWords, setSeen, setLog, setWaiting, setNet, marksT, clearT, recordAllT, flushT}
+use Rattle.flush.specs.Pass.{unmarked, clearedOne, clearedBy, cleared, recorded, rowForm, written}
 use Rattle.flush.proofs.Passing.{exact}
 
 -- ---- The marks
