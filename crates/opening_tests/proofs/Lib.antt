@@ -5,3 +5,4 @@ pub mod Sums
 pub mod Names
 pub mod Masks
 pub mod Number
+pub mod Made

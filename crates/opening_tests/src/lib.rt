@@ -13,6 +13,7 @@ use time::Time;
 
 mod lengths;
 mod limits;
+mod sizes;
 mod texts;
 
 // Nanoseconds, and five rates.
