@@ -17,7 +17,8 @@ use Rattle.network.specs.Real.{keyWidth}
 use Rattle.network.specs.Open.{Lengths, lengthsOf, openNumber}
 use Rattle.opening_tests.specs.declared.TableSizes.{TableSizes}
 use Rattle.opening_tests.specs.Asked.{tableTests, givenTests, limitTests, numberOf}
-use Rattle.opening_tests.proofs.Ladder.{all-pass, passed-parts, asked-yes}
+use Rattle.opening_tests.proofs.Ladder.{all-pass, passed-parts}
+use Rattle.held.proofs.Ladder.{under}
 
 -- sizes within limits
 pub record Limited (x : Settings) : Type 0 where
@@ -90,9 +91,9 @@ pub record Passed (x : Settings) (n : TableSizes) (masks : List ℕ) : Type 0 wh
 pub passed : (x : Settings) (n : TableSizes) (masks names : List ℕ) → numberOf x n masks names ≡ 0 → Passed x n masks
 unfolding numberOf
 passed x n masks names h =
-    let a = asked-yes _ _ 1 (λ e. omega arith) h in
-    let b = asked-yes _ _ 2 (λ e. omega arith) (a .1) in
-    let c = asked-yes _ _ 3 (λ e. omega arith) (b .1) in
+    let a = under _ _ 0 h in
+    let b = under _ _ 1 (a .1) in
+    let c = under _ _ 2 (b .1) in
     let l = passed-parts (tableTests (lengthsOf x) n) (givenTests (x .sizes .tills) (x .faultKey) masks) (a .0) in
     let g = all-pass (givenTests (x .sizes .tills) (x .faultKey) masks) (l .1) in
     let z = all-pass (limitTests x names) (b .0) in

@@ -11,23 +11,8 @@ use crate::NetworkSizes;
 use crate::RegionPlan;
 use crate::TableSizes;
 
-// The lengths that follow from nothing: of `setup`, `net`, `names`, `words`; the fault stream's key in bytes.
-pub const SETUP: u64 = 25;
-
-pub const NET: u64 = 6;
-
-pub const NAMES: u64 = 1312;
-
-pub const WORDS: u64 = 4096;
-
+// Bytes of the fault stream's key.
 pub const KEY: usize = 32;
-
-// Cells of a till, words of a link's key, cells of a pair of regions.
-pub const TILL: u64 = 4;
-
-pub const LINK: u64 = 8;
-
-pub const PAIR: u64 = 2;
 
 // Cells of a type's rings.
 pub const RINGS: u64 = (rings::SCOPES * rings::SIZE) as u64;
@@ -68,31 +53,37 @@ fn prices_fit(n: u64, plan: RegionPlan, tills: u64) -> bool
         return n == 0;
     }
     if plan.regions == 0 {
-        return is_sum(n, tills, PAIR, 1, 1);
+        return is_sum(n, tills, held_rows::LINK_WIDTH as u64, 1, 1);
     }
-    is_sum(n, tills, PAIR, plan.regions, plan.regions)
+    is_sum(
+        n,
+        tills,
+        held_rows::LINK_WIDTH as u64,
+        plan.regions,
+        plan.regions,
+    )
 }
 
 // The tables' lengths.
 pub fn tables_fit(sizes: NetworkSizes, plan: RegionPlan, n: TableSizes) -> bool
     ensures { λ r. ⌜ r ≡ every (tableTests (lengthsOf (sized sizes plan)) n) ⌝ }
 {
-    if n.setup != SETUP {
+    if n.setup != held::SETUP_WIDTH as u64 {
         return false;
     }
-    if n.net != NET {
+    if n.net != held::NET_WIDTH as u64 {
         return false;
     }
-    if n.names != NAMES {
+    if n.names != held_rows::NAMES_WIDTH as u64 {
         return false;
     }
-    if !is_sum(n.tills, 0, TILL, sizes.tills, 1) {
+    if !is_sum(n.tills, 0, held::TILL_WIDTH as u64, sizes.tills, 1) {
         return false;
     }
-    if n.words != WORDS {
+    if n.words != held::LINKS as u64 {
         return false;
     }
-    if !is_sum(n.keys, 0, LINK, sizes.tills, sizes.tills) {
+    if !is_sum(n.keys, 0, held::KEY_WIDTH, sizes.tills, sizes.tills) {
         return false;
     }
     if !prices_fit(n.prices, plan, sizes.tills) {

@@ -16,6 +16,8 @@ mod limits;
 mod sizes;
 mod texts;
 
+pub use sizes::table_sizes;
+
 // Nanoseconds, and five rates.
 #[repr(C)]
 pub struct NetworkConfig {

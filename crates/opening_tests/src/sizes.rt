@@ -21,9 +21,9 @@ fn prices_length(plan: RegionPlan, tills: u64) -> u64
         return 0;
     }
     if plan.regions == 0 {
-        return lengths::PAIR + tills;
+        return held_rows::LINK_WIDTH as u64 + tills;
     }
-    lengths::PAIR * (plan.regions * plan.regions) + tills
+    held_rows::LINK_WIDTH as u64 * (plan.regions * plan.regions) + tills
 }
 
 // Zeros where the sizes are not within limits.
@@ -49,12 +49,12 @@ pub fn table_sizes(sizes: NetworkSizes, plan: RegionPlan) -> TableSizes
     }
     let tills = sizes.tills;
     TableSizes {
-        setup: lengths::SETUP,
-        net: lengths::NET,
-        names: lengths::NAMES,
-        tills: tills * lengths::TILL,
-        words: lengths::WORDS,
-        keys: tills * tills * lengths::LINK,
+        setup: held::SETUP_WIDTH as u64,
+        net: held::NET_WIDTH as u64,
+        names: held_rows::NAMES_WIDTH as u64,
+        tills: tills * held::TILL_WIDTH as u64,
+        words: held::LINKS as u64,
+        keys: tills * tills * held::KEY_WIDTH,
         prices: prices_length(plan, tills),
         seen: tills + tills * sizes.seen,
         waiting: sizes.waiting * waiting::WIDTH as u64,

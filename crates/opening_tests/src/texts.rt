@@ -12,13 +12,7 @@ ghost use Rattle.opening_tests.specs.Given.{sizesOf};
 ghost use Rattle.opening_tests.specs.Texts.{Laid, Short, NamesHeld, textsFrom, Inside};
 use crate::NetworkSizes;
 
-// Where the shard keys start; bytes of a type name's and a shard key's place; the longest of each.
-const KEYS: usize = 1040;
-
-const NAME: usize = 65;
-
-const KEY: usize = 17;
-
+// The longest type name and shard key.
 const LONGEST_NAME: u8 = 64;
 
 const LONGEST_KEY: u8 = 16;
@@ -100,14 +94,20 @@ pub fn names_admitted(names: &[u8], sizes: NetworkSizes) -> bool
 {
     let types = sizes.types as usize;
     let shards = sizes.shards as usize;
-    if !lengths_fit(names, 0, NAME, types, LONGEST_NAME) {
+    if !lengths_fit(names, 0, held_rows::NAME_WIDTH, types, LONGEST_NAME) {
         return false;
     }
-    if !lengths_fit(names, KEYS, KEY, shards, LONGEST_KEY) {
+    if !lengths_fit(
+        names,
+        held_rows::KEYS,
+        held_rows::KEY_WIDTH,
+        shards,
+        LONGEST_KEY,
+    ) {
         return false;
     }
-    if !all_unlike(names, 0, NAME, types) {
+    if !all_unlike(names, 0, held_rows::NAME_WIDTH, types) {
         return false;
     }
-    all_unlike(names, KEYS, KEY, shards)
+    all_unlike(names, held_rows::KEYS, held_rows::KEY_WIDTH, shards)
 }

@@ -23,7 +23,7 @@ add-result c = search needs
 returns-2 : tie.Need-returns-2
 returns-2 c = some-priced (c .before .before .before .before .args .plan) (c .before .before .before .before .args .tills) 1 _ (c .before .before .if1 .left) (one-region _ (c .if2 .taken)) refl
 
--- src/sizes.rt:26:22
+-- src/sizes.rt:26:37
 mul-result : tie.Need-mul-result
 mul-result c = let t = times _ _ 16 16 (c .before .before .before .before .before .pre .1) (c .before .before .before .before .before .pre .1) in record { fits = omega arith }
 

@@ -24,52 +24,52 @@ returns : tie.Need-returns
 returns c = refused (c .before .before .args .sizes) (c .before .before .args .plan) (sym (c .before .sizes-admitted .ensures) ∙ not-true _ (c .if1 .taken))
 
 -- src/sizes.rt:55:16
-mul-t6 : tie.Need-mul-t6
-mul-t6 c = let l = limited (sized (c .before .before .args .sizes) (c .before .before .args .plan)) (sym (c .before .sizes-admitted .ensures) ∙ not-false _ (c .if1 .left)) in record { fits = omega (arith, l .tills) }
+mul-t10 : tie.Need-mul-t10
+mul-t10 c = let l = limited (sized (c .before .before .args .sizes) (c .before .before .args .plan)) (sym (c .before .sizes-admitted .ensures) ∙ not-false _ (c .if1 .left)) in record { fits = omega (arith, l .tills) }
 
 -- src/sizes.rt:57:15
-mul-t7 : tie.Need-mul-t7
-mul-t7 c = let l = limited (sized (c .before .before .args .sizes) (c .before .before .args .plan)) (sym (c .before .sizes-admitted .ensures) ∙ not-false _ (c .if1 .left)) in let t = times _ _ 64 64 (l .tills) (l .tills) in record { fits = omega (arith, t) }
+mul-t12 : tie.Need-mul-t12
+mul-t12 c = let l = limited (sized (c .before .before .args .sizes) (c .before .before .args .plan)) (sym (c .before .sizes-admitted .ensures) ∙ not-false _ (c .if1 .left)) in let t = times _ _ 64 64 (l .tills) (l .tills) in record { fits = omega (arith, t) }
 
 -- src/sizes.rt:57:15
-mul-t8 : tie.Need-mul-t8
-mul-t8 c = let l = limited (sized (c .before .before .args .sizes) (c .before .before .args .plan)) (sym (c .before .sizes-admitted .ensures) ∙ not-false _ (c .if1 .left)) in let t = times _ _ 64 64 (l .tills) (l .tills) in record { fits = omega (arith, t) }
+mul-t13 : tie.Need-mul-t13
+mul-t13 c = let l = limited (sized (c .before .before .args .sizes) (c .before .before .args .plan)) (sym (c .before .sizes-admitted .ensures) ∙ not-false _ (c .if1 .left)) in let t = times _ _ 64 64 (l .tills) (l .tills) in record { fits = omega (arith, t) }
 
 -- src/sizes.rt:58:17
 prices-length-requires : tie.Need-prices-length-requires
 prices-length-requires c κs = let l = limited (sized (c .before .before .args .sizes) (c .before .before .args .plan)) (sym (c .before .sizes-admitted .ensures) ∙ not-false _ (c .if1 .left)) in (l .tills, l .regions)
 
 -- src/sizes.rt:59:23
-mul-t10 : tie.Need-mul-t10
-mul-t10 c = let l = limited (sized (c .before .before .before .before .args .sizes) (c .before .before .before .before .args .plan)) (sym (c .before .before .before .sizes-admitted .ensures) ∙ not-false _ (c .before .before .if1 .left)) in let t = times _ _ 64 4096 (l .tills) (l .seen) in record { fits = omega (arith, t) }
+mul-t15 : tie.Need-mul-t15
+mul-t15 c = let l = limited (sized (c .before .before .before .before .args .sizes) (c .before .before .before .before .args .plan)) (sym (c .before .before .before .sizes-admitted .ensures) ∙ not-false _ (c .before .before .if1 .left)) in let t = times _ _ 64 4096 (l .tills) (l .seen) in record { fits = omega (arith, t) }
 
 -- src/sizes.rt:59:15
-add-t11 : tie.Need-add-t11
-add-t11 c = let l = limited (sized (c .before .before .before .before .args .sizes) (c .before .before .before .before .args .plan)) (sym (c .before .before .before .sizes-admitted .ensures) ∙ not-false _ (c .before .before .if1 .left)) in let t = times _ _ 64 4096 (l .tills) (l .seen) in record { fits = omega (arith, t, l .tills) }
+add-t16 : tie.Need-add-t16
+add-t16 c = let l = limited (sized (c .before .before .before .before .args .sizes) (c .before .before .before .before .args .plan)) (sym (c .before .before .before .sizes-admitted .ensures) ∙ not-false _ (c .before .before .if1 .left)) in let t = times _ _ 64 4096 (l .tills) (l .seen) in record { fits = omega (arith, t, l .tills) }
 
 -- src/sizes.rt:60:18
-mul-t13 : tie.Need-mul-t13
-mul-t13 c = let l = limited (sized (c .before .before .before .before .before .args .sizes) (c .before .before .before .before .before .args .plan)) (sym (c .before .before .before .before .sizes-admitted .ensures) ∙ not-false _ (c .before .before .before .if1 .left)) in record { fits = omega (arith, l .waiting) }
+mul-t18 : tie.Need-mul-t18
+mul-t18 c = let l = limited (sized (c .before .before .before .before .before .args .sizes) (c .before .before .before .before .before .args .plan)) (sym (c .before .before .before .before .sizes-admitted .ensures) ∙ not-false _ (c .before .before .before .if1 .left)) in record { fits = omega (arith, l .waiting) }
 
 -- src/sizes.rt:61:16
-mul-t14 : tie.Need-mul-t14
-mul-t14 c = let l = limited (sized (c .before .before .before .before .before .before .args .sizes) (c .before .before .before .before .before .before .args .plan)) (sym (c .before .before .before .before .before .sizes-admitted .ensures) ∙ not-false _ (c .before .before .before .before .if1 .left)) in record { fits = omega (arith, l .types) }
+mul-t19 : tie.Need-mul-t19
+mul-t19 c = let l = limited (sized (c .before .before .before .before .before .before .args .sizes) (c .before .before .before .before .before .before .args .plan)) (sym (c .before .before .before .before .before .sizes-admitted .ensures) ∙ not-false _ (c .before .before .before .before .if1 .left)) in record { fits = omega (arith, l .types) }
 
 -- src/sizes.rt:62:17
-mul-t15 : tie.Need-mul-t15
-mul-t15 c = search needs
+mul-t20 : tie.Need-mul-t20
+mul-t20 c = search needs
 
 -- src/sizes.rt:63:18
-mul-t17 : tie.Need-mul-t17
-mul-t17 c = search needs
+mul-t22 : tie.Need-mul-t22
+mul-t22 c = search needs
 
 -- src/sizes.rt:64:36
-mul-t21 : tie.Need-mul-t21
-mul-t21 c = let l = limited (sized (c .before .before .before .before .before .before .before .args .sizes) (c .before .before .before .before .before .before .before .args .plan)) (sym (c .before .before .before .before .before .before .sizes-admitted .ensures) ∙ not-false _ (c .before .before .before .before .before .if1 .left)) in record { fits = omega (arith, l .log) }
+mul-t26 : tie.Need-mul-t26
+mul-t26 c = let l = limited (sized (c .before .before .before .before .before .before .before .args .sizes) (c .before .before .before .before .before .before .before .args .plan)) (sym (c .before .before .before .before .before .before .sizes-admitted .ensures) ∙ not-false _ (c .before .before .before .before .before .if1 .left)) in record { fits = omega (arith, l .log) }
 
 -- src/sizes.rt:64:14
-add-t22 : tie.Need-add-t22
-add-t22 c = let l = limited (sized (c .before .before .before .before .before .before .before .args .sizes) (c .before .before .before .before .before .before .before .args .plan)) (sym (c .before .before .before .before .before .before .sizes-admitted .ensures) ∙ not-false _ (c .before .before .before .before .before .if1 .left)) in record { fits = omega (arith, l .log) }
+add-t27 : tie.Need-add-t27
+add-t27 c = let l = limited (sized (c .before .before .before .before .before .before .before .args .sizes) (c .before .before .before .before .before .before .before .args .plan)) (sym (c .before .before .before .before .before .before .sizes-admitted .ensures) ∙ not-false _ (c .before .before .before .before .before .if1 .left)) in record { fits = omega (arith, l .log) }
 
 -- src/sizes.rt:30:1
 returns-2 : tie.Need-returns-2
@@ -81,16 +81,16 @@ table-sizes-spec =
     (tie.spec
     sizes-admitted-requires
     returns
-    mul-t6
-    mul-t7
-    mul-t8
-    prices-length-requires
     mul-t10
-    add-t11
+    mul-t12
     mul-t13
-    mul-t14
+    prices-length-requires
     mul-t15
-    mul-t17
-    mul-t21
-    add-t22
+    add-t16
+    mul-t18
+    mul-t19
+    mul-t20
+    mul-t22
+    mul-t26
+    add-t27
     returns-2)
