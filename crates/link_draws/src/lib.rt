@@ -146,5 +146,11 @@ pub fn delay(setup: &[u64], prices: &[u64], from: usize, to: usize, bytes: u64, 
     let k = cost(setup, prices, from, to, bytes);
     let base = k.base;
     let wire = k.transmission;
-    latency::sample_latency(c, base, rate(setup, held::JITTER), rate(setup, held::SPIKE), wire)
+    latency::sample_latency(
+        c,
+        base,
+        rate(setup, held::JITTER),
+        rate(setup, held::SPIKE),
+        wire,
+    )
 }
