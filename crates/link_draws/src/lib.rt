@@ -16,19 +16,6 @@ use streams::Cursor;
 use streams::Drawn32;
 use time::Time;
 
-// Cells of `setup`.
-const LATENCY: usize = 7;
-
-const JITTER: usize = 8;
-
-const SPIKE: usize = 12;
-
-const PLANNED: usize = 13;
-
-const REGIONS: usize = 14;
-
-const KEY: usize = 17;
-
 fn low(x: u64) -> u32
     ensures { λ r. ⌜ r ≡ x % 2 ^ 32 ⌝ }
 {
@@ -65,14 +52,14 @@ fn fault_key(setup: &[u64]) -> [u32; 8]
     ensures { λ r. ⌜ r ≡ faultKeyOf (settingsAt (now (setup .entry)) .faultKey) ⌝ }
 {
     [
-        low(setup[KEY]),
-        low(setup[KEY + 1]),
-        low(setup[KEY + 2]),
-        low(setup[KEY + 3]),
-        low(setup[KEY + 4]),
-        low(setup[KEY + 5]),
-        low(setup[KEY + 6]),
-        low(setup[KEY + 7]),
+        low(setup[held::FAULT_KEY]),
+        low(setup[held::FAULT_KEY + 1]),
+        low(setup[held::FAULT_KEY + 2]),
+        low(setup[held::FAULT_KEY + 3]),
+        low(setup[held::FAULT_KEY + 4]),
+        low(setup[held::FAULT_KEY + 5]),
+        low(setup[held::FAULT_KEY + 6]),
+        low(setup[held::FAULT_KEY + 7]),
     ]
 }
 
@@ -124,7 +111,7 @@ fn region(setup: &[u64], prices: &[u64], t: usize) -> u64
     requires { ⌜ Priced (now setup) (now prices) × (t < mostTills) ⌝ }
     ensures { λ r. ⌜ r ≡ regionAt (settingsAt (now (setup .entry)) .plan) (now (prices .entry)) t ⌝ }
 {
-    let n = at_least_one(setup[REGIONS]);
+    let n = at_least_one(setup[held::REGIONS]);
     let i = (2 * (n * n)) as usize + t;
     if i < prices.len() {
         return prices[i];
@@ -139,11 +126,11 @@ fn cost(setup: &[u64], prices: &[u64], from: usize, to: usize, bytes: u64) -> Co
 {
     let a = region(setup, prices, from);
     let b = region(setup, prices, to);
-    let latency = Time::from_nanos(setup[LATENCY]);
+    let latency = Time::from_nanos(setup[held::LATENCY]);
     geography::cost_between(
         prices,
-        setup[PLANNED] != 0,
-        setup[REGIONS],
+        setup[held::PLANNED] != 0,
+        setup[held::REGIONS],
         a,
         b,
         latency,
@@ -159,5 +146,11 @@ pub fn delay(setup: &[u64], prices: &[u64], from: usize, to: usize, bytes: u64, 
     let k = cost(setup, prices, from, to, bytes);
     let base = k.base;
     let wire = k.transmission;
-    latency::sample_latency(c, base, rate(setup, JITTER), rate(setup, SPIKE), wire)
+    latency::sample_latency(
+        c,
+        base,
+        rate(setup, held::JITTER),
+        rate(setup, held::SPIKE),
+        wire,
+    )
 }
