@@ -11,9 +11,10 @@ use lib.Pow.{pow-pos}
 use lib.ListN.{length, getD, set, take, drop, length-drop, length-take}
 use Rattle.word.specs.Word.{add32, xor32, rotr32}
 use Rattle.rows.specs.Lists.{Each}
-use Rattle.compress.specs.Compress.{iv, compressed, folded, rounds, columns, diagonals, mixAt, mixOf, halfOf, putQuad, initial, permuted}
+use Rattle.compress.specs.Compress.{iv, compressed, folded, roundOf, rounds, columns, diagonals, mixAt, mixOf, halfOf, putQuad, initial, permuted}
 use Rattle.compress.specs.declared.Quad.{Quad}
-use Rattle.digest.specs.Blake3.{hash, tree, chunk, blocks, parent, pick, wordsOf}
+use Rattle.chunk.specs.Chunk.{chunk, blocks, parent, wordsOf}
+use Rattle.digest.specs.Blake3.{hash, tree, pick}
 
 -- each cell fits, and so does what is read behind the end
 pub record Small (l : List ℕ) : Type 0 where
@@ -79,7 +80,7 @@ round-small v m h =
     (mix-small _ 3 7 11 15 _ _ (mix-small _ 2 6 10 14 _ _ (mix-small _ 1 5 9 13 _ _ (mix-small v 0 4 8 12 _ _ h)))))))
 
 rounds-small : (n : ℕ) (v m : List ℕ) → Small v → Small (rounds n v m)
-unfolding rounds
+unfolding rounds roundOf
 rounds-small zero v m h = h
 rounds-small (suc n) v m h = rounds-small n (diagonals (columns v m) m) (permuted m) (round-small v m h)
 
