@@ -43,11 +43,16 @@ permuted m =
     getD m 2 0 ∷ getD m 6 0 ∷ getD m 3 0 ∷ getD m 10 0 ∷ getD m 7 0 ∷ getD m 0 0 ∷ getD m 4 0 ∷ getD m 13 0
     ∷ getD m 1 0 ∷ getD m 11 0 ∷ getD m 12 0 ∷ getD m 5 0 ∷ getD m 9 0 ∷ getD m 14 0 ∷ getD m 15 0 ∷ getD m 8 0 ∷ []
 
--- n rounds, with the message permuted after each
+-- a round: a mixing step over the columns, then one over the diagonals
+unfoldable pub roundOf : List ℕ → List ℕ → List ℕ
+roundOf v m = diagonals (columns v m) m
+
+-- n rounds; the message words are permuted after each
 unfoldable pub rounds : ℕ → List ℕ → List ℕ → List ℕ
 rounds zero v m = v
-rounds (suc n) v m = rounds n (diagonals (columns v m) m) (permuted m)
+rounds (suc n) v m = rounds n (roundOf v m) (permuted m)
 
+-- the initial state: chaining value, four words of the IV, counter t (low, high), block length b, flags d
 unfoldable pub initial : List ℕ → ℕ → ℕ → ℕ → List ℕ
 initial h t b d =
     getD h 0 0 ∷ getD h 1 0 ∷ getD h 2 0 ∷ getD h 3 0 ∷ getD h 4 0 ∷ getD h 5 0 ∷ getD h 6 0 ∷ getD h 7 0

@@ -1,2 +1,2 @@
 pub mod Compress
-pub mod Rounds
+pub mod Words

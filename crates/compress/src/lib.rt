@@ -1,13 +1,12 @@
-// BLAKE3's compression function, written so that LLVM keeps the state in registers: each round is a function of its own
-// that is called once, with its message words in the order of its schedule, so that all seven are inlined.
+// BLAKE3's compression function. The state and the message are words by name, and each function is called in one place,
+// so that LLVM inlines the round and keeps the state in registers.
 use word::add;
 use word::rotr;
 use word::xor;
 ghost use mathlib.Core.Path.{_≡_};
-ghost use Prim.Native.Nat.{_+_, _<_, _≤_};
-ghost use lib.ListN.{length, getD};
-ghost use Rattle.compress.specs.Compress.{halfOf, mixOf, initial, rounds, folded, compressed};
-ghost use Rattle.compress.specs.Rounds.{listOf, mixed, scheduled};
+ghost use Prim.Native.Nat.{_<_};
+ghost use Rattle.compress.specs.Compress.{halfOf, mixOf, roundOf, permuted, rounds, initial, folded, compressed};
+ghost use Rattle.compress.specs.Words.{listOf};
 
 // The four words that G mixes.
 pub struct Quad {
@@ -48,95 +47,26 @@ fn half(q: Quad, m: u32, s: u32, t: u32) -> Quad
     Quad { a, b, c, d }
 }
 
-fn mix(q: Quad, x: u32, y: u32) -> Quad
-    ensures { λ r. ⌜ r ≡ mixOf q x y ⌝ }
+// G.
+pub fn mix(a: u32, b: u32, c: u32, d: u32, x: u32, y: u32) -> Quad
+    ensures { λ r. ⌜ r ≡ mixOf (record { a = a; b = b; c = c; d = d }) x y ⌝ }
 {
+    let q = Quad { a, b, c, d };
     half(half(q, x, 16, 12), y, 8, 7)
 }
 
-fn round1(v: Words, m: Words) -> Words
-    ensures { λ r. ⌜ listOf r ≡ mixed (listOf v) (scheduled 0 (listOf m)) ⌝ }
+// One round: the four columns, then the four diagonals.
+fn round(v: Words, m: Words) -> Words
+    ensures { λ r. ⌜ listOf r ≡ roundOf (listOf v) (listOf m) ⌝ }
 {
-    let c0 = mix(
-        Quad {
-            a: v.w0,
-            b: v.w4,
-            c: v.w8,
-            d: v.w12,
-        },
-        m.w0,
-        m.w1,
-    );
-    let c1 = mix(
-        Quad {
-            a: v.w1,
-            b: v.w5,
-            c: v.w9,
-            d: v.w13,
-        },
-        m.w2,
-        m.w3,
-    );
-    let c2 = mix(
-        Quad {
-            a: v.w2,
-            b: v.w6,
-            c: v.w10,
-            d: v.w14,
-        },
-        m.w4,
-        m.w5,
-    );
-    let c3 = mix(
-        Quad {
-            a: v.w3,
-            b: v.w7,
-            c: v.w11,
-            d: v.w15,
-        },
-        m.w6,
-        m.w7,
-    );
-    let d0 = mix(
-        Quad {
-            a: c0.a,
-            b: c1.b,
-            c: c2.c,
-            d: c3.d,
-        },
-        m.w8,
-        m.w9,
-    );
-    let d1 = mix(
-        Quad {
-            a: c1.a,
-            b: c2.b,
-            c: c3.c,
-            d: c0.d,
-        },
-        m.w10,
-        m.w11,
-    );
-    let d2 = mix(
-        Quad {
-            a: c2.a,
-            b: c3.b,
-            c: c0.c,
-            d: c1.d,
-        },
-        m.w12,
-        m.w13,
-    );
-    let d3 = mix(
-        Quad {
-            a: c3.a,
-            b: c0.b,
-            c: c1.c,
-            d: c2.d,
-        },
-        m.w14,
-        m.w15,
-    );
+    let c0 = mix(v.w0, v.w4, v.w8, v.w12, m.w0, m.w1);
+    let c1 = mix(v.w1, v.w5, v.w9, v.w13, m.w2, m.w3);
+    let c2 = mix(v.w2, v.w6, v.w10, v.w14, m.w4, m.w5);
+    let c3 = mix(v.w3, v.w7, v.w11, v.w15, m.w6, m.w7);
+    let d0 = mix(c0.a, c1.b, c2.c, c3.d, m.w8, m.w9);
+    let d1 = mix(c1.a, c2.b, c3.c, c0.d, m.w10, m.w11);
+    let d2 = mix(c2.a, c3.b, c0.c, c1.d, m.w12, m.w13);
+    let d3 = mix(c3.a, c0.b, c1.c, c2.d, m.w14, m.w15);
     Words {
         w0: d0.a,
         w1: d1.a,
@@ -157,637 +87,48 @@ fn round1(v: Words, m: Words) -> Words
     }
 }
 
-fn round2(v: Words, m: Words) -> Words
-    ensures { λ r. ⌜ listOf r ≡ mixed (listOf v) (scheduled 1 (listOf m)) ⌝ }
+// The message words in the next round's order.
+fn permute(m: Words) -> Words
+    ensures { λ r. ⌜ listOf r ≡ permuted (listOf m) ⌝ }
 {
-    let c0 = mix(
-        Quad {
-            a: v.w0,
-            b: v.w4,
-            c: v.w8,
-            d: v.w12,
-        },
-        m.w2,
-        m.w6,
-    );
-    let c1 = mix(
-        Quad {
-            a: v.w1,
-            b: v.w5,
-            c: v.w9,
-            d: v.w13,
-        },
-        m.w3,
-        m.w10,
-    );
-    let c2 = mix(
-        Quad {
-            a: v.w2,
-            b: v.w6,
-            c: v.w10,
-            d: v.w14,
-        },
-        m.w7,
-        m.w0,
-    );
-    let c3 = mix(
-        Quad {
-            a: v.w3,
-            b: v.w7,
-            c: v.w11,
-            d: v.w15,
-        },
-        m.w4,
-        m.w13,
-    );
-    let d0 = mix(
-        Quad {
-            a: c0.a,
-            b: c1.b,
-            c: c2.c,
-            d: c3.d,
-        },
-        m.w1,
-        m.w11,
-    );
-    let d1 = mix(
-        Quad {
-            a: c1.a,
-            b: c2.b,
-            c: c3.c,
-            d: c0.d,
-        },
-        m.w12,
-        m.w5,
-    );
-    let d2 = mix(
-        Quad {
-            a: c2.a,
-            b: c3.b,
-            c: c0.c,
-            d: c1.d,
-        },
-        m.w9,
-        m.w14,
-    );
-    let d3 = mix(
-        Quad {
-            a: c3.a,
-            b: c0.b,
-            c: c1.c,
-            d: c2.d,
-        },
-        m.w15,
-        m.w8,
-    );
     Words {
-        w0: d0.a,
-        w1: d1.a,
-        w2: d2.a,
-        w3: d3.a,
-        w4: d3.b,
-        w5: d0.b,
-        w6: d1.b,
-        w7: d2.b,
-        w8: d2.c,
-        w9: d3.c,
-        w10: d0.c,
-        w11: d1.c,
-        w12: d1.d,
-        w13: d2.d,
-        w14: d3.d,
-        w15: d0.d,
+        w0: m.w2,
+        w1: m.w6,
+        w2: m.w3,
+        w3: m.w10,
+        w4: m.w7,
+        w5: m.w0,
+        w6: m.w4,
+        w7: m.w13,
+        w8: m.w1,
+        w9: m.w11,
+        w10: m.w12,
+        w11: m.w5,
+        w12: m.w9,
+        w13: m.w14,
+        w14: m.w15,
+        w15: m.w8,
     }
 }
 
-fn round3(v: Words, m: Words) -> Words
-    ensures { λ r. ⌜ listOf r ≡ mixed (listOf v) (scheduled 2 (listOf m)) ⌝ }
-{
-    let c0 = mix(
-        Quad {
-            a: v.w0,
-            b: v.w4,
-            c: v.w8,
-            d: v.w12,
-        },
-        m.w3,
-        m.w4,
-    );
-    let c1 = mix(
-        Quad {
-            a: v.w1,
-            b: v.w5,
-            c: v.w9,
-            d: v.w13,
-        },
-        m.w10,
-        m.w12,
-    );
-    let c2 = mix(
-        Quad {
-            a: v.w2,
-            b: v.w6,
-            c: v.w10,
-            d: v.w14,
-        },
-        m.w13,
-        m.w2,
-    );
-    let c3 = mix(
-        Quad {
-            a: v.w3,
-            b: v.w7,
-            c: v.w11,
-            d: v.w15,
-        },
-        m.w7,
-        m.w14,
-    );
-    let d0 = mix(
-        Quad {
-            a: c0.a,
-            b: c1.b,
-            c: c2.c,
-            d: c3.d,
-        },
-        m.w6,
-        m.w5,
-    );
-    let d1 = mix(
-        Quad {
-            a: c1.a,
-            b: c2.b,
-            c: c3.c,
-            d: c0.d,
-        },
-        m.w9,
-        m.w0,
-    );
-    let d2 = mix(
-        Quad {
-            a: c2.a,
-            b: c3.b,
-            c: c0.c,
-            d: c1.d,
-        },
-        m.w11,
-        m.w15,
-    );
-    let d3 = mix(
-        Quad {
-            a: c3.a,
-            b: c0.b,
-            c: c1.c,
-            d: c2.d,
-        },
-        m.w8,
-        m.w1,
-    );
-    Words {
-        w0: d0.a,
-        w1: d1.a,
-        w2: d2.a,
-        w3: d3.a,
-        w4: d3.b,
-        w5: d0.b,
-        w6: d1.b,
-        w7: d2.b,
-        w8: d2.c,
-        w9: d3.c,
-        w10: d0.c,
-        w11: d1.c,
-        w12: d1.d,
-        w13: d2.d,
-        w14: d3.d,
-        w15: d0.d,
-    }
-}
-
-fn round4(v: Words, m: Words) -> Words
-    ensures { λ r. ⌜ listOf r ≡ mixed (listOf v) (scheduled 3 (listOf m)) ⌝ }
-{
-    let c0 = mix(
-        Quad {
-            a: v.w0,
-            b: v.w4,
-            c: v.w8,
-            d: v.w12,
-        },
-        m.w10,
-        m.w7,
-    );
-    let c1 = mix(
-        Quad {
-            a: v.w1,
-            b: v.w5,
-            c: v.w9,
-            d: v.w13,
-        },
-        m.w12,
-        m.w9,
-    );
-    let c2 = mix(
-        Quad {
-            a: v.w2,
-            b: v.w6,
-            c: v.w10,
-            d: v.w14,
-        },
-        m.w14,
-        m.w3,
-    );
-    let c3 = mix(
-        Quad {
-            a: v.w3,
-            b: v.w7,
-            c: v.w11,
-            d: v.w15,
-        },
-        m.w13,
-        m.w15,
-    );
-    let d0 = mix(
-        Quad {
-            a: c0.a,
-            b: c1.b,
-            c: c2.c,
-            d: c3.d,
-        },
-        m.w4,
-        m.w0,
-    );
-    let d1 = mix(
-        Quad {
-            a: c1.a,
-            b: c2.b,
-            c: c3.c,
-            d: c0.d,
-        },
-        m.w11,
-        m.w2,
-    );
-    let d2 = mix(
-        Quad {
-            a: c2.a,
-            b: c3.b,
-            c: c0.c,
-            d: c1.d,
-        },
-        m.w5,
-        m.w8,
-    );
-    let d3 = mix(
-        Quad {
-            a: c3.a,
-            b: c0.b,
-            c: c1.c,
-            d: c2.d,
-        },
-        m.w1,
-        m.w6,
-    );
-    Words {
-        w0: d0.a,
-        w1: d1.a,
-        w2: d2.a,
-        w3: d3.a,
-        w4: d3.b,
-        w5: d0.b,
-        w6: d1.b,
-        w7: d2.b,
-        w8: d2.c,
-        w9: d3.c,
-        w10: d0.c,
-        w11: d1.c,
-        w12: d1.d,
-        w13: d2.d,
-        w14: d3.d,
-        w15: d0.d,
-    }
-}
-
-fn round5(v: Words, m: Words) -> Words
-    ensures { λ r. ⌜ listOf r ≡ mixed (listOf v) (scheduled 4 (listOf m)) ⌝ }
-{
-    let c0 = mix(
-        Quad {
-            a: v.w0,
-            b: v.w4,
-            c: v.w8,
-            d: v.w12,
-        },
-        m.w12,
-        m.w13,
-    );
-    let c1 = mix(
-        Quad {
-            a: v.w1,
-            b: v.w5,
-            c: v.w9,
-            d: v.w13,
-        },
-        m.w9,
-        m.w11,
-    );
-    let c2 = mix(
-        Quad {
-            a: v.w2,
-            b: v.w6,
-            c: v.w10,
-            d: v.w14,
-        },
-        m.w15,
-        m.w10,
-    );
-    let c3 = mix(
-        Quad {
-            a: v.w3,
-            b: v.w7,
-            c: v.w11,
-            d: v.w15,
-        },
-        m.w14,
-        m.w8,
-    );
-    let d0 = mix(
-        Quad {
-            a: c0.a,
-            b: c1.b,
-            c: c2.c,
-            d: c3.d,
-        },
-        m.w7,
-        m.w2,
-    );
-    let d1 = mix(
-        Quad {
-            a: c1.a,
-            b: c2.b,
-            c: c3.c,
-            d: c0.d,
-        },
-        m.w5,
-        m.w3,
-    );
-    let d2 = mix(
-        Quad {
-            a: c2.a,
-            b: c3.b,
-            c: c0.c,
-            d: c1.d,
-        },
-        m.w0,
-        m.w1,
-    );
-    let d3 = mix(
-        Quad {
-            a: c3.a,
-            b: c0.b,
-            c: c1.c,
-            d: c2.d,
-        },
-        m.w6,
-        m.w4,
-    );
-    Words {
-        w0: d0.a,
-        w1: d1.a,
-        w2: d2.a,
-        w3: d3.a,
-        w4: d3.b,
-        w5: d0.b,
-        w6: d1.b,
-        w7: d2.b,
-        w8: d2.c,
-        w9: d3.c,
-        w10: d0.c,
-        w11: d1.c,
-        w12: d1.d,
-        w13: d2.d,
-        w14: d3.d,
-        w15: d0.d,
-    }
-}
-
-fn round6(v: Words, m: Words) -> Words
-    ensures { λ r. ⌜ listOf r ≡ mixed (listOf v) (scheduled 5 (listOf m)) ⌝ }
-{
-    let c0 = mix(
-        Quad {
-            a: v.w0,
-            b: v.w4,
-            c: v.w8,
-            d: v.w12,
-        },
-        m.w9,
-        m.w14,
-    );
-    let c1 = mix(
-        Quad {
-            a: v.w1,
-            b: v.w5,
-            c: v.w9,
-            d: v.w13,
-        },
-        m.w11,
-        m.w5,
-    );
-    let c2 = mix(
-        Quad {
-            a: v.w2,
-            b: v.w6,
-            c: v.w10,
-            d: v.w14,
-        },
-        m.w8,
-        m.w12,
-    );
-    let c3 = mix(
-        Quad {
-            a: v.w3,
-            b: v.w7,
-            c: v.w11,
-            d: v.w15,
-        },
-        m.w15,
-        m.w1,
-    );
-    let d0 = mix(
-        Quad {
-            a: c0.a,
-            b: c1.b,
-            c: c2.c,
-            d: c3.d,
-        },
-        m.w13,
-        m.w3,
-    );
-    let d1 = mix(
-        Quad {
-            a: c1.a,
-            b: c2.b,
-            c: c3.c,
-            d: c0.d,
-        },
-        m.w0,
-        m.w10,
-    );
-    let d2 = mix(
-        Quad {
-            a: c2.a,
-            b: c3.b,
-            c: c0.c,
-            d: c1.d,
-        },
-        m.w2,
-        m.w6,
-    );
-    let d3 = mix(
-        Quad {
-            a: c3.a,
-            b: c0.b,
-            c: c1.c,
-            d: c2.d,
-        },
-        m.w4,
-        m.w7,
-    );
-    Words {
-        w0: d0.a,
-        w1: d1.a,
-        w2: d2.a,
-        w3: d3.a,
-        w4: d3.b,
-        w5: d0.b,
-        w6: d1.b,
-        w7: d2.b,
-        w8: d2.c,
-        w9: d3.c,
-        w10: d0.c,
-        w11: d1.c,
-        w12: d1.d,
-        w13: d2.d,
-        w14: d3.d,
-        w15: d0.d,
-    }
-}
-
-fn round7(v: Words, m: Words) -> Words
-    ensures { λ r. ⌜ listOf r ≡ mixed (listOf v) (scheduled 6 (listOf m)) ⌝ }
-{
-    let c0 = mix(
-        Quad {
-            a: v.w0,
-            b: v.w4,
-            c: v.w8,
-            d: v.w12,
-        },
-        m.w11,
-        m.w15,
-    );
-    let c1 = mix(
-        Quad {
-            a: v.w1,
-            b: v.w5,
-            c: v.w9,
-            d: v.w13,
-        },
-        m.w5,
-        m.w0,
-    );
-    let c2 = mix(
-        Quad {
-            a: v.w2,
-            b: v.w6,
-            c: v.w10,
-            d: v.w14,
-        },
-        m.w1,
-        m.w9,
-    );
-    let c3 = mix(
-        Quad {
-            a: v.w3,
-            b: v.w7,
-            c: v.w11,
-            d: v.w15,
-        },
-        m.w8,
-        m.w6,
-    );
-    let d0 = mix(
-        Quad {
-            a: c0.a,
-            b: c1.b,
-            c: c2.c,
-            d: c3.d,
-        },
-        m.w14,
-        m.w10,
-    );
-    let d1 = mix(
-        Quad {
-            a: c1.a,
-            b: c2.b,
-            c: c3.c,
-            d: c0.d,
-        },
-        m.w2,
-        m.w12,
-    );
-    let d2 = mix(
-        Quad {
-            a: c2.a,
-            b: c3.b,
-            c: c0.c,
-            d: c1.d,
-        },
-        m.w3,
-        m.w4,
-    );
-    let d3 = mix(
-        Quad {
-            a: c3.a,
-            b: c0.b,
-            c: c1.c,
-            d: c2.d,
-        },
-        m.w7,
-        m.w13,
-    );
-    Words {
-        w0: d0.a,
-        w1: d1.a,
-        w2: d2.a,
-        w3: d3.a,
-        w4: d3.b,
-        w5: d0.b,
-        w6: d1.b,
-        w7: d2.b,
-        w8: d2.c,
-        w9: d3.c,
-        w10: d0.c,
-        w11: d1.c,
-        w12: d1.d,
-        w13: d2.d,
-        w14: d3.d,
-        w15: d0.d,
-    }
-}
-
+// Seven rounds, the message permuted between them.
 fn seven_rounds(v: Words, m: Words) -> Words
     ensures { λ r. ⌜ listOf r ≡ rounds 7 (listOf v) (listOf m) ⌝ }
 {
-    let v1 = round1(v, m);
-    let v2 = round2(v1, m);
-    let v3 = round3(v2, m);
-    let v4 = round4(v3, m);
-    let v5 = round5(v4, m);
-    let v6 = round6(v5, m);
-    round7(v6, m)
+    let mut state = v;
+    let mut message = m;
+    let mut i: u32 = 0;
+    while i < 7 {
+        let mixed = round(state, message);
+        state = mixed;
+        let next = permute(message);
+        message = next;
+        i += 1;
+    }
+    state
 }
 
-fn start(h: [u32; 8], t: u64, b: u32, d: u32) -> Words
+pub fn start(h: [u32; 8], t: u64, b: u32, d: u32) -> Words
     ensures { λ r. ⌜ listOf r ≡ initial h t b d ⌝ }
 {
     let lo = (t % 4294967296) as u32;
@@ -812,7 +153,7 @@ fn start(h: [u32; 8], t: u64, b: u32, d: u32) -> Words
     }
 }
 
-fn fold(v: Words) -> [u32; 8]
+pub fn fold(v: Words) -> [u32; 8]
     ensures { λ r. ⌜ r ≡ folded (listOf v) ⌝ }
 {
     [

@@ -18,7 +18,8 @@ use Rattle.draw.proofs.Laws.{words-most, moved-on, moved-as}
 use Rattle.geography.specs.declared.Link.{Link}
 use Rattle.geography.specs.declared.Cost.{Cost}
 use Rattle.geography.specs.declared.Band.{Band}
-use Rattle.geography.specs.Bytes.{derive, bytes4, bytes8, host, links, hostBytes, linksBytes}
+use Rattle.word.specs.Word.{le4, le8}
+use Rattle.geography.specs.Bytes.{derive, host, links, hostBytes, linksBytes}
 use Rattle.geography.specs.Geography.{mostRegions, atLeastOne, regionOf, transmissionOf, linkOf, pick, bandOf, drawnLink, linkWords, rowCount, allCount, pairLink, linkWidth, linkIn, putLink, putPair, pricedRow, pricedAll, pricesOf, linkAt, linkAdmitted, linkCost, costOf, Stands}
 
 -- ---- at least one
@@ -36,11 +37,11 @@ unfolding atLeastOne
 one-most n h e = omega arith
 
 -- ---- digests
-pub host-made : (seed till : ℕ) {head tail d : List ℕ} → head ≡ bytes8 seed → tail ≡ hostBytes till → d ≡ hash (head ++ tail) → d ≡ derive seed host till
+pub host-made : (seed till : ℕ) {head tail d : List ℕ} → head ≡ le8 seed → tail ≡ hostBytes till → d ≡ hash (head ++ tail) → d ≡ derive seed host till
 unfolding derive hostBytes
 host-made seed till p q r = r ∙ ap₂ (λ x y. hash (x ++ y)) p q
 
-pub links-made : (seed : ℕ) {head tail d : List ℕ} → head ≡ bytes8 seed → tail ≡ linksBytes → d ≡ hash (head ++ tail) → d ≡ derive seed links 0
+pub links-made : (seed : ℕ) {head tail d : List ℕ} → head ≡ le8 seed → tail ≡ linksBytes → d ≡ hash (head ++ tail) → d ≡ derive seed links 0
 unfolding derive linksBytes
 links-made seed p q r = r ∙ ap₂ (λ x y. hash (x ++ y)) p q
 

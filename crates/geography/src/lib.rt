@@ -6,7 +6,8 @@ ghost use mathlib.Core.Path.{_≡_};
 ghost use Prim.Native.Nat.{_+_, _-_, _*_, _<_, _≤_, _^_};
 ghost use lib.ListN.{length, getD, set};
 ghost use Rattle.streams.specs.Streams.{Holds, Moved};
-ghost use Rattle.geography.specs.Bytes.{bytes8, hostBytes, linksBytes, derive, host, links};
+ghost use Rattle.word.specs.Word.{le8};
+ghost use Rattle.geography.specs.Bytes.{hostBytes, linksBytes, derive, host, links};
 ghost use Rattle.geography.specs.Geography.{atLeastOne, regionOf, transmissionOf, bandOf, drawnLink, linkWords, putLink, putPair, linkAt, linkAdmitted, costOf, Stands, allCount, pricedRow, pricedAll, pricesOf, mostRegions, mostBytes};
 
 // What a delivery between two regions costs: latency before jitter, and bytes carried a second.
@@ -60,7 +61,7 @@ fn at_least_one(n: u64) -> u64
 }
 
 fn seed_bytes(seed: u64) -> [u8; 8]
-    ensures { λ r. ⌜ (r ≡ bytes8 seed) × (8 ≡ length r) ⌝ }
+    ensures { λ r. ⌜ (r ≡ le8 seed) × (8 ≡ length r) ⌝ }
 {
     [
         (seed % 256) as u8,

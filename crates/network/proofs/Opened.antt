@@ -10,17 +10,19 @@ use lib.ListN.{length, getD, take, drop, replicate, length-append, length-replic
 use lib.Seq.{take-at, drop-at, drop-append-add, take-append-seam, getD-append-add}
 use borrow.Author.Tests.{lt-ltb}
 use Rattle.compress.specs.Compress.{compressed, folded}
-use Rattle.digest.specs.Blake3.{hash, tree, chunk, blocks, parent, pick}
+use Rattle.chunk.specs.Chunk.{chunk, blocks, parent}
+use Rattle.digest.specs.Blake3.{hash, tree, pick}
 use Rattle.rows.specs.Rows.{flat, allOf}
 use Rattle.rows.specs.Lists.{upTo}
 use Rattle.rows.proofs.Lists.{length-upTo, getD-upTo}
 use Rattle.geography.specs.Geography.{atLeastOne, linkWidth, linkIn, linkAt, linkAdmitted, planLink, regionOf, pricesOf}
 use Rattle.geography.specs.declared.Link.{Link}
+use Rattle.streams.specs.Link.{linkKey}
 use Rattle.geography.proofs.Prices.{length-prices, prices-are, plan-admitted}
 use Rattle.network.specs.Lists.{below}
 use Rattle.network.specs.Opening.{Plan, Settings}
 use Rattle.network.specs.Tables.{cell}
-use Rattle.network.specs.Real.{keyWidth, linkKey, keysOf, keyOf, pairCells, pricesWidth, pricedBy, regionAt}
+use Rattle.network.specs.Real.{keyWidth, keysOf, keyOf, pairCells, pricesWidth, pricedBy, regionAt}
 
 -- ---- A digest has 8 words
 

@@ -11,7 +11,7 @@ use Rattle.digest.specs.Blake3.{hash}
 use Rattle.draw.specs.Draw.{whole32At, words32At}
 use Rattle.draw.specs.Fraction.{hitsAt, hitWords}
 use Rattle.latency.specs.Latency.{latencyAt, latencyWords}
-use Rattle.geography.specs.Bytes.{bytes4, bytes8}
+use Rattle.streams.specs.Link.{linkKey}
 use Rattle.geography.specs.Geography.{atLeastOne, linkWidth, regionOf, pricesOf, costOf}
 use Rattle.geography.specs.declared.Cost.{Cost}
 use Rattle.decide.specs.Decide.{decideOf}
@@ -26,17 +26,13 @@ use Rattle.network.specs.Tables.{Tables, cell, sizesAt, settingsAt, name
 abbrev pub keyWidth : ℕ
 keyWidth = 8
 
--- "link"
-abbrev pub label : List ℕ
-label = 108 ∷ 105 ∷ 110 ∷ 107 ∷ []
-
--- the digest of seed (8 bytes), "link", from, to (4 bytes each)
-unfoldable pub linkKey : (seed from to : ℕ) → List ℕ
-linkKey seed from to = hash (bytes8 seed ++ (label ++ (bytes4 from ++ bytes4 to)))
-
 -- the key of each ordered pair of tills
 unfoldable pub keysOf : Settings → List ℕ
 keysOf x = let n = x .sizes .tills in flat (λ i. linkKey (x .seed) (i / n) (i % n)) (upTo (n * n) (λ i. i))
+
+-- the fault stream's key as the settings have it: of each word the low 32 bits
+unfoldable pub faultKeyOf : List ℕ → List ℕ
+faultKeyOf key = upTo keyWidth (λ i. cell key i % 2 ^ 32)
 
 abbrev pub keyOf : (tills : ℕ) → List ℕ → (from to : ℕ) → List ℕ
 keyOf tills keys from to = take keyWidth (drop ((from * tills + to) * keyWidth) keys)
@@ -97,7 +93,7 @@ drawsOf x names keys prices =
             words = words + latencyWords (key from to) words (k .base .ns) (rateOf (c .jitter)) (rateOf (c .spike));
           };
       index = λ from to n words. record { value = whole32At (key from to) words n; words = words + words32At (key from to) words n };
-      decide = λ m rules words. decideOf (x .faultKey) m rules words;
+      decide = λ m rules words. decideOf (faultKeyOf (x .faultKey)) m rules words;
       id = idOf names;
     }
 

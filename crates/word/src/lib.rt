@@ -1,7 +1,8 @@
-// 32-bit words as BLAKE3 and ChaCha use them, and the product of two 64-bit numbers as two halves.
+// 32-bit words as BLAKE3 and ChaCha use them, little-endian reads, and the product of two 64-bit numbers as two halves.
 ghost use mathlib.Core.Path.{_≡_};
-ghost use Prim.Native.Nat.{_*_, _/_, _%_, _^_, _<_};
-ghost use Rattle.word.specs.Word.{add32, xor32, rotl32, rotr32};
+ghost use Prim.Native.Nat.{_+_, _*_, _/_, _%_, _^_, _<_, _≤_};
+ghost use lib.ListN.{length};
+ghost use Rattle.word.specs.Word.{add32, xor32, rotl32, rotr32, leWord};
 
 // The sum modulo 2^32.
 pub fn add(a: u32, b: u32) -> u32
@@ -30,6 +31,24 @@ pub fn rotr(x: u32, n: u32) -> u32
     ensures { λ r. ⌜ r ≡ rotr32 x n ⌝ }
 {
     (x >> n) | (x << (32 - n))
+}
+
+fn wide(x: u8) -> u32
+    ensures { λ r. ⌜ (r ≡ x) × (r < 256) ⌝ }
+{
+    x as u32
+}
+
+// The little-endian word at byte i.
+pub fn le_word(s: &[u8], i: usize) -> u32
+    requires { ⌜ i + 4 ≤ length (now s) ⌝ }
+    ensures { λ r. ⌜ r ≡ leWord (now (s .entry)) i ⌝ }
+{
+    let a = wide(s[i]);
+    let b = wide(s[i + 1]);
+    let c = wide(s[i + 2]);
+    let d = wide(s[i + 3]);
+    a + 256 * b + 65536 * c + 16777216 * d
 }
 
 // A number of 128 bits.

@@ -1,5 +1,5 @@
 use mathlib.Core.Path.{ap, _∙_}
-use Rattle.compress.specs.Rounds.{listOf}
+use Rattle.compress.specs.Words.{listOf}
 use Rattle.compress.specs.Compress.{compressed, folded, rounds}
 use borrow.Author.Needs.{needs}
 use Rattle.compress.proofs.compress.Statement.{statement}

@@ -1,5 +1,5 @@
 use mathlib.Core.Path.{refl}
-use Rattle.compress.specs.Rounds.{listOf}
+use Rattle.compress.specs.Words.{listOf}
 use Rattle.word.specs.Word.{xor32}
 use Rattle.compress.specs.Compress.{folded}
 use Rattle.compress.proofs.fold.Statement.{statement}

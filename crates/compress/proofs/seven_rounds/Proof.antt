@@ -1,59 +1,63 @@
-use Rattle.compress.specs.Rounds.{listOf}
-use Rattle.compress.proofs.Laws.{rounds-made}
+use native.Mathlib.Omega.{arith}
+use Rattle.compress.proofs.Laws.{rounds-turn, rounds-done}
+use Rattle.compress.specs.Compress.{rounds}
+use Rattle.compress.specs.Words.{listOf}
+use mathlib.Core.Path.{_≡_, refl, _∙_}
+use Prim.Native.Nat.{_≤_, _-_}
 use borrow.Author.Needs.{needs}
 use Rattle.compress.proofs.seven_rounds.Statement.{statement}
 use Rattle.compress.proofs.seven_rounds.Tie as tie
 use Rattle.compress.proofs.seven_rounds.Reads as reads
 use Rattle.compress.proofs.seven_rounds.Lts as lts
-use Rattle.compress.proofs.round1.Reads as round1-reads
-use Rattle.compress.proofs.round2.Reads as round2-reads
-use Rattle.compress.proofs.round3.Reads as round3-reads
-use Rattle.compress.proofs.round4.Reads as round4-reads
-use Rattle.compress.proofs.round5.Reads as round5-reads
-use Rattle.compress.proofs.round6.Reads as round6-reads
-use Rattle.compress.proofs.round7.Reads as round7-reads
+use Rattle.compress.proofs.permute.Reads as permute-reads
+use Rattle.compress.proofs.round.Reads as round-reads
 
--- src/lib.rt:268:9
-round1-requires : tie.Need-round1-requires
-round1-requires c κs = search needs
+abbrev Inv-loop : tie.InvT-loop
+Inv-loop state₀ message₀ i₀ state message i = (i ≤ 7) × (rounds (7 - i) (listOf state) (listOf message) ≡ rounds 7 (listOf state₀) (listOf message₀))
 
--- src/lib.rt:269:9
-round2-requires : tie.Need-round2-requires
-round2-requires c κs = search needs
+abbrev μ-loop : tie.MeasureT-loop
+μ-loop state₀ message₀ i₀ state message i = 7 - i
 
--- src/lib.rt:270:9
-round3-requires : tie.Need-round3-requires
-round3-requires c κs = search needs
+-- src/lib.rt:191:5
+loop-holds : tie.Need-loop-holds Inv-loop μ-loop
+loop-holds c = (omega arith, refl)
 
--- src/lib.rt:271:9
-round4-requires : tie.Need-round4-requires
-round4-requires c κs = search needs
+-- src/lib.rt:192:13
+round-requires : tie.Need-round-requires Inv-loop μ-loop
+round-requires c κs = search needs
 
--- src/lib.rt:272:9
-round5-requires : tie.Need-round5-requires
-round5-requires c κs = search needs
+-- src/lib.rt:194:13
+permute-requires : tie.Need-permute-requires Inv-loop μ-loop
+permute-requires c κs = search needs
 
--- src/lib.rt:273:9
-round6-requires : tie.Need-round6-requires
-round6-requires c κs = search needs
+-- src/lib.rt:196:9
+add-i : tie.Need-add-i Inv-loop μ-loop
+add-i c = search needs
 
--- src/lib.rt:274:5
-round7-requires : tie.Need-round7-requires
-round7-requires c κs = search needs
+-- src/lib.rt:191:5
+loop-less : tie.Need-loop-less Inv-loop μ-loop
+loop-less c = search needs
 
--- src/lib.rt:265:1
-returns : tie.Need-returns
-returns c = rounds-made (listOf (c .before .before .before .before .before .before .before .args .m)) (listOf (c .before .before .before .before .before .before .before .args .v)) (listOf (c .before .before .before .before .before .before .round1 .result)) (listOf (c .before .before .before .before .before .round2 .result)) (listOf (c .before .before .before .before .round3 .result)) (listOf (c .before .before .before .round4 .result)) (listOf (c .before .before .round5 .result)) (listOf (c .before .round6 .result)) (c .before .before .before .before .before .before .round1 .ensures) (c .before .before .before .before .before .round2 .ensures) (c .before .before .before .before .round3 .ensures) (c .before .before .before .round4 .ensures) (c .before .before .round5 .ensures) (c .before .round6 .ensures) (c .round7 .ensures)
+-- src/lib.rt:191:5
+loop-again : tie.Need-loop-again Inv-loop μ-loop
+loop-again c = let l = c .before .before .before .loop in
+    (omega arith, rounds-turn (l .i) (listOf (l .state)) (listOf (l .message)) (omega arith) (c .before .round .ensures) (c .permute .ensures) ∙ l .inv .1)
+
+-- src/lib.rt:185:1
+returns : tie.Need-returns Inv-loop μ-loop
+returns c = let l = c .before .loop in
+    rounds-done (l .i) (listOf (l .state)) (listOf (l .message)) (omega arith) (omega arith) (l .inv .1)
 
 pub seven-rounds-spec : {M : Type 1} → statement M
 seven-rounds-spec =
     tie.close
     (tie.spec
-    round1-requires
-    round2-requires
-    round3-requires
-    round4-requires
-    round5-requires
-    round6-requires
-    round7-requires
+    Inv-loop
+    μ-loop
+    loop-holds
+    round-requires
+    permute-requires
+    add-i
+    loop-less
+    loop-again
     returns)

@@ -1,5 +1,5 @@
 use mathlib.Core.Path.{refl}
-use Rattle.compress.specs.Rounds.{listOf}
+use Rattle.compress.specs.Words.{listOf}
 use Rattle.compress.specs.Compress.{initial, iv}
 use borrow.Author.Needs.{needs}
 use Rattle.compress.proofs.start.Statement.{statement}

@@ -1,3 +1,4 @@
+use Rattle.word.specs.Word.{le4}
 use Rattle.geography.specs.Bytes.{hostBytes}
 use borrow.Author.Needs.{needs}
 use Rattle.geography.proofs.host_bytes.Statement.{statement}
@@ -23,7 +24,7 @@ cast-t12 c = search needs
 
 -- src/lib.rt:73:1
 returns : tie.Need-returns
-unfolding hostBytes
+unfolding hostBytes le4
 returns c = search needs
 
 pub host-bytes-spec : {M : Type 1} → statement M

@@ -1,3 +1,4 @@
+use Rattle.word.specs.Word.{le4}
 use borrow.Author.Needs.{needs}
 use Rattle.geography.specs.Bytes.{linksBytes}
 use Rattle.geography.proofs.links_bytes.Statement.{statement}
@@ -7,7 +8,7 @@ use Rattle.geography.proofs.links_bytes.Lts as lts
 
 -- src/lib.rt:83:1
 returns : tie.Need-returns
-unfolding linksBytes
+unfolding linksBytes le4
 returns c = search needs
 
 pub links-bytes-spec : {M : Type 1} → statement M

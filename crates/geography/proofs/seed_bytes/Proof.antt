@@ -1,4 +1,4 @@
-use Rattle.geography.specs.Bytes.{bytes8}
+use Rattle.word.specs.Word.{le8}
 use borrow.Author.Needs.{needs}
 use Rattle.geography.proofs.seed_bytes.Statement.{statement}
 use Rattle.geography.proofs.seed_bytes.Tie as tie
@@ -39,7 +39,7 @@ cast-t24 c = search needs
 
 -- src/lib.rt:62:1
 returns : tie.Need-returns
-unfolding bytes8
+unfolding le8
 returns c = search needs
 
 pub seed-bytes-spec : {M : Type 1} → statement M

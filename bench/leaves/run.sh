@@ -1,0 +1,7 @@
+#!/usr/bin/env bash
+# Builds the archive of the crate leaves, links the benchmark and runs it.
+set -eu
+cd "$(dirname "$0")/../.."
+rt staticlib leaves >/dev/null
+rustc --edition 2024 -O -o target/bench-leaves bench/leaves/main.rs -L target/staticlib -l static=leaves
+exec target/bench-leaves

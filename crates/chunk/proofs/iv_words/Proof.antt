@@ -1,0 +1,14 @@
+use borrow.Author.Needs.{needs}
+use Rattle.compress.specs.Compress.{iv}
+use Rattle.chunk.proofs.iv_words.Statement.{statement}
+use Rattle.chunk.proofs.iv_words.Tie as tie
+use Rattle.chunk.proofs.iv_words.Reads as reads
+use Rattle.chunk.proofs.iv_words.Lts as lts
+
+-- src/lib.rt:132:1
+returns : tie.Need-returns
+unfolding iv
+returns c = search needs
+
+pub iv-words-spec : {M : Type 1} → statement M
+iv-words-spec = tie.close (tie.spec returns)

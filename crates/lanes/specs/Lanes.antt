@@ -1,0 +1,23 @@
+-- Four lanes side by side, one for each of four chunks: word i of lane l stands at 4 i + l.
+use Prim.Native.Nat.{ℕ, _+_, _*_}
+use mathlib.Core.List.{List, [], _∷_}
+use lib.ListN.{getD, take, drop}
+use Rattle.chunk.specs.Chunk.{chunkBytes, chunk, parent}
+
+-- a lane's chaining value, of 8 words
+unfoldable pub lane8 : List ℕ → ℕ → List ℕ
+lane8 xs l = getD xs (0 + l) 0 ∷ getD xs (4 + l) 0 ∷ getD xs (8 + l) 0 ∷ getD xs (12 + l) 0 ∷ getD xs (16 + l) 0 ∷ getD xs (20 + l) 0 ∷ getD xs (24 + l) 0 ∷ getD xs (28 + l) 0 ∷ []
+
+-- a lane's message block, of 16 words
+unfoldable pub lane16 : List ℕ → ℕ → List ℕ
+lane16 xs l = getD xs (0 + l) 0 ∷ getD xs (4 + l) 0 ∷ getD xs (8 + l) 0 ∷ getD xs (12 + l) 0 ∷ getD xs (16 + l) 0 ∷ getD xs (20 + l) 0 ∷ getD xs (24 + l) 0 ∷ getD xs (28 + l) 0 ∷ getD xs (32 + l) 0 ∷ getD xs (36 + l) 0 ∷ getD xs (40 + l) 0 ∷ getD xs (44 + l) 0 ∷ getD xs (48 + l) 0 ∷ getD xs (52 + l) 0 ∷ getD xs (56 + l) 0 ∷ getD xs (60 + l) 0 ∷ []
+
+-- chunk l of the bytes s
+unfoldable pub chunkAt : List ℕ → ℕ → List ℕ
+chunkAt s l = take chunkBytes (drop (chunkBytes * l) s)
+
+-- the tree over four whole chunks, from chunk t on
+unfoldable pub fourOf : List ℕ → ℕ → ℕ → List ℕ
+fourOf s t e =
+    parent (parent (chunk (chunkAt s 0) (t + 0) 0) (chunk (chunkAt s 1) (t + 1) 0) 0)
+    (parent (chunk (chunkAt s 2) (t + 2) 0) (chunk (chunkAt s 3) (t + 3) 0) 0) e

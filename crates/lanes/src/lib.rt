@@ -1,0 +1,174 @@
+// Four whole chunks of BLAKE3 at a time, in lanes that LLVM turns into vector code.
+mod rounds;
+
+use chunk::parent_value;
+use compress::Words;
+use compress::fold;
+use compress::start;
+use parts::back;
+use rounds::seven_rounds;
+use word::le_word;
+ghost use mathlib.Core.Path.{_≡_};
+ghost use Prim.Native.Nat.{ℕ, _+_, _*_, _<_, _≤_, _^_};
+ghost use lib.ListN.{length, drop};
+ghost use Rattle.compress.specs.Compress.{iv, compressed};
+ghost use Rattle.compress.specs.Words.{listOf};
+ghost use Rattle.chunk.specs.Chunk.{wordsOf, chunk};
+ghost use Rattle.lanes.specs.Lanes.{lane8, lane16, chunkAt, fourOf};
+
+// The compression of a whole block.
+fn compress_block(h: [u32; 8], m: Words, t: u64, d: u32) -> [u32; 8]
+    ensures { λ r. ⌜ r ≡ compressed h (listOf m) t 64 d ⌝ }
+{
+    fold(seven_rounds(start(h, t, 64, d), m))
+}
+
+// The chaining value of lane l.
+fn lane(h: &[u32; 32], l: usize) -> [u32; 8]
+    requires { ⌜ l < 4 ⌝ }
+    ensures { λ r. ⌜ r ≡ lane8 (now (h .entry)) l ⌝ }
+{
+    [
+        h[0 + l],
+        h[4 + l],
+        h[8 + l],
+        h[12 + l],
+        h[16 + l],
+        h[20 + l],
+        h[24 + l],
+        h[28 + l],
+    ]
+}
+
+// The message words of lane l.
+fn message(m: &[u32; 64], l: usize) -> Words
+    requires { ⌜ l < 4 ⌝ }
+    ensures { λ r. ⌜ listOf r ≡ lane16 (now (m .entry)) l ⌝ }
+{
+    Words {
+        w0: m[0 + l],
+        w1: m[4 + l],
+        w2: m[8 + l],
+        w3: m[12 + l],
+        w4: m[16 + l],
+        w5: m[20 + l],
+        w6: m[24 + l],
+        w7: m[28 + l],
+        w8: m[32 + l],
+        w9: m[36 + l],
+        w10: m[40 + l],
+        w11: m[44 + l],
+        w12: m[48 + l],
+        w13: m[52 + l],
+        w14: m[56 + l],
+        w15: m[60 + l],
+    }
+}
+
+// One block of each lane.
+fn step(h: [u32; 32], m: [u32; 64], t: u64, d: u32) -> [u32; 32]
+    requires { ⌜ t ≤ 2 ^ 32 ⌝ }
+    ensures { λ r. ⌜ ((l : ℕ) → l < 4 → lane8 r l ≡ compressed (lane8 h l) (lane16 m l) (t + l) 64 d) ⌝ }
+{
+    let mut out = [0u32; 32];
+    let mut l: usize = 0;
+    while l < 4 {
+        let r = compress_block(lane(&h, l), message(&m, l), t + l as u64, d);
+        out[0 + l] = r[0];
+        out[4 + l] = r[1];
+        out[8 + l] = r[2];
+        out[12 + l] = r[3];
+        out[16 + l] = r[4];
+        out[20 + l] = r[5];
+        out[24 + l] = r[6];
+        out[28 + l] = r[7];
+        l += 1;
+    }
+    out
+}
+
+// The words of the next block of each lane.
+fn load(s: &[u8]) -> [u32; 64]
+    requires { ⌜ 3136 ≤ length (now s) ⌝ }
+    ensures { λ r. ⌜ ((l : ℕ) → l < 4 → lane16 r l ≡ wordsOf (drop (1024 * l) (now (s .entry)))) ⌝ }
+{
+    let mut m = [0u32; 64];
+    let mut i: usize = 0;
+    while i < 16 {
+        m[4 * i + 0] = le_word(s, 4 * i + 0);
+        m[4 * i + 1] = le_word(s, 4 * i + 1024);
+        m[4 * i + 2] = le_word(s, 4 * i + 2048);
+        m[4 * i + 3] = le_word(s, 4 * i + 3072);
+        i += 1;
+    }
+    m
+}
+
+// The initial chaining value in each lane.
+fn iv_lanes() -> [u32; 32]
+    ensures { λ r. ⌜ ((l : ℕ) → l < 4 → lane8 r l ≡ iv) ⌝ }
+{
+    [
+        0x6a09e667,
+        0x6a09e667,
+        0x6a09e667,
+        0x6a09e667,
+        0xbb67ae85,
+        0xbb67ae85,
+        0xbb67ae85,
+        0xbb67ae85,
+        0x3c6ef372,
+        0x3c6ef372,
+        0x3c6ef372,
+        0x3c6ef372,
+        0xa54ff53a,
+        0xa54ff53a,
+        0xa54ff53a,
+        0xa54ff53a,
+        0x510e527f,
+        0x510e527f,
+        0x510e527f,
+        0x510e527f,
+        0x9b05688c,
+        0x9b05688c,
+        0x9b05688c,
+        0x9b05688c,
+        0x1f83d9ab,
+        0x1f83d9ab,
+        0x1f83d9ab,
+        0x1f83d9ab,
+        0x5be0cd19,
+        0x5be0cd19,
+        0x5be0cd19,
+        0x5be0cd19,
+    ]
+}
+
+// The chaining values of four chunks.
+fn chunks(s: &[u8], t: u64) -> [u32; 32]
+    requires { ⌜ (length (now s) ≡ 4096) × (t ≤ 2 ^ 32) ⌝ }
+    ensures { λ r. ⌜ ((l : ℕ) → l < 4 → lane8 r l ≡ chunk (chunkAt (now (s .entry)) l) (t + l) 0) ⌝ }
+{
+    let mut h = iv_lanes();
+    let mut d: u32 = 1;
+    let mut rest = s;
+    while 3136 < rest.len() {
+        let next = step(h, load(rest), t, d);
+        h = next;
+        d = 0;
+        let more = back(rest, 64);
+        rest = more;
+    }
+    step(h, load(rest), t, d + 2)
+}
+
+// The chaining value of the tree over four whole chunks, from chunk t on.
+pub fn four(s: &[u8], t: u64, e: u32) -> [u32; 8]
+    requires { ⌜ (length (now s) ≡ 4096) × (t ≤ 2 ^ 32) × (e ≤ 8) ⌝ }
+    ensures { λ r. ⌜ r ≡ fourOf (now (s .entry)) t e ⌝ }
+{
+    let h = chunks(s, t);
+    let left = parent_value(lane(&h, 0), lane(&h, 1), 0);
+    let right = parent_value(lane(&h, 2), lane(&h, 3), 0);
+    parent_value(left, right, e)
+}
