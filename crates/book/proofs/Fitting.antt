@@ -185,7 +185,7 @@ module _ (o : Opening) (m : Message) where
   unfolding drawn
   drawn-good k s t b f = record {
     few = drawn-few o m t s;
-    near = drawn-each o m t NearCopy (λ (c : Carried). nearCarried (o .sizes) c ≡ true) (λ c w. near-echo k t b c _) (near-own k) s (near-ring s (f .rings));
+    near = drawn-each o m t NearCopy (λ (c : Carried). nearCarried (o .sizes) c ≡ true) (λ c w. near-echo k t b c 0) (near-own k) s (near-ring s (f .rings));
   }
 
   -- question 10 at a till

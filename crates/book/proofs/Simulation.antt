@@ -33,7 +33,7 @@ use Rattle.network.specs.Flush.{due, later, stops, lands, unmark, clearing, log
 use Rattle.log.specs.Log.{logged, emptyLog}
 use Rattle.network.specs.Calls.{Call, liveStep, withHandlers, ruleAdded, ruleRemoved, accept, flush, takeDown, bringUp, handlers, block, blockDuring, unblock, install, remove, decide, drain, reading}
 use Rattle.network.specs.Questions.{asked, firstNo}
-use Rattle.network.specs.Lent.{nearCopy}
+use Rattle.network.specs.Lent.{nearDelivery, nearCopy}
 use Rattle.network.specs.Tables.{cell, Tables, live, idsStart, waitingAt, rulesAt, installedAt, blocksAt, blockForm, ruleForm}
 use Rattle.network.specs.Writes.{setRings, wordsT, ruledT, marksT, pushT, rememberT, effectT, offeredT, acceptT, clearT, waitingT, recordT, recordAllT, blockT, unblockT, installT, removeT, tillT, drainT, flushT, stepT}
 use Rattle.book.proofs.Each.{both, each-at, each-keep, each-front, all-each}
@@ -120,7 +120,10 @@ module _ (o : Opening) where
 
   -- a copy in range is for a till
   pub near-to : (d : Delivery) → nearDelivery (o .sizes) d ≡ true → d .to < o .sizes .tills
-  near-to d h = ltb-true (d .to) (o .sizes .tills) (both (ltb (d .to) (o .sizes .tills)) _ (both (ltb (d .from) (o .sizes .tills)) _ h .1) .0)
+  near-to d h = ltb-true (d .to) (o .sizes .tills) (go (ltb (d .from) (o .sizes .tills)) (ltb (d .to) (o .sizes .tills)) (ltb (d .kind) (o .sizes .types)) (ltb (d .class) (o .sizes .classes)) h)
+    where
+      go : (a b c e : Bool) → (a && b && c && e) ≡ true → b ≡ true
+      go a b c e h = both a b (both (a && b) c (both (a && b && c) e h .0) .0) .1
 
   pub ids-few : (z : Sizes) (T : Tables) (t : ℕ) → Formed z T → t < z .tills → length (idsAt (live z T) t) ≤ z .seenSlots
   ids-few z T t f b =
