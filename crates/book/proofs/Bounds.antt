@@ -29,7 +29,7 @@ use Rattle.network.specs.Lists.{every, below}
 use Rattle.network.specs.Tables.{cell, nameAt, shardAt, textAt}
 use Rattle.network.specs.Limits.{rateOf, textTests, rangeTests}
 use Rattle.network.specs.Real as real
-use Rattle.network.specs.Real.{keyOf, keysOf, pricedBy, regionAt, costAt, scopeBytes, idOf, openingOf}
+use Rattle.network.specs.Real.{keyOf, keysOf, faultKeyOf, pricedBy, regionAt, costAt, scopeBytes, idOf, openingOf}
 use Rattle.network.proofs.Opened.{prices-of, region-below}
 use Rattle.network.proofs.Hash.{hash-fit}
 use Rattle.book.proofs.Each.{all-each, every-each, each-at, upTo-each, True}
@@ -148,7 +148,7 @@ module _ (x : Settings) (names : List ℕ) (ranges : every (rangeTests (x .confi
         latency-limits _ w _ (rateOf (x .config .jitter)) (rateOf (x .config .spike)) _ (record { base = c .0; fraction = fraction-in }) (c .1) .1;
     latency-words = λ from to bytes w. omega (arith, latency-words-most (keyAt from to) w (costAt x (pricedBy x) from to bytes .base .ns) (rateOf (x .config .jitter)) (rateOf (x .config .spike)));
     index = λ from to n w. omega (arith, index-words (keyAt from to) w n);
-    decide = λ m rs w. decide-words (x .faultKey) m rs w;
+    decide = λ m rs w. decide-words (faultKeyOf (x .faultKey)) m rs w;
     id = id-small;
   }
     where

@@ -1,4 +1,4 @@
--- Every cell fits its memory after every list of calls.
+-- Every cell fits its memory after a call.
 use mathlib.Core.Path.{_≡_, refl, sym, ap, _∙_, subst}
 use Prim.Native.Nat.{ℕ, zero, suc, _+_, _*_, _^_, _≤_, _<_, max}
 use native.Mathlib.Omega.{arith}
@@ -160,7 +160,7 @@ till-cells : (T : Tables) (t : ℕ) (x : Till) → CellsFit T → Fit 64 (tillFo
 till-cells T t x f h = cells-tills T f _ (fit-put 64 (T .tills) (t * tillForm .width) (tillForm .words x) (f .tills) h)
 
 -- a mask of at most 16 bits
-mask-small : (mask n : ℕ) → n ≤ 16 → within mask n ≡ true → mask < 2 ^ 64
+pub mask-small : (mask n : ℕ) → n ≤ 16 → within mask n ≡ true → mask < 2 ^ 64
 mask-small mask n h e = omega (arith, ltb-true mask (2 ^ n) e, pow-mono h)
 
 block-reads : (l : List ℕ) → Fit 64 l → Fit 64 (blocks.words (blocks.firstBlock l))

@@ -24,14 +24,13 @@ use Rattle.marks.proofs.Rising.{length-placed}
 use Rattle.marks.specs.Marks.{idsOf, placed, removed, position, found}
 use Rattle.rings.specs.Rings as rings
 use Rattle.rings.specs.declared.Entry.{Entry}
-use Rattle.scan.specs.Scan.{nearEntry}
 use Rattle.rules.specs.Rules.{ruleSlots, ruleWidth, firedWord, fireTable}
 use Rattle.decide.specs.Decide.{Decision}
 use Rattle.latency.specs.Latency.{longest}
 use Rattle.network.specs.Opening.{Draw, Sizes, Opening, link, latestNow, lastNumber, mostWords, longestWire}
 use Rattle.network.specs.Live.{numbered, Carried, Live, idsAt, marked, stopped, ringsOf}
 use Rattle.network.specs.Accept.{Message, Echoes, Drawn, drawn, context, carriedOf, ringFor, isEmpty, timed, replayed, echoed, echoesOf, original, echo, Class, deduplicated, partition, loss, fault, sent, classOf, copies, effect, offered}
-use Rattle.network.specs.Lent.{limitsOf}
+use Rattle.network.specs.Lent.{nearCarried}
 use Rattle.network.specs.Tables.{cell, Tables, live, idsStart, sequenceAt, waitingAt, rulesAt, faultWordsAt}
 use Rattle.network.specs.Writes.{setNet, setTills, setWords, setSeen, setWaiting, setRings, setRules, setBlocks, setLog, netT, wordsT, marksT, waitingT, ruledT, pushT, rememberT, effectT, offeredT, acceptT}
 use Rattle.book.specs.Cells.{Fit, CellsFit}
@@ -265,7 +264,6 @@ module _ (o : Opening) (lim : Limited (o .sizes)) (g : DrawsFit o) (m : Message)
       }
 
   ring-good : (z : Sizes) (T : Tables) → z ≡ o .sizes → CellsFit T → (s : Live) → live z T ≡ s → Fits (o .sizes) s → Each Good (ringFor s m)
-  unfolding nearEntry
   ring-good z T e f s h fits =
       let at : ℕ = rings.numberOf (m .kind) (m .scope) in
       let near = each-at (NearRing (o .sizes)) (s .rings) at [] (fits .rings .near) tt in

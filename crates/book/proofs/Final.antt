@@ -49,7 +49,7 @@ module _ (o : Opening) where
     tables-are : callTables T c ≡ tablesBy o T c
     tables-are = ap (λ (q : Opening). tablesBy q T c) (h .fixed .opening)
 
-    number-is : numberOf o T c ≡ firstNo (asked o s c)
+    pub number-is : numberOf o T c ≡ firstNo (asked o s c)
     number-is = rw (yes1 o T s h c) (ap (λ (q : Live). firstNo (asked o q c)) (h .wrote .holds))
 
   answer-is : (T : Tables) (b : Book) (c : Call) → live (o .sizes) T ≡ b .live → (r : Bool) → answerT o r T c ≡ expected o b c r
@@ -177,7 +177,7 @@ module _ (o : Opening) where
   -- ---- Every list
 
   module _ (lim : Limited (o .sizes)) where
-    held-after : (b : Book) (T : Tables) (i : Item) → Held o T (b .live) → Admitted i → Held o (tablesAfter T i) (bookAfter o b T i .live)
+    pub held-after : (b : Book) (T : Tables) (i : Item) → Held o T (b .live) → Admitted i → Held o (tablesAfter T i) (bookAfter o b T i .live)
     held-after b T (own c) h a =
         subst (λ (q : Opening). Held o (tablesBy q T c) (bookStep o b c (isNumber (numberOf q T c)) .live)) (sym (h .fixed .opening))
         (held-step lim T b c h (numberOf o T c) (number-is T (b .live) h c))

@@ -46,7 +46,7 @@ module _ (bits : ℕ) where
       each-append In (take (a - by) ws) (take (z - a) (drop a ws) ++ drop (z - by) ws) (each-take In (a - by) ws e)
       (each-append In (take (z - a) (drop a ws)) (drop (z - by) ws) (each-take In (z - a) (drop a ws) (each-drop In a ws e)) (each-drop In (z - by) ws e))
 
-  fit-flat : {R : Type 0} (words : R → List ℕ) (rs : List R) → Each (λ (r : R). Fit bits (words r)) rs → Fit bits (flat words rs)
+  pub fit-flat : {R : Type 0} (words : R → List ℕ) (rs : List R) → Each (λ (r : R). Fit bits (words r)) rs → Fit bits (flat words rs)
   fit-flat words [] e = tt
   fit-flat words (r ∷ rs) e = each-append In (words r) (flat words rs) (e .0) (fit-flat words rs (e .1))
 

@@ -30,8 +30,7 @@ use Rattle.network.specs.Live.{numbered, Carried, Till, Engine, Live, ringsOf, 
 use Rattle.log.specs.Log as log
 use Rattle.log.specs.Log.{Log}
 use Rattle.network.specs.Accept.{Message, Drawn, drawn, original, echo, carriedOf, ringFor, Class, deduplicated, partition, loss, fault, sent, classOf, copies, insertAll, mark, remembered, ruled, effect, offered, liveAfter}
-use Rattle.network.specs.Lent.{nearTill, nearBlock, limitsOf}
-use Rattle.scan.specs.Scan.{near, nearEntry}
+use Rattle.network.specs.Lent.{nearTill, nearDelivery, nearCopy, nearBlock, nearCarried}
 use Rattle.book.proofs.Each.{both, join, each-set, each-at, each-push}
 use Rattle.book.proofs.Marks.{found-placed}
 use Rattle.book.proofs.Counting.{length-numbered}
@@ -113,7 +112,7 @@ module _ (z : Sizes) where
     pub near : Each (λ (b : BlockWindow). nearBlock z b ≡ true) (e .blocks)
 
   abbrev pub NearRing : List Carried → Type 0
-  NearRing l = Each (λ (c : Carried). nearEntry (limitsOf z) c ≡ true) l
+  NearRing l = Each (λ (c : Carried). nearCarried z c ≡ true) l
 
   pub record RingsFit (r : List (List Carried)) : Type 0 where
     pub many : length r ≡ ringsOf z
@@ -122,12 +121,12 @@ module _ (z : Sizes) where
 
   pub record QueueFits (w : List Copy) : Type 0 where
     pub few : length w ≤ z .waitSlots
-    pub near : Each (λ (c : Copy). near (limitsOf z) (c .delivery) ≡ true) w
+    pub near : Each (λ (c : Copy). nearCopy z c ≡ true) w
 
   pub record LogFits (l : Log) : Type 0 where
     pub records : length (l .records) ≤ z .logSlots
     pub tallies : length (l .tallies) ≡ log.classes
-    pub near : Each (λ (d : Delivery). near (limitsOf z) d ≡ true) (l .records)
+    pub near : Each (λ (d : Delivery). nearDelivery z d ≡ true) (l .records)
 
   pub record Fits (s : Live) : Type 0 where
     pub tills : length (s .tills) ≡ z .tills
@@ -159,22 +158,19 @@ module _ (o : Opening) (m : Message) where
   few-copies s d t h = omega (arith, length-numbered (s .sequence) (original m t (d .latency .value) ∷ d .echoes .copies))
 
   abbrev pub NearCopy : Copy → Type 0
-  NearCopy c = near (limitsOf (o .sizes)) (c .delivery) ≡ true
+  NearCopy c = nearCopy (o .sizes) c ≡ true
 
-  near-numbered : (n : ℕ) (ds : List Copy) → Each NearCopy ds → Each (λ (c : Copy). near (limitsOf (o .sizes)) (c .delivery) ≡ true) (numbered n ds)
+  near-numbered : (n : ℕ) (ds : List Copy) → Each NearCopy ds → Each (λ (c : Copy). nearCopy (o .sizes) c ≡ true) (numbered n ds)
   near-numbered n [] e = tt
   near-numbered n (d ∷ ds) e = (e .0, near-numbered (suc n) ds (e .1))
 
   near-original : NearMessage (o .sizes) m → (t l : ℕ) → t < o .sizes .tills → NearCopy (original m t l)
-  unfolding near
   near-original k t l b = rw (k .from, lt-ltb t (o .sizes .tills) b, k .kind, k .class)
 
-  near-echo : NearMessage (o .sizes) m → (t : ℕ) → t < o .sizes .tills → (c : Carried) (l : ℕ) → nearEntry (limitsOf (o .sizes)) c ≡ true → NearCopy (echo m t c l)
-  unfolding near nearEntry
+  near-echo : NearMessage (o .sizes) m → (t : ℕ) → t < o .sizes .tills → (c : Carried) (l : ℕ) → nearCarried (o .sizes) c ≡ true → NearCopy (echo m t c l)
   near-echo k t b c l h = rw (k .from, lt-ltb t (o .sizes .tills) b, k .kind, both (ltb (c .class) (o .sizes .classes)) (leb (c .wire) longestWire) h .0)
 
-  near-own : NearMessage (o .sizes) m → nearEntry (limitsOf (o .sizes)) (carriedOf m) ≡ true
-  unfolding nearEntry
+  near-own : NearMessage (o .sizes) m → nearCarried (o .sizes) (carriedOf m) ≡ true
   near-own k = join _ _ (k .class) (k .wire)
 
   near-ring : (s : Live) → RingsFit (o .sizes) (s .rings) → NearRing (o .sizes) (ringFor s m)
@@ -189,7 +185,7 @@ module _ (o : Opening) (m : Message) where
   unfolding drawn
   drawn-good k s t b f = record {
     few = drawn-few o m t s;
-    near = drawn-each o m t NearCopy (λ (c : Carried). nearEntry (limitsOf (o .sizes)) c ≡ true) (λ c w. near-echo k t b c _) (near-own k) s (near-ring s (f .rings));
+    near = drawn-each o m t NearCopy (λ (c : Carried). nearCarried (o .sizes) c ≡ true) (λ c w. near-echo k t b c 0) (near-own k) s (near-ring s (f .rings));
   }
 
   -- question 10 at a till
@@ -213,7 +209,7 @@ module _ (o : Opening) (m : Message) where
         many = length-set r at (push slots ring (carriedOf m)) ∙ f .many;
         small = each-set (λ (l : List Carried). length l ≤ slots) r at (push slots ring (carriedOf m)) (f .small) (length-push slots ring (carriedOf m) (each-at (λ (l : List Carried). length l ≤ slots) r at [] (f .small) (omega arith)));
         near = each-set (NearRing (o .sizes)) r at (push slots ring (carriedOf m)) (f .near)
-            (each-push (λ (c : Carried). nearEntry (limitsOf (o .sizes)) c ≡ true) slots ring (carriedOf m) (each-at (NearRing (o .sizes)) r at [] (f .near) tt) (near-own k));
+            (each-push (λ (c : Carried). nearCarried (o .sizes) c ≡ true) slots ring (carriedOf m) (each-at (NearRing (o .sizes)) r at [] (f .near) tt) (near-own k));
       }
       go false = f
 
@@ -234,7 +230,7 @@ module _ (o : Opening) (m : Message) where
       words = length-set (s .words) _ _ ∙ f .words;
       queue = record {
         few = omega (arith, length-insertAll (copies o m s d t) (s .waiting), few-copies s d t (g .few));
-        near = each-insertAll (λ (c : Copy). near (limitsOf (o .sizes)) (c .delivery) ≡ true) (copies o m s d t) (s .waiting)
+        near = each-insertAll (λ (c : Copy). nearCopy (o .sizes) c ≡ true) (copies o m s d t) (s .waiting)
             (near-numbered (s .sequence) (original m t (d .latency .value) ∷ d .echoes .copies) (near-original k t (d .latency .value) b, g .near)) (f .queue .near);
       };
       log = f .log;

@@ -8,9 +8,9 @@ use lib.Dec.{eqb, leb, ltb}
 use lib.ListN.{length, getD}
 use borrow.Author.Tests.{eq-eqb, le-leb}
 use Rattle.rows.specs.Rows.{allOf}
-use Rattle.rows.specs.Lists.{Each, upTo}
+use Rattle.rows.specs.Lists.{Each}
 use Rattle.rows.specs.Table.{rowsOf}
-use Rattle.rows.proofs.Lists.{getD-upTo}
+use Rattle.rows.proofs.Lists.{each-map}
 use Rattle.delivery.specs.declared.Delivery.{Delivery}
 use Rattle.waiting.specs.Waiting as waiting
 use Rattle.waiting.specs.declared.Copy.{Copy}
@@ -25,8 +25,7 @@ use Rattle.network.specs.Opening.{Sizes, Opening}
 use Rattle.network.specs.Live.{Carried, Till, Live, ringsOf}
 use Rattle.network.specs.Tables.{cell, Tables, live}
 use Rattle.network.specs.Calls.{Call, Reading, isBlocked, transit, fired, isDown, nextTime, tallyOf, waitingCopies, marksOf, accept, flush, takeDown, bringUp, handlers, block, blockDuring, unblock, install, remove, decide, drain, reading}
-use Rattle.network.specs.Lent.{nearTill, nearBlock, setupTests, netTests, namesTests, tillsTests, wordsTests, keysTests, pricesTests, seenTests, waitingTests, ringsTests, rulesTests, blocksTests, logTests, readingTests, lentTests, everyOf, question1, limitsOf}
-use Rattle.scan.specs.Scan.{near, nearEntry, copiesNear, logNear, ringNear, ringsNear, column, columnWithin}
+use Rattle.network.specs.Lent.{nearTill, nearDelivery, nearCopy, nearBlock, nearCarried, setupTests, netTests, namesTests, tillsTests, wordsTests, keysTests, pricesTests, seenTests, waitingTests, ringsTests, rulesTests, blocksTests, logTests, readingTests, lentTests, everyOf, question1}
 use Rattle.book.proofs.Each.{each-at, each-all, each-every, each-upTo, join}
 use Rattle.book.proofs.Fitting.{Fits, NearRing}
 use Rattle.book.proofs.Formed.{fourOf, Fixed, Wrote}
@@ -58,32 +57,27 @@ module _ (o : Opening) (T : Tables) (s : Live) (h : Held o T s) where
   words = each-every (wordsTests z T) (eq-eqb _ _ (h .wrote .formed .words), tt)
 
   seen : Passed (seenTests z T)
-  unfolding columnWithin
   seen =
       let f = h .wrote .formed .seen in
-      let counts = each-upTo (λ c. leb c (z .seenSlots) ≡ true) (z .tills) (λ i. cell (T .seen) (0 + i * 1)) (λ t l. at t (f .counts t l)) in
-      each-every (seenTests z T) (eq-eqb _ _ (f .size), (each-all (λ c. leb c (z .seenSlots)) (column (T .seen) 0 1 (z .tills)) counts, tt))
-    where
-      at : (t : ℕ) → cell (T .seen) t ≤ o .sizes .seenSlots → leb (cell (T .seen) (0 + t * 1)) (o .sizes .seenSlots) ≡ true
-      at t l = let e : 0 + t * 1 ≡ t = omega arith in rw e (le-leb (cell (T .seen) t) (o .sizes .seenSlots) l)
+      each-every (seenTests z T) (
+        eq-eqb _ _ (f .size),
+        (each-all (λ t. leb (cell (T .seen) t) (z .seenSlots)) (below (z .tills)) (each-upTo (λ t. leb (cell (T .seen) t) (z .seenSlots) ≡ true) (z .tills) (λ i. i) (λ t l. le-leb _ _ (f .counts t l))), tt),
+      )
 
   waits : Passed (waitingTests z T)
-  unfolding copiesNear
-  waits = each-every (waitingTests z T) (eq-eqb _ _ (h .wrote .formed .waiting), (held (λ (q : Live). q .waiting) (λ (c : Copy). near (limitsOf z) (c .delivery)) (h .fits .queue .near), tt))
-
-  ring-near : (r : ℕ) → r < ringsOf z → allOf (nearEntry (limitsOf z)) (rings.entries (ringsOf z) (T .rings) r) ≡ true
-  ring-near r l =
-      let e : rings.entries (ringsOf z) (T .rings) r ≡ getD (s .rings) r [] =
-      sym (getD-upTo (ringsOf z) (rings.entries (ringsOf z) (T .rings)) r [] l) ∙ ap (λ (q : Live). getD (q .rings) r []) (h .wrote .holds) in
-      ap (allOf (nearEntry (limitsOf z))) e ∙ each-all (nearEntry (limitsOf z)) (getD (s .rings) r []) (each-at (NearRing z) (s .rings) r [] (h .fits .rings .near) tt)
+  waits = each-every (waitingTests z T) (eq-eqb _ _ (h .wrote .formed .waiting), (held (λ (q : Live). q .waiting) (nearCopy z) (h .fits .queue .near), tt))
 
   ring : Passed (ringsTests z T)
-  unfolding ringsNear ringNear
   ring =
       let f = h .wrote .formed .rings in
-      let test : ℕ → Bool = λ r. soundAt rings.slots (rings.headOf r) (T .rings) && allOf (nearEntry (limitsOf z)) (rings.entries (ringsOf z) (T .rings) r) in
-      let one : (r : ℕ) → r < ringsOf z → test r ≡ true = λ r l. join _ _ (sound-true rings.slots (rings.headOf r) (T .rings) (f .heads r l)) (ring-near r l) in
-      each-every (ringsTests z T) (eq-eqb _ _ (f .size), (each-all test (upTo (ringsOf z) (λ r. r)) (each-upTo (λ r. test r ≡ true) (ringsOf z) (λ i. i) one), tt))
+      each-every (ringsTests z T) (
+        eq-eqb _ _ (f .size),
+        (
+          each-all (λ r. soundAt rings.slots (rings.headOf r) (T .rings)) (below (ringsOf z))
+              (each-upTo (λ r. soundAt rings.slots (rings.headOf r) (T .rings) ≡ true) (ringsOf z) (λ i. i) (λ r l. sound-true rings.slots (rings.headOf r) (T .rings) (f .heads r l))),
+          (held (λ (q : Live). q .rings) (allOf (nearCarried z)) (each-map (NearRing z) (λ (l : List Carried). allOf (nearCarried z) l ≡ true) (s .rings) (λ l. each-all (nearCarried z) l) (h .fits .rings .near)), tt),
+        ),
+      )
 
   rules : Passed (rulesTests z T)
   rules = each-every (rulesTests z T) (eq-eqb _ _ (h .wrote .formed .rules), tt)
@@ -92,10 +86,9 @@ module _ (o : Opening) (T : Tables) (s : Live) (h : Held o T s) where
   windows = each-every (blocksTests z T) (eq-eqb _ _ (h .wrote .formed .blocks), (held (λ (q : Live). q .engine .blocks) (nearBlock z) (h .fits .engine .near), tt))
 
   logs : Passed (logTests z T)
-  unfolding logNear
   logs =
       let f = h .wrote .formed .log in
-      each-every (logTests z T) (eq-eqb _ _ (f .size), (join _ _ (log-sound (z .logSlots) (T .log) (f .head)) (held (λ (q : Live). q .log .records) (near (limitsOf z)) (h .fits .log .near)), tt))
+      each-every (logTests z T) (eq-eqb _ _ (f .size), (log-sound (z .logSlots) (T .log) (f .head), (held (λ (q : Live). q .log .records) (nearDelivery z) (h .fits .log .near), tt)))
 
   -- ---- The tables lent to each call
 

@@ -33,8 +33,7 @@ use Rattle.network.specs.Flush.{due, later, stops, lands, unmark, clearing, log
 use Rattle.log.specs.Log.{logged, emptyLog}
 use Rattle.network.specs.Calls.{Call, liveStep, withHandlers, ruleAdded, ruleRemoved, accept, flush, takeDown, bringUp, handlers, block, blockDuring, unblock, install, remove, decide, drain, reading}
 use Rattle.network.specs.Questions.{asked, firstNo}
-use Rattle.network.specs.Lent.{limitsOf}
-use Rattle.scan.specs.Scan.{near}
+use Rattle.network.specs.Lent.{nearDelivery, nearCopy}
 use Rattle.network.specs.Tables.{cell, Tables, live, idsStart, waitingAt, rulesAt, installedAt, blocksAt, blockForm, ruleForm}
 use Rattle.network.specs.Writes.{setRings, wordsT, ruledT, marksT, pushT, rememberT, effectT, offeredT, acceptT, clearT, waitingT, recordT, recordAllT, blockT, unblockT, installT, removeT, tillT, drainT, flushT, stepT}
 use Rattle.book.proofs.Each.{both, each-at, each-keep, each-front, all-each}
@@ -120,9 +119,11 @@ module _ (o : Opening) where
   -- ---- Flush
 
   -- a copy in range is for a till
-  pub near-to : (d : Delivery) → near (limitsOf (o .sizes)) d ≡ true → d .to < o .sizes .tills
-  unfolding near
-  near-to d h = ltb-true (d .to) (o .sizes .tills) (both (ltb (d .to) (o .sizes .tills)) _ (both (ltb (d .from) (o .sizes .tills)) _ h .1) .0)
+  pub near-to : (d : Delivery) → nearDelivery (o .sizes) d ≡ true → d .to < o .sizes .tills
+  near-to d h = ltb-true (d .to) (o .sizes .tills) (go (ltb (d .from) (o .sizes .tills)) (ltb (d .to) (o .sizes .tills)) (ltb (d .kind) (o .sizes .types)) (ltb (d .class) (o .sizes .classes)) h)
+    where
+      go : (a b c e : Bool) → (a && b && c && e) ≡ true → b ≡ true
+      go a b c e h = both a b (both (a && b) c (both (a && b && c) e h .0) .0) .1
 
   pub ids-few : (z : Sizes) (T : Tables) (t : ℕ) → Formed z T → t < z .tills → length (idsAt (live z T) t) ≤ z .seenSlots
   ids-few z T t f b =
@@ -134,7 +135,7 @@ module _ (o : Opening) where
       short : (n : ℕ) (l : List ℕ) → length (take n l) ≤ n
       short n l = omega (arith, length-take n l)
 
-  clear-wrote : (s₀ : Live) (cs : List Copy) (T : Tables) (s : Live) → Wrote (o .sizes) T s → Each (λ (c : Copy). near (limitsOf (o .sizes)) (c .delivery) ≡ true) cs
+  clear-wrote : (s₀ : Live) (cs : List Copy) (T : Tables) (s : Live) → Wrote (o .sizes) T s → Each (λ (c : Copy). nearCopy (o .sizes) c ≡ true) cs
       → Wrote (o .sizes) (clearT (o .sizes) s₀ cs T) (withSeen s (clearing s₀ cs (s .seen)))
   clear-wrote s₀ [] T s w e = w
   clear-wrote s₀ (c ∷ cs) T s w e =
@@ -158,7 +159,7 @@ module _ (o : Opening) where
   flush-wrote now T s w f =
       let z = o .sizes in
       let s₀ = live z T in
-      let near = subst (λ (q : Live). Each (λ (c : Copy). near (limitsOf z) (c .delivery) ≡ true) (due now q)) (sym (w .holds)) (each-front (λ (c : Copy). near (limitsOf z) (c .delivery) ≡ true) (onTime now) (s .waiting) (f .queue .near)) in
+      let near = subst (λ (q : Live). Each (λ (c : Copy). nearCopy z c ≡ true) (due now q)) (sym (w .holds)) (each-front (λ (c : Copy). nearCopy z c ≡ true) (onTime now) (s .waiting) (f .queue .near)) in
       let T₁ = clearT z s₀ (due now s₀) T in
       let x = clear-wrote s₀ (due now s₀) T s w near in
       let left = later now s₀ in

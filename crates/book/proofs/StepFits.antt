@@ -33,8 +33,7 @@ use Rattle.log.specs.Log as log
 use Rattle.log.specs.Log.{Log, logged, tallied, wrap, noTally}
 use Rattle.network.specs.Calls.{Call, liveStep, withHandlers, accept, flush, takeDown, bringUp, handlers, block, blockDuring, unblock, install, remove, decide, drain, reading}
 use Rattle.network.specs.Questions.{asked, firstNo}
-use Rattle.network.specs.Lent.{nearTill, nearBlock, limitsOf}
-use Rattle.scan.specs.Scan.{near}
+use Rattle.network.specs.Lent.{nearTill, nearDelivery, nearCopy, nearBlock}
 use Rattle.book.proofs.Each.{both, join, each-set, each-at, each-replicate, each-append, each-push, each-keep, each-front, each-behind, each-upTo, all-each}
 use Rattle.book.proofs.Sound.{selected-below, length-clearing}
 use Rattle.book.proofs.Marks.{clearing-rises}
@@ -53,7 +52,7 @@ clearing-small n s (c ∷ cs) seen e = clearing-small n s cs (cond (stops s c &&
     go false = e
 
 module _ (z : Sizes) where
-  logged-fits : (n : ℕ) (l : Log) (d : Delivery) → n ≡ z .logSlots → near (limitsOf z) d ≡ true → LogFits z l → LogFits z (logged n l d)
+  logged-fits : (n : ℕ) (l : Log) (d : Delivery) → n ≡ z .logSlots → nearDelivery z d ≡ true → LogFits z l → LogFits z (logged n l d)
   logged-fits n l d e k f = go (eqb n 0)
     where
       new : Log
@@ -68,10 +67,10 @@ module _ (z : Sizes) where
       go false = record {
         records = rw (sym e) (length-push n (l .records) d (rw e (f .records)));
         tallies = length-set (l .tallies) (d .class) _ ∙ f .tallies;
-        near = each-push (λ (x : Delivery). near (limitsOf z) x ≡ true) n (l .records) d (f .near) k;
+        near = each-push (λ (x : Delivery). nearDelivery z x ≡ true) n (l .records) d (f .near) k;
       }
 
-  log-fits : (cs : List Copy) (l : Log) → Each (λ (c : Copy). near (limitsOf z) (c .delivery) ≡ true) cs → LogFits z l → LogFits z (loggedAll (z .logSlots) l cs)
+  log-fits : (cs : List Copy) (l : Log) → Each (λ (c : Copy). nearCopy z c ≡ true) cs → LogFits z l → LogFits z (loggedAll (z .logSlots) l cs)
   log-fits [] l e f = f
   log-fits (c ∷ cs) l e f = log-fits cs (logged (z .logSlots) l (c .delivery)) (e .1) (logged-fits (z .logSlots) l (c .delivery) refl (e .0) f)
 
@@ -165,9 +164,9 @@ module _ (o : Opening) where
     words = f .words;
     queue = record {
       few = le-trans (length-behind (onTime now) (s .waiting)) (f .queue .few);
-      near = each-behind (λ (c : Copy). near (limitsOf (o .sizes)) (c .delivery) ≡ true) (onTime now) (s .waiting) (f .queue .near);
+      near = each-behind (λ (c : Copy). nearCopy (o .sizes) c ≡ true) (onTime now) (s .waiting) (f .queue .near);
     };
-    log = log-fits (o .sizes) (lands s (due now s)) (s .log) (each-keep (λ (c : Copy). near (limitsOf (o .sizes)) (c .delivery) ≡ true) _ (due now s) (each-front (λ (c : Copy). near (limitsOf (o .sizes)) (c .delivery) ≡ true) (onTime now) (s .waiting) (f .queue .near))) (f .log);
+    log = log-fits (o .sizes) (lands s (due now s)) (s .log) (each-keep (λ (c : Copy). nearCopy (o .sizes) c ≡ true) _ (due now s) (each-front (λ (c : Copy). nearCopy (o .sizes) c ≡ true) (onTime now) (s .waiting) (f .queue .near))) (f .log);
   }
   step-fits lim s (takeDown t) h f = record {
     tills = length-set (s .tills) t _ ∙ f .tills;

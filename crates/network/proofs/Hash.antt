@@ -11,7 +11,7 @@ use lib.Pow.{pow-pos}
 use lib.ListN.{length, getD, set, take, drop, length-drop, length-take}
 use Rattle.word.specs.Word.{add32, xor32, rotr32}
 use Rattle.rows.specs.Lists.{Each}
-use Rattle.compress.specs.Compress.{iv, compressed, folded, roundOf, rounds, columns, diagonals, mixAt, mixOf, halfOf, putQuad, initial, permuted}
+use Rattle.compress.specs.Compress.{iv, compressed, folded, rounds, roundOf, columns, diagonals, mixAt, mixOf, halfOf, putQuad, initial, permuted}
 use Rattle.compress.specs.declared.Quad.{Quad}
 use Rattle.chunk.specs.Chunk.{chunk, blocks, parent, wordsOf}
 use Rattle.digest.specs.Blake3.{hash, tree, pick}
@@ -73,16 +73,16 @@ mix-small v a b c d x y h =
     let k : SmallQuad (halfOf (halfOf q x 16 12) y 8 7) = half-small (halfOf q x 16 12) y 8 7 (half-small q x 16 12 (record { a = h .at a; b = h .at b; c = h .at c; d = h .at d })) in
     small-set d (r .d) (small-set c (r .c) (small-set b (r .b) (small-set a (r .a) h (k .a)) (k .b)) (k .c)) (k .d)
 
-round-small : (v m : List ℕ) → Small v → Small (diagonals (columns v m) m)
-unfolding columns diagonals
+round-small : (v m : List ℕ) → Small v → Small (roundOf v m)
+unfolding roundOf columns diagonals
 round-small v m h =
     mix-small _ 3 4 9 14 _ _ (mix-small _ 2 7 8 13 _ _ (mix-small _ 1 6 11 12 _ _ (mix-small _ 0 5 10 15 _ _
     (mix-small _ 3 7 11 15 _ _ (mix-small _ 2 6 10 14 _ _ (mix-small _ 1 5 9 13 _ _ (mix-small v 0 4 8 12 _ _ h)))))))
 
 rounds-small : (n : ℕ) (v m : List ℕ) → Small v → Small (rounds n v m)
-unfolding rounds roundOf
+unfolding rounds
 rounds-small zero v m h = h
-rounds-small (suc n) v m h = rounds-small n (diagonals (columns v m) m) (permuted m) (round-small v m h)
+rounds-small (suc n) v m h = rounds-small n (roundOf v m) (permuted m) (round-small v m h)
 
 iv-small : Small iv
 unfolding iv

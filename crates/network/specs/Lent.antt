@@ -7,18 +7,20 @@ use lib.Dec.{eqb, leb, ltb}
 use lib.ListN.{length}
 use Rattle.rows.specs.Rows.{allOf}
 use Rattle.rows.specs.Table.{rowsOf}
+use Rattle.delivery.specs.declared.Delivery.{Delivery}
+use Rattle.delivery.specs.Delivery as delivery
 use Rattle.waiting.specs.Waiting as waiting
+use Rattle.waiting.specs.declared.Copy.{Copy}
 use Rattle.rings.specs.Rings as rings
 use Rattle.log.specs.Log as log
 use Rattle.blocks.specs.declared.BlockWindow.{BlockWindow}
-use Rattle.scan.specs.Scan.{copiesNear, logNear, ringsNear, columnWithin}
-use Rattle.scan.specs.declared.Limits.{Limits}
+use Rattle.ring.specs.Ring.{soundAt}
 use Rattle.geography.specs.Geography.{atLeastOne, linkIn, linkAdmitted}
 use Rattle.rules.specs.Rules.{ruleSlots}
 use Rattle.blocks.specs.Blocks.{blockSlots}
 use Rattle.network.specs.Lists.{every, below, within}
 use Rattle.network.specs.Opening.{Sizes, links, longestWire}
-use Rattle.network.specs.Live.{Till, ringsOf}
+use Rattle.network.specs.Live.{Carried, Till, ringsOf}
 use Rattle.network.specs.Calls.{Call, Reading, isBlocked, transit, fired, isDown, nextTime, tallyOf, waitingCopies, marksOf, accept, flush, takeDown, bringUp, handlers, block, blockDuring, unblock, install, remove, decide, drain, reading}
 use Rattle.network.specs.Tables.{cell, Tables, setupWidth, sizesAt, settingsAt, netWidth, waitingAt, rulesAt, blocksAt, namesWidth, tillForm, ruleForm, blockForm}
 use Rattle.network.specs.Limits.{sizeTests, textTests, rangeTests}
@@ -37,12 +39,17 @@ module _ (z : Sizes) where
   abbrev pub nearTill : Till → Bool
   nearTill t = within (t .gossip) (z .types) && within (t .host) (z .types) && within (t .shards) (z .shards)
 
-  -- tills, types and classes, and the longest wire
-  abbrev pub limitsOf : Limits
-  limitsOf = record { hosts = z .tills; kinds = z .types; classes = z .classes; wire = longestWire }
+  abbrev pub nearDelivery : Delivery → Bool
+  nearDelivery d = ltb (d .from) (z .tills) && ltb (d .to) (z .tills) && ltb (d .kind) (z .types) && ltb (d .class) (z .classes)
+
+  abbrev pub nearCopy : Copy → Bool
+  nearCopy c = nearDelivery (c .delivery)
 
   abbrev pub nearBlock : BlockWindow → Bool
   nearBlock b = ltb (b .from) (z .tills) && ltb (b .to) (z .tills)
+
+  abbrev pub nearCarried : Carried → Bool
+  nearCarried c = ltb (c .class) (z .classes) && leb (c .wire) longestWire
 
 -- ---- Each table
 
@@ -64,13 +71,15 @@ module _ (z : Sizes) (T : Tables) where
   keysTests = hasLength (T .keys) (z .tills * z .tills * keyWidth) ∷ []
 
   abbrev pub seenTests : List Bool
-  seenTests = hasLength (T .seen) (z .tills + z .tills * z .seenSlots) ∷ columnWithin (T .seen) 0 1 (z .tills) (z .seenSlots) ∷ []
+  seenTests = hasLength (T .seen) (z .tills + z .tills * z .seenSlots) ∷ allOf (λ t. leb (cell (T .seen) t) (z .seenSlots)) (below (z .tills)) ∷ []
 
   abbrev pub waitingTests : List Bool
-  waitingTests = hasLength (T .waiting) (z .waitSlots * waiting.width) ∷ copiesNear (limitsOf z) (T .waiting) (cell (T .net) waitingAt) ∷ []
+  waitingTests = hasLength (T .waiting) (z .waitSlots * waiting.width) ∷ allOf (nearCopy z) (rowsOf waiting.form (T .waiting) (cell (T .net) waitingAt)) ∷ []
 
   abbrev pub ringsTests : List Bool
-  ringsTests = hasLength (T .rings) (ringsOf z * (rings.headWidth + rings.span)) ∷ ringsNear (limitsOf z) (ringsOf z) (T .rings) ∷ []
+  ringsTests =
+      hasLength (T .rings) (ringsOf z * (rings.headWidth + rings.span)) ∷ allOf (λ r. soundAt rings.slots (rings.headOf r) (T .rings)) (below (ringsOf z))
+      ∷ allOf (allOf (nearCarried z)) (rings.allRings (ringsOf z) (T .rings)) ∷ []
 
   -- a card may name a till or a type that doesn't exist
   abbrev pub rulesTests : List Bool
@@ -80,7 +89,9 @@ module _ (z : Sizes) (T : Tables) where
   blocksTests = hasLength (T .blocks) (blockSlots * blockForm .width) ∷ allOf (nearBlock z) (rowsOf blockForm (T .blocks) (cell (T .net) blocksAt)) ∷ []
 
   abbrev pub logTests : List Bool
-  logTests = hasLength (T .log) (log.sizeOf (z .logSlots)) ∷ logNear (limitsOf z) (z .logSlots) (T .log) ∷ []
+  logTests =
+      hasLength (T .log) (log.sizeOf (z .logSlots)) ∷ log.soundLog (z .logSlots) (T .log)
+      ∷ allOf (nearDelivery z) (log.recordsOf (z .logSlots) (T .log)) ∷ []
 
 -- the prices that a plan can give, and regions below their number
 abbrev pub pricesTests : Tables → List Bool
