@@ -1,14 +1,13 @@
 -- The words of a digest fit 32 bits.
-use mathlib.Core.Path.{_≡_, refl, sym, ap, _∙_, subst}
 use Prim.Native.Nat.{ℕ, zero, suc, _+_, _-_, _*_, _/_, _%_, _^_, _≤_, _<_}
 use native.Mathlib.Omega.{arith}
-use native.Mathlib.Nat.{le-trans, lt-of-le-of-lt, div-le-self, mod-lt, pow-suc}
+use native.Mathlib.Nat.{lt-of-le-of-lt, div-le-self, mod-lt, pow-suc}
 use mathlib.Core.Bool.{Bool, true, false}
-use mathlib.Core.List.{List, [], _∷_, _++_}
+use mathlib.Core.List.{List, [], _∷_}
 use lib.Dec.{leb, lit<}
-use lib.Bits.{bitXor, bitOr, xor-lt, or-lt}
+use lib.Bits.{xor-lt, or-lt}
 use lib.Pow.{pow-pos}
-use lib.ListN.{length, getD, set, take, drop, length-drop, length-take}
+use lib.ListN.{length, getD, set, take, drop, length-drop}
 use Rattle.word.specs.Word.{add32, xor32, rotr32}
 use Rattle.rows.specs.Lists.{Each}
 use Rattle.compress.specs.Compress.{iv, compressed, folded, rounds, roundOf, columns, diagonals, mixAt, mixOf, halfOf, putQuad, initial, permuted}
