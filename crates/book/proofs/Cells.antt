@@ -198,8 +198,7 @@ rule-fits : (s : List ℕ) (ever : ℕ) → Fit 8 s → ever < 2 ^ 64 → Fit 64
 unfolding card.specOf
 rule-fits s ever e h =
     let at = card.placesOf (card.mapOf s) in
-    let m : ℕ = card.mapOf s in
-    (
+    let m : ℕ = card.mapOf s in (
       h,
       (
         omega (arith, cell-fits 8 s 0 e),

@@ -115,8 +115,7 @@ set-most (x ∷ l) (suc i) v (suc j) B h k = set-most l i v j B h k
 numbered-fit : (n : ℕ) (cs : List Copy) → n + length cs < 2 ^ 64 → Each CopyFit cs → Each CopyFit (numbered n cs)
 numbered-fit n [] h e = tt
 numbered-fit n (c ∷ cs) h e =
-    let q = e .0 in
-    (
+    let q = e .0 in (
       (q .0, (q .1 .0, (q .1 .1 .0, (q .1 .1 .1 .0, (q .1 .1 .1 .1 .0, (q .1 .1 .1 .1 .1 .0, (q .1 .1 .1 .1 .1 .1 .0, (q .1 .1 .1 .1 .1 .1 .1 .0, (omega arith, q .1 .1 .1 .1 .1 .1 .1 .1 .1))))))))),
       numbered-fit (suc n) cs (omega arith) (e .1),
     )
@@ -193,16 +192,14 @@ module _ (o : Opening) (lim : Limited (o .sizes)) (g : DrawsFit o) (m : Message)
 
   original-fit : (w : ℕ) → CopyFit (original m t (o .draws .latency (m .from) t (m .wire) w .value))
   original-fit w =
-      let l = g .latency (m .from) t (m .wire) w from-small b wire-small in
-      (
+      let l = g .latency (m .from) t (m .wire) w from-small b wire-small in (
         omega (arith, from-small, lim .tills),
         (omega (arith, lim .tills), (kind-small, (class-small, (omega (arith, q .now), (omega (arith, q .now, l), (scope-small, (omega (arith, wire-small), (omega arith, (omega arith, (q .id, (q .tag, tt))))))))))),
       )
 
   echo-fit : (c : Carried) (w : ℕ) → Good c → CopyFit (echo m t c (o .draws .latency (m .from) t (c .wire) w .value))
   echo-fit c w h =
-      let l = g .latency (m .from) t (c .wire) w from-small b (h .0) in
-      (
+      let l = g .latency (m .from) t (c .wire) w from-small b (h .0) in (
         omega (arith, from-small, lim .tills),
         (omega (arith, lim .tills), (kind-small, (h .1 .0, (omega (arith, q .now), (omega (arith, q .now, l), (scope-small, (h .1 .1 .0, (omega arith, (omega arith, (omega arith, (h .1 .1 .1 .0, tt))))))))))),
       )

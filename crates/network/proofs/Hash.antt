@@ -93,14 +93,24 @@ initial-small h t b d k p q r =
     let g = iv-small in
     fit-small (initial h t b d) (
       k .at 0,
-      (k .at 1, (k .at 2, (k .at 3, (k .at 4, (k .at 5, (k .at 6, (k .at 7, (g .at 0, (g .at 1, (g .at 2, (g .at 3, (mod-lt t (pow-pos 32), (lt-of-le-of-lt (div-le-self t (2 ^ 32)) p, (q, (r, tt)))))))))))))))
+      (k .at 1, (k .at 2, (k .at 3, (k .at 4, (k .at 5, (k .at 6, (k .at 7, (g .at 0, (g .at 1, (g .at 2, (g .at 3, (mod-lt t (pow-pos 32), (lt-of-le-of-lt (div-le-self t (2 ^ 32)) p, (q, (r, tt))))))))))))))),
     )
 
 folded-fit : (v : List ℕ) → Small v → Each (λ (w : ℕ). w < 2 ^ 32) (folded v)
 unfolding folded
-folded-fit v h =
-    (xor-small _ _ (h .at 0) (h .at 8), (xor-small _ _ (h .at 1) (h .at 9), (xor-small _ _ (h .at 2) (h .at 10), (xor-small _ _ (h .at 3) (h .at 11),
-    (xor-small _ _ (h .at 4) (h .at 12), (xor-small _ _ (h .at 5) (h .at 13), (xor-small _ _ (h .at 6) (h .at 14), (xor-small _ _ (h .at 7) (h .at 15), tt))))))))
+folded-fit v h = (
+  xor-small _ _ (h .at 0) (h .at 8),
+  (
+    xor-small _ _ (h .at 1) (h .at 9),
+    (
+      xor-small _ _ (h .at 2) (h .at 10),
+      (
+        xor-small _ _ (h .at 3) (h .at 11),
+        (xor-small _ _ (h .at 4) (h .at 12), (xor-small _ _ (h .at 5) (h .at 13), (xor-small _ _ (h .at 6) (h .at 14), (xor-small _ _ (h .at 7) (h .at 15), tt)))),
+      ),
+    ),
+  ),
+)
 
 compressed-fit : (h m : List ℕ) (t b d : ℕ) → Small h → t < 2 ^ 32 → b < 2 ^ 32 → d < 2 ^ 32 → Each (λ (w : ℕ). w < 2 ^ 32) (compressed h m t b d)
 unfolding compressed
