@@ -1,30 +1,28 @@
 -- What the draws of an accepted opening stay below: latencies, word counts, ids.
 use mathlib.Core.Path.{_≡_, refl, sym, ap, _∙_, subst}
-use Prim.Native.Nat.{ℕ, zero, suc, _+_, _*_, _%_, _^_, _≤_, _<_}
+use Prim.Native.Nat.{ℕ, suc, _+_, _*_, _^_, _≤_, _<_}
 use native.Mathlib.Omega.{arith}
 use mathlib.Core.Bool.{Bool, true, false, cond, not, _&&_, _||_, false≢true}
 use mathlib.Core.List.{List, [], _∷_, _++_}
 use lib.Dec.{T, eqb, leb, ltb}
-use lib.Ieee.{Float}
-use lib.ListN.{length, getD, take, drop, length-append, length-take}
+use lib.ListN.{length, getD, drop, length-append, length-take}
 use borrow.Author.Tests.{leb-true, ltb-true}
 use Rattle.rows.specs.Rows.{allOf}
 use Rattle.rows.specs.Lists.{Each}
 use Rattle.digest.specs.Blake3.{hash}
 use Rattle.draw.specs.Draw.{drawsOf, words32At, choose, again}
-use Rattle.draw.specs.Fraction.{hitWords}
-use Rattle.latency.specs.Admitted.{Admitted, longestBase, longestTransmission, latencyAdmitted, fractionAdmitted}
-use Rattle.latency.specs.Latency.{latencyAt, longest}
+use Rattle.latency.specs.Admitted.{longestBase, longestTransmission, latencyAdmitted, fractionAdmitted}
+use Rattle.latency.specs.Latency.{longest}
 use Rattle.latency.proofs.Limits.{latency-limits, latency-words-most}
 use Rattle.latency.proofs.Laws.{hit-most}
-use Rattle.geography.specs.Geography.{atLeastOne, linkAt, linkAdmitted, linkCost, planLink, transmissionOf, costOf, pickCost}
+use Rattle.geography.specs.Geography.{atLeastOne, linkAt, linkAdmitted, linkCost, costOf, pickCost}
 use Rattle.geography.specs.declared.Link.{Link}
 use Rattle.geography.specs.declared.Cost.{Cost}
 use Rattle.geography.proofs.Prices.{plan-admitted, transmission-most}
 use Rattle.rule.specs.declared.Message.{Message}
 use Rattle.rules.specs.declared.FaultRule.{FaultRule}
 use Rattle.decide.proofs.Held.{decide-words}
-use Rattle.network.specs.Opening.{Sizes, Settings, Opening, global, longestWire, longestName, longestKey}
+use Rattle.network.specs.Opening.{Settings, Opening, global, longestWire, longestName, longestKey}
 use Rattle.network.specs.Lists.{every, below}
 use Rattle.network.specs.Tables.{cell, nameAt, shardAt, textAt}
 use Rattle.network.specs.Limits.{rateOf, textTests, rangeTests}

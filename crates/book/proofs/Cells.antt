@@ -1,18 +1,17 @@
 -- Every cell fits its memory after a call.
-use mathlib.Core.Path.{_≡_, refl, sym, ap, _∙_, subst}
+use mathlib.Core.Path.{_≡_, sym, ap, _∙_, subst}
 use Prim.Native.Nat.{ℕ, zero, suc, _+_, _*_, _^_, _≤_, _<_, max}
 use native.Mathlib.Omega.{arith}
-use native.Mathlib.Nat.{le-trans, pow-suc, pow-le-pow-right}
+use native.Mathlib.Nat.{pow-suc, pow-le-pow-right}
 use mathlib.Core.Bool.{Bool, true, false, cond, not, _&&_, _||_}
-use mathlib.Core.List.{List, [], _∷_, _++_}
-use lib.Dec.{eqb, leb, ltb}
+use mathlib.Core.List.{List, [], _∷_}
+use lib.Dec.{eqb, ltb}
 use lib.Pow.{pow-pos, pow-mono}
-use lib.ListN.{length, getD, set, take, drop, replicate, length-take}
+use lib.ListN.{length, getD, drop, length-take}
 use borrow.Author.Tests.{ltb-true, leb-true}
 use Rattle.shift.specs.Shift.{putWords, closed}
-use Rattle.rows.specs.Rows.{flat, kept}
-use Rattle.rows.specs.Lists.{Each, upTo}
-use Rattle.rows.proofs.Lists.{each-map, each-drop, length-upTo}
+use Rattle.rows.specs.Lists.{Each}
+use Rattle.rows.proofs.Lists.{each-map, length-upTo}
 use Rattle.rows.proofs.Rows.{length-rows}
 use Rattle.delivery.specs.Delivery as delivery
 use Rattle.waiting.specs.Waiting as waiting
@@ -25,32 +24,29 @@ use Rattle.card.specs.Card.{fieldsOf}
 use Rattle.rule.specs.Rule.{has}
 use Rattle.rules.specs.Rules as rules
 use Rattle.rules.specs.Rules.{ruleSlots, ruleWidth, mostRules, installNumber, installTable, removeTable, indexOf, rulesOf, without}
-use Rattle.rules.specs.declared.FaultRule.{FaultRule}
 use Rattle.blocks.specs.Blocks as blocks
 use Rattle.blocks.specs.Blocks.{blockSlots, blockWidth, always, during, blockTable, unblockTable, openCount, blocksOf}
 use Rattle.blocks.specs.declared.BlockWindow.{BlockWindow}
-use Rattle.network.specs.Opening.{Sizes, Settings, Opening, link, global, lastNumber, latestNow, longestWire, mostWords}
+use Rattle.network.specs.Opening.{Sizes, Opening, link, global, lastNumber, latestNow, longestWire, mostWords}
 use Rattle.network.specs.Lists.{within, below}
 use Rattle.network.specs.Live.{Till, downTill, upTill, Live, isOriginal, idsAt, marked, stopped, tillAt}
 use Rattle.network.specs.Accept.{Message, messageOf, receives, selected, Drawn, drawn, context, copies, Class, deduplicated, partition, loss, fault, sent, classOf, effect, offered}
 use Rattle.network.specs.Flush.{due, later, stops, lands}
 use Rattle.network.specs.Calls.{Call, withHandlers, accept, flush, takeDown, bringUp, handlers, block, blockDuring, unblock, install, remove, decide, drain, reading}
 use Rattle.network.specs.Questions.{asked, firstNo}
-use Rattle.network.specs.Lent.{nearTill}
-use Rattle.network.specs.Tables.{cell, Tables, live, tillForm, blockForm, idsStart, sequenceAt, waitingAt, rulesAt, installedAt, faultWordsAt, blocksAt}
-use Rattle.network.specs.Writes.{setRules, setBlocks, netT, tillT, marksT, waitingT, blockT, unblockT, installT, removeT, recordT, recordAllT, drainT, clearT, flushT, acceptT, offeredT, stepT}
+use Rattle.network.specs.Tables.{cell, Tables, live, tillForm, blockForm, idsStart, sequenceAt, waitingAt, rulesAt, installedAt, blocksAt}
+use Rattle.network.specs.Writes.{netT, tillT, marksT, waitingT, blockT, unblockT, installT, removeT, recordT, recordAllT, clearT, flushT, acceptT, offeredT, stepT}
 use Rattle.book.specs.Cells.{Fit, CellsFit, CallFits}
-use Rattle.book.proofs.Each.{both, all-each, each-set, each-at, each-keep, each-front, each-behind, each-upTo}
+use Rattle.book.proofs.Each.{both, all-each, each-at, each-keep, each-front, each-behind, each-upTo}
 use Rattle.book.proofs.Asking.{all-yes, rising}
-use Rattle.book.proofs.Echoing.{drawn-few}
 use Rattle.book.proofs.Sound.{Below, selected-below, sent-unmarked}
 use Rattle.book.proofs.Fitting.{Limited, Fits, NearMessage, Good, drawn-good, few-copies, Ready, room, effect-fits, effect-length, effect-ready, length-keep, length-behind}
 use Rattle.book.proofs.StepFits.{near-message, length-without}
-use Rattle.book.proofs.Formed.{Formed, Wrote}
+use Rattle.book.proofs.Formed.{Wrote}
 use Rattle.book.proofs.Simulation.{effect-wrote, ids-few}
 use Rattle.book.proofs.Fit.{cell-fits, rows-fit, fit-put, fit-closed, fit-over, fit-kept, fit-logged, fit-cleared}
 use Rattle.book.proofs.Bounds.{DrawsFit}
-use Rattle.book.proofs.CellsAccept.{CopyFit, MessageFits, WordsOf, drawn-words, effect-cells, set-most, cells-tills, cells-rules, cells-blocks, cells-log, cells-waiting, cell-net, copy-reads, waiting-fits, marks-cells, ids-fit, removed-fit, ruled-cells}
+use Rattle.book.proofs.CellsAccept.{CopyFit, MessageFits, drawn-words, effect-cells, set-most, cells-tills, cells-rules, cells-blocks, cells-log, cells-waiting, cell-net, copy-reads, waiting-fits, marks-cells, ids-fit, removed-fit, ruled-cells}
 
 abbrev In : ℕ → Type 0
 In v = v < 2 ^ 64
@@ -202,8 +198,7 @@ rule-fits : (s : List ℕ) (ever : ℕ) → Fit 8 s → ever < 2 ^ 64 → Fit 64
 unfolding card.specOf
 rule-fits s ever e h =
     let at = card.placesOf (card.mapOf s) in
-    let m : ℕ = card.mapOf s in
-    (
+    let m : ℕ = card.mapOf s in (
       h,
       (
         omega (arith, cell-fits 8 s 0 e),

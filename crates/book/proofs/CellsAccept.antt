@@ -1,19 +1,18 @@
 -- Cells fit after an accept: each recipient's draws, copies, marks and ring.
 use mathlib.Core.Path.{_≡_, refl, sym, ap, _∙_, subst}
-use Prim.Native.Nat.{ℕ, zero, suc, _+_, _*_, _%_, _^_, _≤_, _<_}
+use Prim.Native.Nat.{ℕ, zero, suc, _+_, _*_, _^_, _≤_, _<_}
 use native.Mathlib.Omega.{arith}
-use native.Mathlib.Nat.{mod-lt, le-refl}
-use mathlib.Core.Bool.{Bool, true, false, cond, not, _&&_, _||_}
+use native.Mathlib.Nat.{mod-lt}
+use mathlib.Core.Bool.{Bool, true, false, cond, not, _&&_}
 use mathlib.Core.List.{List, [], _∷_, _++_}
-use lib.Dec.{eqb, leb, ltb}
+use lib.Dec.{leb, ltb}
 use lib.Pow.{pow-pos}
-use lib.ListN.{length, getD, set, take, drop, length-append}
+use lib.ListN.{length, getD, set, take, drop}
 use lib.Seq.{getD-set-other}
 use borrow.Author.Tests.{ltb-true, leb-true}
 use Rattle.shift.specs.Shift.{putWords}
-use Rattle.rows.specs.Lists.{Each, upTo}
-use Rattle.rows.specs.Table.{rowsOf}
-use Rattle.rows.proofs.Lists.{each-map, each-drop}
+use Rattle.rows.specs.Lists.{Each}
+use Rattle.rows.proofs.Lists.{each-drop}
 use Rattle.rows.proofs.Rows.{length-rows}
 use Rattle.ring.specs.Ring.{ringFrom, firstAt, countAt}
 use Rattle.waiting.specs.Waiting as waiting
@@ -23,20 +22,16 @@ use Rattle.waiting.proofs.Order.{length-insert, each-insert}
 use Rattle.marks.proofs.Rising.{length-placed}
 use Rattle.marks.specs.Marks.{idsOf, placed, removed, position, found}
 use Rattle.rings.specs.Rings as rings
-use Rattle.rings.specs.declared.Entry.{Entry}
-use Rattle.rules.specs.Rules.{ruleSlots, ruleWidth, firedWord, fireTable}
+use Rattle.rules.specs.Rules.{ruleWidth, firedWord, fireTable}
 use Rattle.decide.specs.Decide.{Decision}
-use Rattle.latency.specs.Latency.{longest}
-use Rattle.network.specs.Opening.{Draw, Sizes, Opening, link, latestNow, lastNumber, mostWords, longestWire}
-use Rattle.network.specs.Live.{numbered, Carried, Live, idsAt, marked, stopped, ringsOf}
-use Rattle.network.specs.Accept.{Message, Echoes, Drawn, drawn, context, carriedOf, ringFor, isEmpty, timed, replayed, echoed, echoesOf, original, echo, Class, deduplicated, partition, loss, fault, sent, classOf, copies, effect, offered}
-use Rattle.network.specs.Lent.{nearCarried}
-use Rattle.network.specs.Tables.{cell, Tables, live, idsStart, sequenceAt, waitingAt, rulesAt, faultWordsAt}
-use Rattle.network.specs.Writes.{setNet, setTills, setWords, setSeen, setWaiting, setRings, setRules, setBlocks, setLog, netT, wordsT, marksT, waitingT, ruledT, pushT, rememberT, effectT, offeredT, acceptT}
+use Rattle.network.specs.Opening.{Draw, Sizes, Opening, link, latestNow, longestWire}
+use Rattle.network.specs.Live.{numbered, Carried, Live, idsAt, ringsOf}
+use Rattle.network.specs.Accept.{Message, Echoes, Drawn, drawn, context, carriedOf, ringFor, isEmpty, timed, replayed, echoed, echoesOf, original, echo, Class, deduplicated, partition, loss, fault, sent, copies}
+use Rattle.network.specs.Tables.{cell, Tables, live, idsStart, sequenceAt, waitingAt, faultWordsAt}
+use Rattle.network.specs.Writes.{setNet, setTills, setWords, setSeen, setWaiting, setRings, setRules, setBlocks, setLog, netT, wordsT, marksT, waitingT, ruledT, pushT, rememberT, effectT}
 use Rattle.book.specs.Cells.{Fit, CellsFit}
 use Rattle.book.proofs.Each.{both, each-set, each-at, each-append, each-upTo}
 use Rattle.book.proofs.Echoing.{drawn-each, drawn-few, echoed-few}
-use Rattle.book.proofs.Counting.{length-numbered}
 use Rattle.book.proofs.Fitting.{Limited, Fits, NearMessage, NearRing, few-copies}
 use Rattle.book.proofs.Fit.{each-take, cell-fits, fit-put, rows-fit, fit-over, fit-pushed}
 use Rattle.book.proofs.Bounds.{DrawsFit}
@@ -120,8 +115,7 @@ set-most (x ∷ l) (suc i) v (suc j) B h k = set-most l i v j B h k
 numbered-fit : (n : ℕ) (cs : List Copy) → n + length cs < 2 ^ 64 → Each CopyFit cs → Each CopyFit (numbered n cs)
 numbered-fit n [] h e = tt
 numbered-fit n (c ∷ cs) h e =
-    let q = e .0 in
-    (
+    let q = e .0 in (
       (q .0, (q .1 .0, (q .1 .1 .0, (q .1 .1 .1 .0, (q .1 .1 .1 .1 .0, (q .1 .1 .1 .1 .1 .0, (q .1 .1 .1 .1 .1 .1 .0, (q .1 .1 .1 .1 .1 .1 .1 .0, (omega arith, q .1 .1 .1 .1 .1 .1 .1 .1 .1))))))))),
       numbered-fit (suc n) cs (omega arith) (e .1),
     )
@@ -198,16 +192,14 @@ module _ (o : Opening) (lim : Limited (o .sizes)) (g : DrawsFit o) (m : Message)
 
   original-fit : (w : ℕ) → CopyFit (original m t (o .draws .latency (m .from) t (m .wire) w .value))
   original-fit w =
-      let l = g .latency (m .from) t (m .wire) w from-small b wire-small in
-      (
+      let l = g .latency (m .from) t (m .wire) w from-small b wire-small in (
         omega (arith, from-small, lim .tills),
         (omega (arith, lim .tills), (kind-small, (class-small, (omega (arith, q .now), (omega (arith, q .now, l), (scope-small, (omega (arith, wire-small), (omega arith, (omega arith, (q .id, (q .tag, tt))))))))))),
       )
 
   echo-fit : (c : Carried) (w : ℕ) → Good c → CopyFit (echo m t c (o .draws .latency (m .from) t (c .wire) w .value))
   echo-fit c w h =
-      let l = g .latency (m .from) t (c .wire) w from-small b (h .0) in
-      (
+      let l = g .latency (m .from) t (c .wire) w from-small b (h .0) in (
         omega (arith, from-small, lim .tills),
         (omega (arith, lim .tills), (kind-small, (h .1 .0, (omega (arith, q .now), (omega (arith, q .now, l), (scope-small, (h .1 .1 .0, (omega arith, (omega arith, (omega arith, (h .1 .1 .1 .0, tt))))))))))),
       )

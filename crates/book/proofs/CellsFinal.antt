@@ -5,16 +5,14 @@ use mathlib.Core.Bool.{true}
 use mathlib.Core.List.{List, [], _∷_}
 use Rattle.rows.specs.Lists.{Each}
 use Rattle.network.specs.Opening.{Settings, Opening}
-use Rattle.network.specs.Lists.{every}
 use Rattle.network.specs.Calls.{Call}
 use Rattle.network.specs.Questions.{Asked, asked, firstNo}
 use Rattle.network.specs.Tables.{Tables, setupOf}
-use Rattle.network.specs.Limits.{textTests}
 use Rattle.network.specs.Real.{openingOf}
 use Rattle.network.specs.Writes.{isNumber, numberOf, exitT, tablesBy}
 use Rattle.network.specs.Open.{limitTests, askedOpening, openNumber, openTables}
 use Rattle.book.specs.Book.{Book, opened}
-use Rattle.book.specs.Demand3.{Item, own, others, reopen, Admitted, AllAdmitted, tablesAfter, tablesAtEnd, bookAfter}
+use Rattle.book.specs.Demand3.{Item, own, others, reopen, AllAdmitted, tablesAfter, tablesAtEnd, bookAfter}
 use Rattle.book.specs.Cells.{Fit, CellsFit, CallFits, ItemFits, ItemsFit}
 use Rattle.book.proofs.Each.{every-each}
 use Rattle.book.proofs.Asking.{all-yes, rising-opening}

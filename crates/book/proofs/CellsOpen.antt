@@ -1,22 +1,21 @@
 -- Every cell fits its memory after an accepted opening.
-use mathlib.Core.Path.{_≡_, refl, sym, ap, _∙_, subst}
+use mathlib.Core.Path.{_≡_}
 use Prim.Native.Nat.{ℕ, zero, suc, _+_, _-_, _*_, _/_, _%_, _^_, _≤_, _<_}
 use native.Mathlib.Omega.{arith}
 use native.Mathlib.Nat.{lt-of-lt-of-le}
 use mathlib.Core.Bool.{Bool, true, false, cond}
-use mathlib.Core.List.{List, [], _∷_, _++_}
-use lib.Dec.{eqb, leb, lit<}
+use mathlib.Core.List.{List, [], _++_}
+use lib.Dec.{eqb, lit<}
 use lib.Pow.{pow-pos}
 use lib.ListN.{getD, set, drop, replicate}
 use borrow.Author.Tests.{leb-true}
 use Rattle.word.specs.Word.{le4, le8}
 use Rattle.streams.specs.Link.{linkKey, linkBytes}
-use Rattle.rows.specs.Rows.{allOf, flat}
+use Rattle.rows.specs.Rows.{flat}
 use Rattle.rows.specs.Lists.{Each, upTo}
 use Rattle.rows.proofs.Lists.{each-map, each-drop}
 use Rattle.rings.specs.Rings as rings
-use Rattle.time.specs.Seconds.{millisecond}
-use Rattle.draw.specs.Draw.{whole64At, words64At}
+use Rattle.draw.specs.Draw.{words64At}
 use Rattle.draw.proofs.Words.{whole64-below}
 use Rattle.geography.specs.Bytes.{derive, links}
 use Rattle.geography.specs.Geography.{atLeastOne, mostRegions, linkWidth, pick, bandOf, drawnLink, rowCount, allCount, pairLink, putPair, putLink, pricedRow, pricedAll, pricesOf, regionOf}
@@ -25,7 +24,7 @@ use Rattle.geography.specs.declared.Link.{Link}
 use Rattle.geography.proofs.Prices as prices
 use Rattle.network.specs.Opening as opening
 use Rattle.network.specs.Opening.{Settings}
-use Rattle.network.specs.Lists.{every, within}
+use Rattle.network.specs.Lists.{within}
 use Rattle.network.specs.Live.{Till, upTill, openTills, ringsOf}
 use Rattle.network.specs.Questions.{Asked}
 use Rattle.network.specs.Tables.{Tables, setupOf, netWidth, tillForm}
@@ -34,7 +33,7 @@ use Rattle.network.specs.Real.{keysOf, pairCells, pricedBy}
 use Rattle.network.specs.Open.{limitTests, askedOpening, openNumber, openTables}
 use Rattle.network.proofs.Hash.{hash-fit}
 use Rattle.book.specs.Cells.{Fit, CellsFit}
-use Rattle.book.proofs.Each.{all-each, every-each, each-set, each-at, each-append, each-replicate, each-upTo, True}
+use Rattle.book.proofs.Each.{all-each, every-each, each-set, each-at, each-append, each-replicate, each-upTo}
 use Rattle.book.proofs.Asking.{all-yes, rising-opening}
 use Rattle.book.proofs.Fit.{fit-flat, fit-cleared}
 use Rattle.book.proofs.Cells.{mask-small}

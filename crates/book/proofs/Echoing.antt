@@ -1,9 +1,9 @@
 -- The echoes of a recipient: at most two, none with an id, each of what its ring or the message carries.
 use mathlib.Core.Path.{_≡_, refl, ap}
-use Prim.Native.Nat.{ℕ, zero, suc, _+_, _≤_}
+use Prim.Native.Nat.{ℕ, suc, _≤_}
 use native.Mathlib.Omega.{arith}
 use mathlib.Core.Bool.{Bool, true, false, cond, not, _&&_}
-use mathlib.Core.List.{List, [], _∷_, _++_}
+use mathlib.Core.List.{List, [], _∷_}
 use lib.ListN.{length, getD, length-append}
 use Rattle.rows.specs.Lists.{Each}
 use Rattle.waiting.specs.declared.Copy.{Copy}

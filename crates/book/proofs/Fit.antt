@@ -1,16 +1,16 @@
 -- Cells that fit so many bits, after each kind of write.
-use mathlib.Core.Path.{_≡_, refl, sym, ap, _∙_, subst}
-use Prim.Native.Nat.{ℕ, zero, suc, _+_, _-_, _*_, _%_, _^_, _≤_, _<_}
+use mathlib.Core.Path.{_≡_, refl}
+use Prim.Native.Nat.{ℕ, zero, suc, _+_, _-_, _*_, _^_, _≤_, _<_}
 use native.Mathlib.Omega.{arith}
-use native.Mathlib.Nat.{mod-lt, mul-le-mul-right, suc-mul, lt-of-lt-of-le}
+use native.Mathlib.Nat.{mod-lt}
 use mathlib.Core.Bool.{Bool, true, false, cond}
 use mathlib.Core.List.{List, [], _∷_, _++_}
-use lib.Dec.{eqb, ltb}
+use lib.Dec.{ltb}
 use lib.Pow.{pow-pos}
-use lib.ListN.{length, getD, set, take, drop, replicate, length-drop}
-use borrow.Author.Tests.{ltb-true, ltb-false}
+use lib.ListN.{length, getD, set, take, drop, replicate}
+use borrow.Author.Tests.{ltb-true}
 use Rattle.shift.specs.Shift.{putWords, closed}
-use Rattle.rows.specs.Rows.{rows, keep, flat, kept}
+use Rattle.rows.specs.Rows.{keep, flat, kept}
 use Rattle.rows.specs.Lists.{Each}
 use Rattle.rows.specs.Table.{Form, rowsOf, over}
 use Rattle.rows.proofs.Lists.{each-drop}

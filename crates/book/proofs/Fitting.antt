@@ -1,9 +1,9 @@
 -- A call whose questions are answered "yes" leaves a live part that fits the tables: one recipient, and all of an accept.
-use mathlib.Core.Path.{_≡_, refl, sym, ap, _∙_}
+use mathlib.Core.Path.{_≡_, refl, ap, _∙_}
 use Prim.Native.Nat.{ℕ, zero, suc, _+_, _*_, _≤_, _<_}
 use native.Mathlib.Omega.{arith}
-use native.Mathlib.Nat.{le-refl, le-trans}
-use mathlib.Core.Bool.{Bool, true, false, cond, not, _&&_, _||_}
+use native.Mathlib.Nat.{le-refl}
+use mathlib.Core.Bool.{Bool, true, false, cond, _||_}
 use mathlib.Core.List.{List, [], _∷_, _++_}
 use lib.Dec.{eqb, leb, ltb}
 use lib.ListN.{length, getD, set, drop, length-set, length-append}

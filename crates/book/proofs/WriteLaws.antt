@@ -1,24 +1,21 @@
 -- One lemma a write: it is the book's change of what the tables hold.
 use mathlib.Core.Path.{_≡_, refl, sym, ap, _∙_, subst}
-use Prim.Native.Nat.{ℕ, zero, suc, _+_, _-_, _*_, _%_, _^_, _≤_, _<_}
+use Prim.Native.Nat.{ℕ, zero, suc, _+_, _*_, _%_, _^_, _≤_, _<_}
 use native.Mathlib.Omega.{arith}
-use native.Mathlib.Nat.{le-refl, le-trans, mul-le-mul-right, suc-mul}
-use mathlib.Core.Bool.{Bool, true, false, cond, not}
-use mathlib.Core.List.{List, [], _∷_, _++_, append-nil}
-use mathlib.Core.Logic.{_⊎_, inl, inr}
+use native.Mathlib.Nat.{le-refl, mul-le-mul-right}
+use mathlib.Core.Bool.{Bool, true, false, cond}
+use mathlib.Core.List.{List, [], _∷_, _++_}
 use lib.Dec.{eqb, ltb}
-use lib.ListN.{length, getD, set, take, drop, replicate, length-set, length-drop, length-append, length-take}
-use lib.Seq.{getD-set-same, getD-set-other, set-split, drop-set-lt, take-set-le, getD-take, getD-drop, length-take-le}
+use lib.ListN.{length, getD, set, drop, replicate, length-set, length-drop, length-append}
+use lib.Seq.{take-set-le}
 use borrow.Author.Tests.{eqb-true, eqb-false, ltb-true, ltb-false}
 use Rattle.shift.specs.Shift.{putWords, closed}
 use Rattle.shift.proofs.Laws.{length-put, length-closed}
-use Rattle.shift.proofs.Parts.{put-before, put-here}
 use Rattle.rows.specs.Rows.{rows, keep, flat, kept}
-use Rattle.rows.specs.Lists.{upTo}
 use Rattle.ring.specs.Ring.{push}
-use Rattle.rows.specs.Table.{Form, Exact, rowsOf, over}
-use Rattle.rows.proofs.Rows.{length-rows, rows-take, rows-put}
-use Rattle.rows.proofs.Lists.{upTo-set, getD-upTo}
+use Rattle.rows.specs.Table.{rowsOf, over}
+use Rattle.rows.proofs.Rows.{length-rows, rows-take}
+use Rattle.rows.proofs.Lists.{getD-upTo}
 use Rattle.rows.proofs.Table.{rows-over, length-over, rows-set}
 use Rattle.delivery.specs.declared.Delivery.{Delivery}
 use Rattle.waiting.specs.Waiting as waiting
@@ -26,8 +23,6 @@ use Rattle.waiting.specs.Waiting.{insertCopy}
 use Rattle.waiting.specs.declared.Copy.{Copy}
 use Rattle.waiting.proofs.Reading as waiting-laws
 use Rattle.waiting.proofs.Order.{length-insert}
-use Rattle.marks.specs.Marks.{idsOf}
-use Rattle.marks.proofs.Laws.{others}
 use Rattle.rings.specs.Rings as rings
 use Rattle.rings.proofs.Laws as rings-laws
 use Rattle.log.specs.Log as log
@@ -38,21 +33,20 @@ use Rattle.rules.specs.declared.FaultRule.{FaultRule}
 use Rattle.rules.proofs.Laws as rules-laws
 use Rattle.rules.proofs.Held.{rules-installed, rules-removed, rules-fired, install-room}
 use Rattle.card.specs.Card.{fieldsOf}
-use Rattle.decide.specs.Decide.{Decision, rulesAfter}
+use Rattle.decide.specs.Decide.{Decision}
 use Rattle.blocks.specs.Blocks as blocks
 use Rattle.blocks.specs.Blocks.{blockSlots, blockWidth, blocksOf, blockNumber, blockTable, unblockTable, openCount}
 use Rattle.blocks.specs.declared.BlockWindow.{BlockWindow}
-use Rattle.blocks.proofs.Laws as blocks-laws
-use Rattle.blocks.proofs.Held.{blocks-added, blocks-unblocked, block-room}
-use Rattle.network.specs.Opening.{Sizes, Opening, links}
+use Rattle.blocks.proofs.Held.{blocks-added, blocks-unblocked}
+use Rattle.network.specs.Opening.{Sizes}
 use Rattle.network.specs.Live.{Carried, Till, Live, withTills, withSeen, withEngine, withRings, withWords, withWaiting, withLog, withBlocks, withRules, ringsOf}
 use Rattle.network.specs.Accept.{insertAll, ruled}
 use Rattle.network.specs.Calls.{ruleAdded, ruleRemoved}
-use Rattle.network.specs.Tables.{cell, Tables, live, tillForm, ruleForm, blockForm, idsStart, netWidth, sequenceAt, waitingAt, rulesAt, installedAt, faultWordsAt, blocksAt}
-use Rattle.network.specs.Writes.{setNet, setSeen, setRings, setRules, setWaiting, setBlocks, netT, tillT, wordsT, marksT, waitingT, blockT, unblockT, installT, removeT, ruledT, recordT, drainT, pushT}
-use Rattle.book.proofs.Fitting.{length-fireAt, length-keep}
+use Rattle.network.specs.Tables.{cell, Tables, live, tillForm, ruleForm, blockForm, netWidth, sequenceAt, waitingAt, rulesAt, installedAt, faultWordsAt, blocksAt}
+use Rattle.network.specs.Writes.{setNet, setRings, setRules, setWaiting, setBlocks, netT, tillT, wordsT, marksT, waitingT, blockT, unblockT, installT, removeT, ruledT, recordT, drainT, pushT}
+use Rattle.book.proofs.Fitting.{length-keep}
 use Rattle.book.proofs.Parts.{six, net-plain, net-waiting, net-rules, net-blocks, till-exact, seen-formed, seen-holds}
-use Rattle.book.proofs.Formed.{NetFormed, SeenFormed, RingsFormed, LogFormed, Formed, Wrote, formed-net, formed-tills, formed-words, formed-seen, formed-waiting, formed-rings, formed-rules, formed-blocks, formed-log}
+use Rattle.book.proofs.Formed.{Formed, Wrote, formed-net, formed-tills, formed-words, formed-seen, formed-waiting, formed-rings, formed-rules, formed-blocks, formed-log}
 
 -- ---- The writes
 

@@ -1,14 +1,13 @@
 -- The words of a digest fit 32 bits.
-use mathlib.Core.Path.{_≡_, refl, sym, ap, _∙_, subst}
 use Prim.Native.Nat.{ℕ, zero, suc, _+_, _-_, _*_, _/_, _%_, _^_, _≤_, _<_}
 use native.Mathlib.Omega.{arith}
-use native.Mathlib.Nat.{le-trans, lt-of-le-of-lt, div-le-self, mod-lt, pow-suc}
+use native.Mathlib.Nat.{lt-of-le-of-lt, div-le-self, mod-lt, pow-suc}
 use mathlib.Core.Bool.{Bool, true, false}
-use mathlib.Core.List.{List, [], _∷_, _++_}
+use mathlib.Core.List.{List, [], _∷_}
 use lib.Dec.{leb, lit<}
-use lib.Bits.{bitXor, bitOr, xor-lt, or-lt}
+use lib.Bits.{xor-lt, or-lt}
 use lib.Pow.{pow-pos}
-use lib.ListN.{length, getD, set, take, drop, length-drop, length-take}
+use lib.ListN.{length, getD, set, take, drop, length-drop}
 use Rattle.word.specs.Word.{add32, xor32, rotr32}
 use Rattle.rows.specs.Lists.{Each}
 use Rattle.compress.specs.Compress.{iv, compressed, folded, rounds, roundOf, columns, diagonals, mixAt, mixOf, halfOf, putQuad, initial, permuted}
@@ -94,14 +93,24 @@ initial-small h t b d k p q r =
     let g = iv-small in
     fit-small (initial h t b d) (
       k .at 0,
-      (k .at 1, (k .at 2, (k .at 3, (k .at 4, (k .at 5, (k .at 6, (k .at 7, (g .at 0, (g .at 1, (g .at 2, (g .at 3, (mod-lt t (pow-pos 32), (lt-of-le-of-lt (div-le-self t (2 ^ 32)) p, (q, (r, tt)))))))))))))))
+      (k .at 1, (k .at 2, (k .at 3, (k .at 4, (k .at 5, (k .at 6, (k .at 7, (g .at 0, (g .at 1, (g .at 2, (g .at 3, (mod-lt t (pow-pos 32), (lt-of-le-of-lt (div-le-self t (2 ^ 32)) p, (q, (r, tt))))))))))))))),
     )
 
 folded-fit : (v : List ℕ) → Small v → Each (λ (w : ℕ). w < 2 ^ 32) (folded v)
 unfolding folded
-folded-fit v h =
-    (xor-small _ _ (h .at 0) (h .at 8), (xor-small _ _ (h .at 1) (h .at 9), (xor-small _ _ (h .at 2) (h .at 10), (xor-small _ _ (h .at 3) (h .at 11),
-    (xor-small _ _ (h .at 4) (h .at 12), (xor-small _ _ (h .at 5) (h .at 13), (xor-small _ _ (h .at 6) (h .at 14), (xor-small _ _ (h .at 7) (h .at 15), tt))))))))
+folded-fit v h = (
+  xor-small _ _ (h .at 0) (h .at 8),
+  (
+    xor-small _ _ (h .at 1) (h .at 9),
+    (
+      xor-small _ _ (h .at 2) (h .at 10),
+      (
+        xor-small _ _ (h .at 3) (h .at 11),
+        (xor-small _ _ (h .at 4) (h .at 12), (xor-small _ _ (h .at 5) (h .at 13), (xor-small _ _ (h .at 6) (h .at 14), (xor-small _ _ (h .at 7) (h .at 15), tt)))),
+      ),
+    ),
+  ),
+)
 
 compressed-fit : (h m : List ℕ) (t b d : ℕ) → Small h → t < 2 ^ 32 → b < 2 ^ 32 → d < 2 ^ 32 → Each (λ (w : ℕ). w < 2 ^ 32) (compressed h m t b d)
 unfolding compressed

@@ -1,23 +1,23 @@
 -- Computed runs, on the tables: document 01's marked lines and tempting errors, which the theorem alone would not see where book and tables err alike.
 -- Draws here are toys, so that each run is short: a fraction is a percentage that follows from the word count. The crate `runs` has runs with the real ones.
 use mathlib.Core.Path.{_≡_, refl}
-use Prim.Native.Nat.{ℕ, zero, suc, _+_, _*_, _%_}
+use Prim.Native.Nat.{ℕ, suc, _+_, _*_, _%_}
 use mathlib.Core.Bool.{Bool, true, false, cond, not}
 use mathlib.Core.List.{List, [], _∷_, _++_, map}
-use lib.Dec.{eqb, leb, ltb}
+use lib.Dec.{eqb, ltb}
 use lib.ListN.{length, replicate}
 use Rattle.waiting.specs.declared.Copy.{Copy}
 use Rattle.rules.specs.declared.FaultRule.{FaultRule}
 use Rattle.rule.specs.declared.Message.{Message}
 use Rattle.rule.specs.Rule.{ruleOf, applies}
 use Rattle.decide.specs.Decide.{Decision}
-use Rattle.network.specs.Opening.{Draw, Draws, Sizes, Settings, Opening, global}
+use Rattle.network.specs.Opening.{Draw, Draws, Settings, Opening, global}
 use Rattle.network.specs.Accept.{Entry, Counts}
 use Rattle.network.specs.Flush.{Row}
 use Rattle.log.specs.Log.{emptyLog}
 use Rattle.network.specs.Questions.{asked, firstNo}
 use Rattle.network.specs.Live.{Live, withWaiting, openingLive}
-use Rattle.network.specs.Calls.{Call, Answer, counted, number, tallied, isBlocked, transit, nextTime, tallyOf, countsIn, rowsIn, deliveredIn, dropsIn, accept, flush, takeDown, bringUp, handlers, block, blockDuring, unblock, install, remove, decide, drain, reading}
+use Rattle.network.specs.Calls.{Call, counted, number, tallied, isBlocked, transit, nextTime, tallyOf, countsIn, rowsIn, deliveredIn, dropsIn, accept, flush, takeDown, bringUp, handlers, block, blockDuring, unblock, install, remove, decide, drain, reading}
 use Rattle.network.specs.Tables.{Tables, live, cell}
 use Rattle.network.specs.Writes.{Reply, tablesBy, replyBy}
 use Rattle.network.specs.Open.{lengthsOf, openNumber, openTables}

@@ -1,8 +1,8 @@
 -- The calls: what each does to the live part, and what it answers.
-use Prim.Native.Nat.{ℕ, zero, suc, _+_, _*_}
-use mathlib.Core.Bool.{Bool, true, false, cond, not}
+use Prim.Native.Nat.{ℕ, suc}
+use mathlib.Core.Bool.{Bool, true, false, not}
 use mathlib.Core.List.{List, [], _∷_, _++_}
-use lib.ListN.{length, getD, set}
+use lib.ListN.{getD, set}
 use Rattle.digest.specs.Blake3.{digestOf}
 use Rattle.digest.specs.declared.Hashed.{Hashed}
 use Rattle.rule.specs.declared.DropSpec.{DropSpec}

@@ -3,14 +3,13 @@
 --        regions=none types=61,62 shards=07 masks=1,1,0
 --   accept 0 1000 1 2 g x05 1 77 · waiting · words · rings
 use mathlib.Core.Path.{_≡_, refl}
-use Prim.Native.Nat.{ℕ, _+_}
+use Prim.Native.Nat.{ℕ}
 use mathlib.Core.Bool.{true}
-use mathlib.Core.List.{List, [], _∷_, _++_, map}
-use lib.ListN.{length, replicate}
+use mathlib.Core.List.{[], _∷_, _++_}
+use lib.ListN.{replicate}
 use Rattle.waiting.specs.declared.Copy.{Copy}
 use Rattle.network.specs.Opening.{Settings, global}
 use Rattle.network.specs.Live.{Live}
-use Rattle.network.specs.Accept.{Counts}
 use Rattle.network.specs.Calls.{Call, countsIn, accept, install}
 use Rattle.network.specs.Tables.{Tables, live, cell}
 use Rattle.network.specs.Writes.{callTables, callReply}
@@ -46,7 +45,7 @@ use Rattle.latency.specs.Latency as latency
 use Rattle.geography.specs.Geography as geography
 use Rattle.decide.specs.Decide as deciding
 use Rattle.float.specs.Float as float
-use Rattle.network.proofs.Runs.{lent, masks, five, entry, hello}
+use Rattle.network.proofs.Runs.{lent, masks, five, hello}
 
 abbrev rates : Settings
 rates = record {
