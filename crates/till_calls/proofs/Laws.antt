@@ -1,8 +1,8 @@
 -- What the questions passed say of the tables, and the small laws of the workers. Assumes nothing.
-use mathlib.Core.Path.{_≡_, refl, sym, ap, _∙_}
-use mathlib.Core.Bool.{Bool, true, false, cond, _&&_}
+use mathlib.Core.Path.{_≡_, sym, ap, _∙_}
+use mathlib.Core.Bool.{true, false, cond}
 use mathlib.Core.List.{List, [], _∷_, _++_, append-assoc}
-use Prim.Native.Nat.{ℕ, suc, _+_, _*_, _^_, _≤_, _<_}
+use Prim.Native.Nat.{ℕ, suc, _+_, _*_, _≤_, _<_}
 use native.Mathlib.Nat.{add-zero, add-mul, mul-le-mul, mul-le-mul-right}
 use native.Mathlib.Numerals.{add-one}
 use native.Mathlib.Omega.{arith}
@@ -13,7 +13,6 @@ use borrow.Author.Tests.{le-leb, lt-leb, lt-ltb, le-ltb, leb-true, ltb-true}
 use Rattle.shift.specs.Shift.{putWords}
 use Rattle.network.specs.Opening.{mostTills, mostSlots}
 use Rattle.network.specs.Tables.{cell, sizesAt, setupWidth, tillForm, idsStart}
-use Rattle.held.specs.Held.{setupHeld, tillsHeld, seenHeld}
 use Rattle.held.proofs.Ladder.{under, both, only}
 use Rattle.held.proofs.Passed.{PassedSetup, setup-says}
 use Rattle.held.proofs.PassedRows.{PassedTills, PassedSeen, tills-say, seen-says}

@@ -1,8 +1,8 @@
 -- The two ways of each call: a number refuses it, or its workers leave what the definitions say. Assumes nothing.
-use mathlib.Core.Path.{_≡_, refl, sym, ap, _∙_}
-use mathlib.Core.Bool.{Bool, true, false, not}
+use mathlib.Core.Path.{_≡_, sym, ap, _∙_}
+use mathlib.Core.Bool.{Bool, not}
 use mathlib.Core.List.{List, [], _∷_, _++_}
-use Prim.Native.Nat.{ℕ, _+_, _*_, _≤_, _<_}
+use Prim.Native.Nat.{ℕ, _+_, _*_, _<_}
 use native.Mathlib.Nat.{add-zero}
 use native.Mathlib.Omega.{arith}
 use lib.Dec.{eqb}
@@ -14,19 +14,17 @@ use Rattle.rows.proofs.Table.{row-at}
 use Rattle.rows.proofs.Lists.{getD-upTo}
 use Rattle.marks.specs.Marks.{idsOf}
 use Rattle.network.specs.Lists.{bit}
-use Rattle.network.specs.Live.{Till, downTill, tillAt, idsAt}
-use Rattle.network.specs.Calls.{Call, takeDown, bringUp, handlers, reading, isDown, marksOf, number, answerOf, withHandlers, Answer, ids}
+use Rattle.network.specs.Live.{Till, downTill, idsAt}
+use Rattle.network.specs.Calls.{Call, takeDown, bringUp, handlers, reading, isDown, marksOf, number, answerOf, withHandlers, ids}
 use Rattle.network.specs.Tables.{Tables, cell, sizesAt, live, tillForm, idsStart}
 use Rattle.network.specs.Real.{openingAt}
-use Rattle.network.specs.Writes.{Reply, callReply, callTables, callOutput, stepT, outputOf}
+use Rattle.network.specs.Writes.{Reply, callReply, stepT, outputOf}
 use Rattle.held.specs.Held.{setupHeld, tillsHeld, seenHeld}
-use Rattle.reply.specs.declared.Done.{Done}
 use Rattle.reply.specs.declared.Value.{Value}
 use Rattle.reply.specs.Reply.{refusedBy}
 use Rattle.reply.proofs.Laws as reply
-use Rattle.till_calls.specs.declared.Marks.{Marks}
 use Rattle.till_calls.specs.Calls.{lendTills, lendSeen, lendBoth, DoesTakeDown, Changes, DoesIsDown, DoesMarksOf, marksReply, tillsLent, seenLent, bothLent, downNumber, readNumber, upNumber, handlersNumber, marksNumber}
-use Rattle.till_calls.proofs.Laws.{Room, MarksRoom, marks-room, put-none, words-at}
+use Rattle.till_calls.proofs.Laws.{Room, marks-room, put-none, words-at}
 
 -- ---- take_down
 
@@ -42,11 +40,10 @@ module _ (s a m : List ℕ) (t r : ℕ) (e : r ≡ downNumber s a m t) where
   pub down-done : r ≡ 0 → (a′ m′ : List ℕ) → a′ ≡ putWords a (t * tillForm .width) (0 ∷ 0 ∷ 0 ∷ 0 ∷ []) → m′ ≡ set m t 0 → DoesTakeDown s a m a′ m′ t (record { number = 0 })
   unfolding DoesTakeDown
   down-done h a′ m′ p q = λ T.
-      let gone : set (putWords m (idsStart (sizesAt s) t) []) t 0 ≡ m′ = ap (λ (l : List ℕ). set l t 0) (put-none m (idsStart (sizesAt s) t)) ∙ sym q in
-      (
+      let gone : set (putWords m (idsStart (sizesAt s) t) []) t 0 ≡ m′ = ap (λ (l : List ℕ). set l t 0) (put-none m (idsStart (sizesAt s) t)) ∙ sym q in (
         reply.done (lendBoth T s a m) (takeDown t) r (down-number T) h,
         reply.steps (lendBoth T s a m) (takeDown t) r (down-number T) h
-        ∙ ap (λ (l : List ℕ). lendBoth T s (putWords a (t * tillForm .width) (0 ∷ 0 ∷ 0 ∷ 0 ∷ [])) l) gone ∙ ap (λ (l : List ℕ). lendBoth T s l m′) (sym p),
+            ∙ ap (λ (l : List ℕ). lendBoth T s (putWords a (t * tillForm .width) (0 ∷ 0 ∷ 0 ∷ 0 ∷ [])) l) gone ∙ ap (λ (l : List ℕ). lendBoth T s l m′) (sym p),
       )
 
 -- ---- The calls that write `tills` alone
@@ -74,7 +71,7 @@ module _ (s a : List ℕ) (t shards r : ℕ) (e : r ≡ upNumber s a t shards) w
 -- the row of a till that exists
 till-row : (s a : List ℕ) (t : ℕ) → t < sizesAt s .tills
     → getD (rowsOf tillForm a (sizesAt s .tills)) t downTill
-      ≡ record { up = getD a (t * tillForm .width) 0; gossip = getD a (t * tillForm .width + 1) 0; host = getD a (t * tillForm .width + 2) 0; shards = getD a (t * tillForm .width + 3) 0 }
+    ≡ record { up = getD a (t * tillForm .width) 0; gossip = getD a (t * tillForm .width + 1) 0; host = getD a (t * tillForm .width + 2) 0; shards = getD a (t * tillForm .width + 3) 0 }
 till-row s a t h = let b = t * tillForm .width in row-at tillForm a (sizesAt s .tills) t downTill h ∙ simp (words-at, add-zero)
 
 module _ (s a : List ℕ) (t gossip host r : ℕ) (e : r ≡ handlersNumber s a t gossip host) where
@@ -139,8 +136,7 @@ module _ (s m out : List ℕ) (t r : ℕ) (e : r ≡ marksNumber s m (length out
       let long : length is ≡ cell m t = length-take-le (cell m t) (drop (idsStart z t) m) (omega (arith, k .end, d)) in
       let at : idsAt (live z (lendSeen T s m)) t ≡ is = getD-upTo (z .tills) (λ i. idsOf m (idsStart z i) (cell m i)) t [] (k .there) in
       let x : callReply (lendSeen T s m) call ≡ record { number = 0; answer = ids is }
-      = reply.answered (lendSeen T s m) call r (marks-number T) h ∙ ap (λ (l : List ℕ). record { number = 0; answer = ids l }) at in
-      (
+      = reply.answered (lendSeen T s m) call r (marks-number T) h ∙ ap (λ (l : List ℕ). record { number = 0; answer = ids l }) at in (
         ap (λ (n : ℕ). record { number = 0; count = n }) (sym long) ∙ ap marksReply (sym x),
         p ∙ ap (λ (n : ℕ). is ++ drop n out) (sym long) ∙ ap outBy (sym x),
         reply.steps (lendSeen T s m) call r (marks-number T) h,

@@ -1,13 +1,11 @@
-use Rattle.till_calls.proofs.Laws.{too-high, in-range, lent-setup, read-room, up-room, handlers-room, down-room, marks-room, copied, copied-length, copied-more}
+use Rattle.till_calls.proofs.Laws.{copied-length, copied-more}
 use mathlib.Core.List.{List, _++_}
 use lib.ListN.{length, getD, set, take, drop}
 use native.Mathlib.Omega.{arith}
-use Prim.Native.Nat.{ℕ, _+_, _*_, _-_, _≤_}
-use mathlib.Core.Path.{_≡_, refl, sym, ap, _∙_}
+use Prim.Native.Nat.{ℕ, _+_, _-_, _≤_}
+use mathlib.Core.Path.{_≡_, refl, ap, _∙_}
 use Rattle.till_calls.proofs.copy_front.Statement.{statement}
 use Rattle.till_calls.proofs.copy_front.Tie as tie
-use Rattle.till_calls.proofs.copy_front.Reads as reads
-use Rattle.till_calls.proofs.copy_front.Lts as lts
 
 abbrev Inv-loop : tie.InvT-loop
 Inv-loop from start n out₀ i₀ out i = (i ≤ n) × (out ≡ take i (drop start from) ++ drop i out₀)
@@ -15,47 +13,36 @@ Inv-loop from start n out₀ i₀ out i = (i ≤ n) × (out ≡ take i (drop sta
 abbrev μ-loop : tie.MeasureT-loop
 μ-loop from start n out₀ i₀ out i = n - i
 
--- src/lib.rt:143:5
 loop-holds : tie.Need-loop-holds Inv-loop μ-loop
 loop-holds c = (omega arith, refl)
 
--- src/lib.rt:144:23
 add-out : tie.Need-add-out Inv-loop μ-loop
 add-out c = omega arith
 
--- src/lib.rt:144:18
 mul-out : tie.Need-mul-out Inv-loop μ-loop
 mul-out c = omega arith
 
--- src/lib.rt:144:18
 shared-slice-read-out : tie.Need-shared-slice-read-out Inv-loop μ-loop
 shared-slice-read-out c = omega arith
 
--- src/lib.rt:144:9
 mul-out-2 : tie.Need-mul-out-2 Inv-loop μ-loop
 mul-out-2 c = let l = ap length (c .before .before .loop .inv .1) ∙ copied-length (c .before .before .before .args .from .now) (c .before .before .before .args .out .now) (c .before .before .before .args .start) (c .before .before .before .args .n) (c .before .before .before .pre .0) (c .before .before .before .pre .1) (c .before .before .loop .i) (omega arith) in omega arith
 
--- src/lib.rt:144:9
 slice-write-out : tie.Need-slice-write-out Inv-loop μ-loop
 slice-write-out c = let l = ap length (c .before .before .loop .inv .1) ∙ copied-length (c .before .before .before .args .from .now) (c .before .before .before .args .out .now) (c .before .before .before .args .start) (c .before .before .before .args .n) (c .before .before .before .pre .0) (c .before .before .before .pre .1) (c .before .before .loop .i) (omega arith) in omega arith
 
--- src/lib.rt:145:9
 add-i : tie.Need-add-i Inv-loop μ-loop
 add-i c = omega arith
 
--- src/lib.rt:143:5
 loop-less : tie.Need-loop-less Inv-loop μ-loop
 loop-less c = omega arith
 
--- src/lib.rt:143:5
 loop-again : tie.Need-loop-again Inv-loop μ-loop
 loop-again c = (omega arith, ap (λ (l : List ℕ). set l (c .before .before .loop .i) (getD (c .before .before .before .args .from .now) (c .before .before .before .args .start + c .before .before .loop .i) 0)) (c .before .before .loop .inv .1) ∙ copied-more (c .before .before .before .args .from .now) (c .before .before .before .args .out .now) (c .before .before .before .args .start) (c .before .before .before .args .n) (c .before .before .before .pre .0) (c .before .before .before .pre .1) (c .before .before .loop .i) (omega arith))
 
--- src/lib.rt:138:1
 same-length : tie.Need-same-length Inv-loop μ-loop
 same-length c = ap length (c .before .loop .inv .1) ∙ copied-length (c .before .before .args .from .now) (c .before .before .args .out .now) (c .before .before .args .start) (c .before .before .args .n) (c .before .before .pre .0) (c .before .before .pre .1) (c .before .loop .i) (c .before .loop .inv .0)
 
--- src/lib.rt:138:1
 returns : tie.Need-returns Inv-loop μ-loop
 returns c = c .before .loop .inv .1 ∙ (let e : c .before .loop .i ≡ c .before .before .args .n = omega arith in ap (λ (k : ℕ). take k (drop (c .before .before .args .start) (c .before .before .args .from .now)) ++ drop k (c .before .before .args .out .now)) e)
 

@@ -1,57 +1,42 @@
-use Rattle.till_calls.proofs.Laws.{too-high, in-range, lent-setup, read-room, up-room, handlers-room, down-room, marks-room, copied, copied-length, copied-more}
-use Rattle.till_calls.proofs.Ways.{down-refused, down-done, up-refused, up-done, handlers-refused, handlers-done, ask-refused, ask-done, marks-refused, marks-done}
+use Rattle.till_calls.proofs.Laws.{marks-room}
+use Rattle.till_calls.proofs.Ways.{marks-refused, marks-done}
 use lib.ListN.{length}
 use native.Mathlib.Omega.{arith}
-use mathlib.Core.Path.{_≡_, refl, sym, ap, _∙_}
+use mathlib.Core.Path.{sym, _∙_}
 use borrow.Author.Needs.{needs}
 use Rattle.till_calls.proofs.marks_of.Statement.{statement}
 use Rattle.till_calls.proofs.marks_of.Tie as tie
-use Rattle.till_calls.proofs.marks_of.Reads as reads
-use Rattle.till_calls.proofs.marks_of.Lts as lts
-use Rattle.till_calls.proofs.copy_front.Reads as copy-front-reads
-use Rattle.till_calls.proofs.marks_refusal.Reads as marks-refusal-reads
 
--- src/lib.rt:215:9
 marks-refusal-requires : tie.Need-marks-refusal-requires
 marks-refusal-requires c κs = search needs
 
--- src/lib.rt:217:9
 returns : tie.Need-returns
 returns c = marks-refused (c .before .before .before .before .before .args .setup .now) (c .before .before .before .before .before .args .seen .now) (c .before .before .before .before .before .args .out .now) (c .before .before .before .before .before .args .t) _ (c .before .marks-refusal .ensures) (c .if1 .taken)
 
--- src/lib.rt:219:17
 mul-count : tie.Need-mul-count
 mul-count c = let p = marks-room (c .before .before .before .before .before .args .setup .now) (c .before .before .before .before .before .args .seen .now) (length (c .before .before .before .before .before .args .out .now)) (c .before .before .before .before .before .args .t) (sym (c .before .marks-refusal .ensures) ∙ c .if1 .left) in omega (arith, p)
 
--- src/lib.rt:219:17
 shared-slice-read-count : tie.Need-shared-slice-read-count
 shared-slice-read-count c = let p = marks-room (c .before .before .before .before .before .before .args .setup .now) (c .before .before .before .before .before .before .args .seen .now) (length (c .before .before .before .before .before .before .args .out .now)) (c .before .before .before .before .before .before .args .t) (sym (c .before .before .marks-refusal .ensures) ∙ c .before .if1 .left) in omega (arith, p)
 
--- src/lib.rt:220:17
 shared-slice-read-start : tie.Need-shared-slice-read-start
 shared-slice-read-start c = let p = marks-room (c .before .before .before .before .before .before .before .args .setup .now) (c .before .before .before .before .before .before .before .args .seen .now) (length (c .before .before .before .before .before .before .before .args .out .now)) (c .before .before .before .before .before .before .before .args .t) (sym (c .before .before .before .marks-refusal .ensures) ∙ c .before .before .if1 .left) in omega (arith, p)
 
--- src/lib.rt:220:60
 shared-slice-read-start-2 : tie.Need-shared-slice-read-start-2
 shared-slice-read-start-2 c = let p = marks-room (c .before .before .before .before .before .before .before .before .args .setup .now) (c .before .before .before .before .before .before .before .before .args .seen .now) (length (c .before .before .before .before .before .before .before .before .args .out .now)) (c .before .before .before .before .before .before .before .before .args .t) (sym (c .before .before .before .before .marks-refusal .ensures) ∙ c .before .before .before .if1 .left) in omega (arith, p)
 
--- src/lib.rt:220:47
 mul-start : tie.Need-mul-start
 mul-start c = let p = marks-room (c .before .before .before .before .before .before .before .before .args .setup .now) (c .before .before .before .before .before .before .before .before .args .seen .now) (length (c .before .before .before .before .before .before .before .before .args .out .now)) (c .before .before .before .before .before .before .before .before .args .t) (sym (c .before .before .before .before .marks-refusal .ensures) ∙ c .before .before .before .if1 .left) in omega (arith, p)
 
--- src/lib.rt:220:17
 add-start : tie.Need-add-start
 add-start c = let p = marks-room (c .before .before .before .before .before .before .before .before .args .setup .now) (c .before .before .before .before .before .before .before .before .args .seen .now) (length (c .before .before .before .before .before .before .before .before .args .out .now)) (c .before .before .before .before .before .before .before .before .args .t) (sym (c .before .before .before .before .marks-refusal .ensures) ∙ c .before .before .before .if1 .left) in omega (arith, p)
 
--- src/lib.rt:221:5
 copy-front-requires : tie.Need-copy-front-requires
 copy-front-requires c κs = let p = marks-room (c .before .before .before .before .before .before .before .before .before .args .setup .now) (c .before .before .before .before .before .before .before .before .before .args .seen .now) (length (c .before .before .before .before .before .before .before .before .before .args .out .now)) (c .before .before .before .before .before .before .before .before .before .args .t) (sym (c .before .before .before .before .before .marks-refusal .ensures) ∙ c .before .before .before .before .if1 .left) in (omega (arith, p), omega (arith, p))
 
--- src/lib.rt:212:1
 same-length : tie.Need-same-length
 same-length c = search needs
 
--- src/lib.rt:212:1
 returns-2 : tie.Need-returns-2
 returns-2 c = marks-done (c .before .before .before .before .before .before .before .before .before .before .before .before .args .setup .now) (c .before .before .before .before .before .before .before .before .before .before .before .before .args .seen .now) (c .before .before .before .before .before .before .before .before .before .before .before .before .args .out .now) (c .before .before .before .before .before .before .before .before .before .before .before .before .args .t) _ (c .before .before .before .before .before .before .before .before .marks-refusal .ensures) (c .before .before .before .before .before .before .before .if1 .left) _ (c .before .before .copy-front .ensures)
 

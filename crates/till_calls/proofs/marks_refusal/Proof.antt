@@ -1,43 +1,32 @@
-use Rattle.till_calls.proofs.Laws.{too-high, in-range, no-place, places, lent-setup, read-room, up-room, handlers-room, down-room, marks-room, copied, copied-length, copied-more}
-use Rattle.till_calls.specs.Calls.{tillsLent, seenLent, bothLent, downNumber, readNumber, upNumber, handlersNumber, marksNumber}
-use Rattle.held.proofs.Ladder.{yes, no, on, off, last, is-no, is-yes}
-use mathlib.Core.Path.{_≡_, refl, sym, ap, _∙_}
+use Rattle.till_calls.proofs.Laws.{too-high, in-range, no-place, places}
+use Rattle.till_calls.specs.Calls.{marksNumber}
+use Rattle.held.proofs.Ladder.{yes, no, is-no, is-yes}
+use mathlib.Core.Path.{refl}
 use borrow.Author.Needs.{needs}
 use Rattle.till_calls.proofs.marks_refusal.Statement.{statement}
 use Rattle.till_calls.proofs.marks_refusal.Tie as tie
-use Rattle.till_calls.proofs.marks_refusal.Reads as reads
-use Rattle.till_calls.proofs.marks_refusal.Lts as lts
-use Rattle.held.proofs.cell.Reads as cell-reads
-use Rattle.till_calls.proofs.seen_lent.Reads as seen-lent-reads
 
--- src/lib.rt:114:9
 seen-lent-requires : tie.Need-seen-lent-requires
 seen-lent-requires c κs = search needs
 
--- src/lib.rt:115:9
 returns : tie.Need-returns
 unfolding marksNumber
 returns c = no _ _ _ _ (is-no _ _ (c .before .seen-lent .ensures) (c .if1 .taken)) refl
 
--- src/lib.rt:117:17
 cell-requires : tie.Need-cell-requires
 cell-requires c κs = search needs
 
--- src/lib.rt:118:9
 returns-2 : tie.Need-returns-2
 unfolding marksNumber
 returns-2 c = yes _ _ _ _ (is-yes _ _ (c .before .before .before .seen-lent .ensures) (c .before .before .if1 .left)) (no _ _ _ _ (no-place _ _ _ (c .before .cell .ensures) (c .if2 .taken)) refl)
 
--- src/lib.rt:120:8
 cell-requires-2 : tie.Need-cell-requires-2
 cell-requires-2 c κs = search needs
 
--- src/lib.rt:121:9
 returns-3 : tie.Need-returns-3
 unfolding marksNumber
 returns-3 c = yes _ _ _ _ (is-yes _ _ (c .before .before .before .before .before .seen-lent .ensures) (c .before .before .before .before .if1 .left)) (yes _ _ _ _ (places _ _ _ (c .before .before .before .cell .ensures) (c .before .before .if2 .left)) (no _ _ _ _ (too-high _ _ _ (c .before .cell2 .ensures) (c .if3 .taken)) refl))
 
--- src/lib.rt:111:1
 returns-4 : tie.Need-returns-4
 unfolding marksNumber
 returns-4 c = yes _ _ _ _ (is-yes _ _ (c .before .before .before .before .before .seen-lent .ensures) (c .before .before .before .before .if1 .left)) (yes _ _ _ _ (places _ _ _ (c .before .before .before .cell .ensures) (c .before .before .if2 .left)) (yes _ _ _ _ (in-range _ _ _ (c .before .cell2 .ensures) (c .if3 .left)) refl))

@@ -5,58 +5,43 @@ use native.Mathlib.Omega.{arith}
 use borrow.Author.Needs.{needs}
 use Rattle.till_calls.proofs.put_till.Statement.{statement}
 use Rattle.till_calls.proofs.put_till.Tie as tie
-use Rattle.till_calls.proofs.put_till.Reads as reads
-use Rattle.till_calls.proofs.put_till.Lts as lts
 
--- src/lib.rt:131:5
 mul-tills : tie.Need-mul-tills
 mul-tills c = search needs
 
--- src/lib.rt:131:5
 slice-write-tills : tie.Need-slice-write-tills
 slice-write-tills c = search needs
 
--- src/lib.rt:132:11
 add-tills : tie.Need-add-tills
 add-tills c = search needs
 
--- src/lib.rt:132:5
 mul-tills-2 : tie.Need-mul-tills-2
 mul-tills-2 c = search needs
 
--- src/lib.rt:132:5
 slice-write-tills-2 : tie.Need-slice-write-tills-2
 slice-write-tills-2 c = simp length-set (omega arith)
 
--- src/lib.rt:133:11
 add-tills-2 : tie.Need-add-tills-2
 add-tills-2 c = search needs
 
--- src/lib.rt:133:5
 mul-tills-3 : tie.Need-mul-tills-3
 mul-tills-3 c = search needs
 
--- src/lib.rt:133:5
 slice-write-tills-3 : tie.Need-slice-write-tills-3
 slice-write-tills-3 c = simp length-set (omega arith)
 
--- src/lib.rt:134:11
 add-tills-3 : tie.Need-add-tills-3
 add-tills-3 c = search needs
 
--- src/lib.rt:134:5
 mul-tills-4 : tie.Need-mul-tills-4
 mul-tills-4 c = search needs
 
--- src/lib.rt:134:5
 slice-write-tills-4 : tie.Need-slice-write-tills-4
 slice-write-tills-4 c = simp length-set (omega arith)
 
--- src/lib.rt:127:1
 same-length : tie.Need-same-length
 same-length c = search needs
 
--- src/lib.rt:127:1
 returns : tie.Need-returns
 returns c = stored (c .args .tills .now) (c .args .b) (c .args .up) (c .args .gossip ∷ c .args .host ∷ c .args .shards ∷ []) (c .pre)
 
