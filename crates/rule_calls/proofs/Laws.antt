@@ -2,11 +2,11 @@
 use mathlib.Core.Path.{_≡_, refl, sym, ap, _∙_}
 use mathlib.Core.Bool.{Bool, true, false, cond, _&&_}
 use mathlib.Core.List.{List}
-use Prim.Native.Nat.{ℕ, max, _+_, _≤_, _<_}
+use Prim.Native.Nat.{ℕ, max, _+_, _*_, _≤_, _<_}
 use native.Mathlib.Omega.{arith}
 use native.Mathlib.Numerals.{add-one}
 use lib.Dec.{eqb, leb, ltb}
-use lib.ListN.{set}
+use lib.ListN.{length, set}
 use borrow.Author.Tests.{lt-ltb, le-ltb, le-leb, lt-leb, ltb-true, eq-eqb, ne-eqb}
 use Rattle.rule.specs.declared.Message.{Message}
 use Rattle.rows.proofs.Rows.{length-rows}
@@ -26,7 +26,7 @@ use Rattle.geography.specs.Geography.{Stands}
 use Rattle.network.specs.Lists.{bit}
 use Rattle.network.specs.Opening.{latestNow, mostWords}
 use Rattle.network.specs.Calls.{Call, install, remove, decide, reading, fired, number, answerOf}
-use Rattle.network.specs.Tables.{Tables, cell, sizesAt, settingsAt, live, rulesAt, installedAt, faultWordsAt}
+use Rattle.network.specs.Tables.{Tables, cell, sizesAt, settingsAt, live, setupWidth, netWidth, rulesAt, installedAt, faultWordsAt}
 use Rattle.network.specs.Real.{openingAt, drawsOf, faultKeyOf}
 use Rattle.network.specs.Writes.{callReply, stepT, ruledT}
 use Rattle.held.specs.Held.{setupHeld, netHeld, rulesHeld}
@@ -36,9 +36,21 @@ use Rattle.held.proofs.PassedRows.{rules-say}
 use Rattle.reply.specs.declared.Value.{Value}
 use Rattle.reply.specs.Reply.{refusedBy, answeredBy}
 use Rattle.reply.proofs.Laws as reply
-use Rattle.rule_calls.specs.Calls.{lend, Changes, rulesLent, lentNumber, placeNumber, exactNumber, firstOf, cardNumber, decideNumber, Passed, Decidable, verdictOf}
+use Rattle.rule_calls.specs.Calls.{lend, Changes, rulesLent, lentNumber, placeNumber, exactNumber, firstOf, cardNumber, decideNumber}
 
 -- ---- What passed questions say
+
+-- question 1
+pub record Passed (s n r : List ℕ) : Type 0 where
+  pub setup : length s ≡ setupWidth
+  pub net : length n ≡ netWidth
+  pub count : cell n rulesAt ≤ ruleSlots
+  pub rules : length r ≡ ruleSlots * ruleWidth
+
+-- and question 8
+pub record Decidable (s n r : List ℕ) : Type 0 where
+  pub lent : Passed s n r
+  pub words : cell n faultWordsAt < mostWords
 
 pub passed : (s n r : List ℕ) → rulesLent s n r ≡ true → Passed s n r
 unfolding rulesLent
@@ -165,6 +177,10 @@ module _ (s n r : List ℕ) (m : Message) where
             none h = yes _ _ _ _ lent (yes _ _ _ _ (lt-ltb _ _ near) (yes _ _ _ _ both5 (yes _ _ _ _ (le-leb _ _ time) (yes _ _ _ _ (lt-ltb _ _ h) refl))))
 
 -- ---- The verdict
+
+-- what the rules say of a message, with the fault stream at its word count
+abbrev pub verdictOf : (setup net rules : List ℕ) → Message → Decision
+verdictOf s n r m = decideOf (faultKeyOf (settingsAt s .faultKey)) m (rulesOf r (cell n rulesAt)) (cell n faultWordsAt)
 
 pub verdict-is : (s n r : List ℕ) (m : Message) (c : Cursor) (v : Verdict) → Stands (faultKeyOf (settingsAt s .faultKey)) (cell n faultWordsAt) c
     → decision v ≡ decideOf (c .key) m (rulesOf r (cell n rulesAt)) (c .count) → decision v ≡ verdictOf s n r m

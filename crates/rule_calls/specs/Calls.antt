@@ -2,17 +2,14 @@
 use mathlib.Core.Path.{_≡_}
 use mathlib.Core.Bool.{Bool, true, cond, _&&_}
 use mathlib.Core.List.{List}
-use Prim.Native.Nat.{ℕ, max, _*_, _≤_, _<_}
+use Prim.Native.Nat.{ℕ, max}
 use lib.Dec.{eqb, leb, ltb}
-use lib.ListN.{length}
 use Rattle.rule.specs.declared.Message.{Message}
 use Rattle.card.specs.Card.{exact}
-use Rattle.rules.specs.Rules.{ruleSlots, ruleWidth, mostRules, rulesOf}
-use Rattle.decide.specs.Decide.{Decision, decideOf}
+use Rattle.rules.specs.Rules.{ruleSlots, mostRules}
 use Rattle.network.specs.Opening.{latestNow, mostWords}
 use Rattle.network.specs.Calls.{Call, install, remove, decide, reading, fired}
-use Rattle.network.specs.Tables.{Tables, cell, sizesAt, settingsAt, setupWidth, netWidth, rulesAt, installedAt, faultWordsAt}
-use Rattle.network.specs.Real.{faultKeyOf}
+use Rattle.network.specs.Tables.{Tables, cell, sizesAt, rulesAt, installedAt, faultWordsAt}
 use Rattle.network.specs.Writes.{callTables, callReply}
 use Rattle.held.specs.Held.{setupHeld, netHeld, rulesHeld}
 use Rattle.reply.specs.declared.Value.{Value}
@@ -72,19 +69,3 @@ decideNumber s n r m =
     (cond (ltb (m .kind) (sizesAt s .types) && leb (m .tier) 3)
     (cond (leb (m .now) latestNow)
     (cond (ltb (cell n faultWordsAt) mostWords) 0 8) 7) 5) 4)
-
--- what question 1, answered "yes", says
-pub record Passed (s n r : List ℕ) : Type 0 where
-  pub setup : length s ≡ setupWidth
-  pub net : length n ≡ netWidth
-  pub count : cell n rulesAt ≤ ruleSlots
-  pub rules : length r ≡ ruleSlots * ruleWidth
-
--- and question 8: the fault stream may be asked
-pub record Decidable (s n r : List ℕ) : Type 0 where
-  pub lent : Passed s n r
-  pub words : cell n faultWordsAt < mostWords
-
--- what the rules say of a message, with the fault stream at its word count
-abbrev pub verdictOf : (setup net rules : List ℕ) → Message → Decision
-verdictOf s n r m = decideOf (faultKeyOf (settingsAt s .faultKey)) m (rulesOf r (cell n rulesAt)) (cell n faultWordsAt)

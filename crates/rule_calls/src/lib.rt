@@ -1,9 +1,7 @@
 // The rule calls on the network's tables: install, remove, fired, decide.
 ghost use mathlib.Core.Path.{_≡_};
-ghost use Rattle.decide.specs.Decide.{decision};
-ghost use Rattle.rule_calls.specs.Calls.{DoesInstall, DoesRemove, DoesFired, DoesDecide, rulesLent, placeNumber, exactNumber, firstOf, cardNumber, decideNumber, Decidable, verdictOf};
+ghost use Rattle.rule_calls.specs.Calls.{DoesInstall, DoesRemove, DoesFired, DoesDecide, rulesLent, placeNumber, exactNumber, firstOf, cardNumber, decideNumber};
 use card::Card;
-use decide::Verdict;
 use reply::Value;
 use rule::Message;
 
@@ -151,16 +149,6 @@ fn decide_refusal(setup: &[u64], net: &[u64], rules: &[u64], m: Message) -> u64
     0
 }
 
-// What the rules say of a message, with the fault stream at its word count.
-fn verdict(setup: &[u64], net: &[u64], rules: &[u64], m: Message) -> Verdict
-    requires { ⌜ Decidable (now setup) (now net) (now rules) ⌝ }
-    ensures { λ r. ⌜ decision r ≡ verdictOf (now (setup .entry)) (now (net .entry)) (now (rules .entry)) m ⌝ }
-{
-    let n = net[held::RULES];
-    let c = link_draws::fault_at(setup, net[held::FAULT_WORDS]);
-    decide::decide(rules, n as usize, c, m)
-}
-
 // The word count moves, and the rule that drops has fired once more. The value is 1 for a drop, or 0.
 pub fn decide(
     setup: &[u64],
@@ -181,11 +169,14 @@ pub fn decide(
         tier,
         now: at,
     };
-    let number = decide_refusal(setup, net, rules, m);
-    if number != 0 {
-        return reply::refused(number);
+    let refusal = decide_refusal(setup, net, rules, m);
+    if refusal != 0 {
+        return reply::refused(refusal);
     }
-    let v = verdict(setup, net, rules, m);
+    let n = net[held::RULES];
+    let words = net[held::FAULT_WORDS];
+    let c = link_draws::fault_at(setup, words);
+    let v = decide::decide(rules, n as usize, c, m);
     let next = v.next;
     net[held::FAULT_WORDS] = next.count;
     if v.drops {
