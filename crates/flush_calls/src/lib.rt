@@ -57,7 +57,15 @@ fn rows_lent(setup: &[u64], net: &[u64], waiting: &[u64], blocks: &[u64], log: &
 }
 
 // Question 1.
-fn lent(setup: &[u64], net: &[u64], tills: &[u64], seen: &[u64], waiting: &[u64], blocks: &[u64], log: &[u64]) -> bool
+fn lent(
+    setup: &[u64],
+    net: &[u64],
+    tills: &[u64],
+    seen: &[u64],
+    waiting: &[u64],
+    blocks: &[u64],
+    log: &[u64],
+) -> bool
     ensures { λ r. ⌜ r ≡ flushLent (now (setup .entry)) (now (net .entry)) (now (tills .entry)) (now (seen .entry)) (now (waiting .entry)) (now (blocks .entry)) (now (log .entry)) ⌝ }
 {
     if !held::setup_held(setup) {
@@ -76,7 +84,16 @@ fn lent(setup: &[u64], net: &[u64], tills: &[u64], seen: &[u64], waiting: &[u64]
 }
 
 // Questions 1 and 7.
-fn refusal(setup: &[u64], net: &[u64], tills: &[u64], seen: &[u64], waiting: &[u64], blocks: &[u64], log: &[u64], at: u64) -> u64
+fn refusal(
+    setup: &[u64],
+    net: &[u64],
+    tills: &[u64],
+    seen: &[u64],
+    waiting: &[u64],
+    blocks: &[u64],
+    log: &[u64],
+    at: u64,
+) -> u64
     ensures { λ r. ⌜ r ≡ flushNumber (now (setup .entry)) (now (net .entry)) (now (tills .entry)) (now (seen .entry)) (now (waiting .entry)) (now (blocks .entry)) (now (log .entry)) at 0 ⌝ }
 {
     if !lent(setup, net, tills, seen, waiting, blocks, log) {
@@ -89,7 +106,17 @@ fn refusal(setup: &[u64], net: &[u64], tills: &[u64], seen: &[u64], waiting: &[u
 }
 
 // The first k waiting copies land or are dropped; then they are gone from waiting.
-fn work(net: &mut [u64], tills: &[u64], seen: &mut [u64], waiting: &mut [u64], blocks: &[u64], log: &mut [u64], out: &mut [u64], z: Extents, k: usize) -> Flushed
+fn work(
+    net: &mut [u64],
+    tills: &[u64],
+    seen: &mut [u64],
+    waiting: &mut [u64],
+    blocks: &[u64],
+    log: &mut [u64],
+    out: &mut [u64],
+    z: Extents,
+    k: usize,
+) -> Flushed
     requires { ⌜ Ready z k (now net) (now tills) (now seen) (now waiting) (now blocks) (now log) (now out) ⌝ }
     ensures { λ r. ⌜ Worked z k (now (net .entry)) (now (net .exit)) (now (tills .entry)) (now (seen .entry)) (now (seen .exit)) (now (waiting .entry)) (now (waiting .exit)) (now (blocks .entry)) (now (log .entry)) (now (log .exit)) (now (out .entry)) (now (out .exit)) r ⌝ }
 {
@@ -113,7 +140,17 @@ fn extents(setup: &[u64], net: &[u64]) -> Extents
 }
 
 // The waiting copies whose time has come, by time, then sequence: each lands as a row of out, or is dropped.
-pub fn flush(setup: &[u64], net: &mut [u64], tills: &[u64], seen: &mut [u64], waiting: &mut [u64], blocks: &[u64], log: &mut [u64], out: &mut [u64], at: u64) -> Flushed
+pub fn flush(
+    setup: &[u64],
+    net: &mut [u64],
+    tills: &[u64],
+    seen: &mut [u64],
+    waiting: &mut [u64],
+    blocks: &[u64],
+    log: &mut [u64],
+    out: &mut [u64],
+    at: u64,
+) -> Flushed
     ensures { λ r. ⌜ DoesFlush (now (setup .entry)) (now (net .entry)) (now (net .exit)) (now (tills .entry)) (now (seen .entry)) (now (seen .exit)) (now (waiting .entry)) (now (waiting .exit)) (now (blocks .entry)) (now (log .entry)) (now (log .exit)) (now (out .entry)) (now (out .exit)) at r ⌝ }
 {
     let number = refusal(setup, net, tills, seen, waiting, blocks, log, at);
