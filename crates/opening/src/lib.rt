@@ -65,3 +65,54 @@ fn write_begun(
     fill::clear(rings, sizes.types as usize * rings::SCOPES * HEAD);
     fill::clear(log, log::RECORDS);
 }
+
+// How many elements the lent tables have is asked before anything is written.
+pub fn open_network(
+    config: NetworkConfig,
+    sizes: NetworkSizes,
+    plan: RegionPlan,
+    seed: u64,
+    key: &[u8],
+    masks: &[u64],
+    names: &[u8],
+    setup: &mut [u64],
+    net: &mut [u64],
+    tills: &mut [u64],
+    words: &mut [u64],
+    keys: &mut [u32],
+    prices: &mut [u64],
+    seen: &mut [u64],
+    waiting: &[u64],
+    rings: &mut [u64],
+    rules: &[u64],
+    blocks: &[u64],
+    log: &mut [u64],
+) -> Opened
+    ensures { λ r. ⌜ Does (settingsOf config sizes plan seed (now (key .entry))) (now (masks .entry))
+        (tables (now (setup .entry)) (now (net .entry)) (now (names .entry)) (now (tills .entry)) (now (words .entry)) (now (keys .entry)) (now (prices .entry)) (now (seen .entry)) (now (waiting .entry)) (now (rings .entry)) (now (rules .entry)) (now (blocks .entry)) (now (log .entry)))
+        (tables (now (setup .exit)) (now (net .exit)) (now (names .entry)) (now (tills .exit)) (now (words .exit)) (now (keys .exit)) (now (prices .exit)) (now (seen .exit)) (now (waiting .entry)) (now (rings .exit)) (now (rules .entry)) (now (blocks .entry)) (now (log .exit)))
+        r ⌝ }
+{
+    let lengths = TableSizes {
+        setup: setup.len() as u64,
+        net: net.len() as u64,
+        names: names.len() as u64,
+        tills: tills.len() as u64,
+        words: words.len() as u64,
+        keys: keys.len() as u64,
+        prices: prices.len() as u64,
+        seen: seen.len() as u64,
+        waiting: waiting.len() as u64,
+        rings: rings.len() as u64,
+        rules: rules.len() as u64,
+        blocks: blocks.len() as u64,
+        log: log.len() as u64,
+    };
+    let number = opening_tests::refusal(config, sizes, plan, lengths, key, masks, names);
+    if number != 0 {
+        return Opened { number };
+    }
+    write_settled(config, sizes, plan, seed, key, setup, words, keys, prices);
+    write_begun(sizes, masks, net, tills, seen, rings, log);
+    Opened { number }
+}
