@@ -3,7 +3,7 @@ use mathlib.Core.Path.{_≡_, refl, sym, ap, _∙_}
 use mathlib.Core.Bool.{Bool, true, false, cond}
 use mathlib.Core.List.{List, [], _∷_, _++_, append-assoc, append-nil}
 use Prim.Native.Nat.{ℕ, zero, suc, _+_, _-_, _*_, _/_, _%_, _^_, _≤_, _<_}
-use native.Mathlib.Nat.{add-zero, mul-le-mul, mod-lt, div-lt-iff-lt-mul}
+use native.Mathlib.Nat.{add-zero, mul-le-mul, mod-le, div-le-self}
 use native.Mathlib.Omega.{arith}
 use lib.Dec.{eqb}
 use lib.ListN.{length, getD, take, drop, set, replicate, length-append, length-take, length-replicate, drop-of-length-le, take-append-drop}
@@ -87,7 +87,7 @@ link-long seed from to = length-hash _
 pub pair-most : (n : ℕ) → n ≤ 64 → n * n ≤ 4096
 pair-most n h = mul-le-mul h h
 
--- the ends of pair i are tills
+-- where there is a pair, there is a till
 module _ (i n : ℕ) (h : n ≤ 64) (k : i < n * n) where
   pub some-till : 0 < n
   some-till = go n k
@@ -96,11 +96,12 @@ module _ (i n : ℕ) (h : n ≤ 64) (k : i < n * n) where
       go zero q = absurd (omega arith)
       go (suc n) q = omega arith
 
-  pub quotient-small : i / n < 2 ^ 32
-  quotient-small = let q : i / n < n = div-lt-iff-lt-mul some-till .1 k in omega arith
+-- and fit 32 bits
+pub quotient-fits : (a n : ℕ) → a < 2 ^ 32 → a / n < 2 ^ 32
+quotient-fits a n h = omega (arith, div-le-self a n)
 
-  pub remainder-small : i % n < 2 ^ 32
-  remainder-small = let q : i % n < n = mod-lt i some-till in omega arith
+pub remainder-fits : (a n : ℕ) → a < 2 ^ 32 → a % n < 2 ^ 32
+remainder-fits a n h = omega (arith, mod-le a n)
 
 pub keys-of : (x : Settings) → linkKeys (x .seed) (x .sizes .tills) ≡ keysOf x
 unfolding linkKeys keysOf

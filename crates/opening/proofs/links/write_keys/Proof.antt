@@ -13,7 +13,7 @@ use Rattle.streams.specs.Link.{linkKey}
 use Rattle.network.specs.Real.{keyWidth}
 use Rattle.opening.specs.Opens.{linkKeys}
 use Rattle.opening.proofs.Filled.{rows-none, row-more, rows-all, upTo-more}
-use Rattle.opening.proofs.Cells.{link-long, pair-most, some-till, quotient-small, remainder-small}
+use Rattle.opening.proofs.Cells.{link-long, pair-most, some-till, quotient-fits, remainder-fits}
 use Rattle.shift.specs.Shift.{putWords}
 use Rattle.opening.proofs.links.write_keys.Statement.{statement}
 use Rattle.opening.proofs.links.write_keys.Tie as tie
@@ -42,7 +42,7 @@ div-link-key c = omega (arith, some-till (c .before .loop .i) (c .before .before
 
 -- src/links.rt:33:43
 cast-link-key : tie.Need-cast-link-key Inv-loop μ-loop
-cast-link-key c = record { fits = quotient-small (c .before .loop .i) (c .before .before .before .args .n) (c .before .before .before .pre .0) (omega arith) }
+cast-link-key c = let t = pair-most (c .before .before .before .args .n) (c .before .before .before .pre .0) in record { fits = quotient-fits _ _ (omega arith) }
 
 -- src/links.rt:33:60
 rem-link-key : tie.Need-rem-link-key Inv-loop μ-loop
@@ -50,7 +50,7 @@ rem-link-key c = omega (arith, some-till (c .before .loop .i) (c .before .before
 
 -- src/links.rt:33:59
 cast-link-key-2 : tie.Need-cast-link-key-2 Inv-loop μ-loop
-cast-link-key-2 c = record { fits = remainder-small (c .before .loop .i) (c .before .before .before .args .n) (c .before .before .before .pre .0) (omega arith) }
+cast-link-key-2 c = let t = pair-most (c .before .before .before .args .n) (c .before .before .before .pre .0) in record { fits = remainder-fits _ _ (omega arith) }
 
 -- src/links.rt:33:13
 link-key-requires : tie.Need-link-key-requires Inv-loop μ-loop
