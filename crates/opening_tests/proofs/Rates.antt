@@ -26,3 +26,18 @@ is-nan (fin s m e) h = absurd (false≢true h)
 pub nan-refused : (bits : ℕ) → isNan (rateOf bits) ≡ true → (rateAdmitted (rateOf bits) ≡ false) × (fractionAdmitted (rateOf bits) ≡ false)
 unfolding rateAdmitted fractionAdmitted le eq
 nan-refused bits h = (ap rateAdmitted (is-nan (rateOf bits) h), ap fractionAdmitted (is-nan (rateOf bits) h))
+
+-- a rate or fraction that question 3 admits is no NaN
+none-admitted : (q : Float → Bool) → q nan ≡ false → (x : Float) → q (rateOf (bitsOf x)) ≡ true → isNan x ≡ false
+unfolding isNan fits
+none-admitted q n nan h = absurd (false≢true (sym n ∙ ap q (sym (kept nan tt)) ∙ h))
+none-admitted q n (inf s) h = refl
+none-admitted q n (fin s m e) h = refl
+
+pub rate-is-number : (x : Float) → rateAdmitted (rateOf (bitsOf x)) ≡ true → isNan x ≡ false
+unfolding rateAdmitted le
+rate-is-number = none-admitted rateAdmitted refl
+
+pub fraction-is-number : (x : Float) → fractionAdmitted (rateOf (bitsOf x)) ≡ true → isNan x ≡ false
+unfolding fractionAdmitted le eq
+fraction-is-number = none-admitted fractionAdmitted refl
