@@ -1,0 +1,21 @@
+// Flush as a C function.
+use flush_calls::Flushed;
+ghost use Rattle.flush_calls.specs.Call.{DoesFlush};
+
+// Moves every copy due at a time: rows to the output, or drops.
+#[no_mangle]
+pub extern "C" fn gossip_flush(
+    setup: &[u64],
+    net: &mut [u64],
+    tills: &[u64],
+    seen: &mut [u64],
+    waiting: &mut [u64],
+    blocks: &[u64],
+    log: &mut [u64],
+    out: &mut [u64],
+    at: u64,
+) -> Flushed
+    ensures { λ r. ⌜ DoesFlush (now (setup .entry)) (now (net .entry)) (now (net .exit)) (now (tills .entry)) (now (seen .entry)) (now (seen .exit)) (now (waiting .entry)) (now (waiting .exit)) (now (blocks .entry)) (now (log .entry)) (now (log .exit)) (now (out .entry)) (now (out .exit)) at r ⌝ }
+{
+    flush_calls::flush(setup, net, tills, seen, waiting, blocks, log, out, at)
+}

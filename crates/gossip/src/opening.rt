@@ -1,0 +1,70 @@
+// The opening as C functions.
+use opening::Opened;
+use opening_tests::NetworkConfig;
+use opening_tests::NetworkSizes;
+use opening_tests::RegionPlan;
+use opening_tests::TableSizes;
+ghost use mathlib.Core.Path.{_≡_};
+ghost use Rattle.opening.specs.Opens.{Does, tables};
+ghost use Rattle.opening_tests.specs.Given.{settingsOf};
+ghost use Rattle.opening_tests.specs.Sizes.{tableSizes};
+ghost use Rattle.opening_tests.specs.Given.{sized};
+
+// Opens a network in the lent tables, or refuses with 1, 2, 3 or 5.
+#[no_mangle]
+pub extern "C" fn gossip_open(
+    config: NetworkConfig,
+    sizes: NetworkSizes,
+    plan: RegionPlan,
+    seed: u64,
+    key: &[u8],
+    masks: &[u64],
+    names: &[u8],
+    setup: &mut [u64],
+    net: &mut [u64],
+    tills: &mut [u64],
+    words: &mut [u64],
+    keys: &mut [u32],
+    prices: &mut [u64],
+    seen: &mut [u64],
+    waiting: &[u64],
+    rings: &mut [u64],
+    rules: &[u64],
+    blocks: &[u64],
+    log: &mut [u64],
+) -> Opened
+    ensures { λ r. ⌜ Does (settingsOf config sizes plan seed (now (key .entry))) (now (masks .entry))
+        (tables (now (setup .entry)) (now (net .entry)) (now (names .entry)) (now (tills .entry)) (now (words .entry)) (now (keys .entry)) (now (prices .entry)) (now (seen .entry)) (now (waiting .entry)) (now (rings .entry)) (now (rules .entry)) (now (blocks .entry)) (now (log .entry)))
+        (tables (now (setup .exit)) (now (net .exit)) (now (names .entry)) (now (tills .exit)) (now (words .exit)) (now (keys .exit)) (now (prices .exit)) (now (seen .exit)) (now (waiting .entry)) (now (rings .exit)) (now (rules .entry)) (now (blocks .entry)) (now (log .exit)))
+        r ⌝ }
+{
+    opening::open_network(
+        config,
+        sizes,
+        plan,
+        seed,
+        key,
+        masks,
+        names,
+        setup,
+        net,
+        tills,
+        words,
+        keys,
+        prices,
+        seen,
+        waiting,
+        rings,
+        rules,
+        blocks,
+        log,
+    )
+}
+
+// How many elements each lent table has for an opening; zeros where its sizes are beyond the limits.
+#[no_mangle]
+pub extern "C" fn gossip_table_sizes(sizes: NetworkSizes, plan: RegionPlan) -> TableSizes
+    ensures { λ r. ⌜ r ≡ tableSizes (sized sizes plan) ⌝ }
+{
+    opening_tests::table_sizes(sizes, plan)
+}
