@@ -1,0 +1,12 @@
+use Rattle.held.specs.Held.{wordsHeld}
+use Rattle.held.proofs.Ladder.{last}
+use mathlib.Core.Path.{refl}
+use Rattle.held.proofs.words_held.Statement.{statement}
+use Rattle.held.proofs.words_held.Tie as tie
+
+returns : tie.Need-returns
+unfolding wordsHeld
+returns c = last _ _ refl
+
+pub words-held-spec : {M : Type 1} → statement M
+words-held-spec = tie.close (tie.spec returns)

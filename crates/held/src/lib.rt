@@ -1,0 +1,323 @@
+// Question 1: are the lent tables of the opening's sizes, with counts, hosts, types and classes in range? One function a table.
+ghost use mathlib.Core.Path.{_≡_};
+ghost use mathlib.Core.Bool.{true};
+ghost use Prim.Native.Nat.{_+_, _*_, _^_, _≤_};
+ghost use lib.ListN.{length, getD, set, drop};
+ghost use Rattle.rows.specs.Rows.{allOf};
+ghost use Rattle.rows.specs.Table.{rowsOf};
+ghost use Rattle.blocks.specs.Blocks.{blockWidth, firstBlock};
+ghost use Rattle.latency.specs.Admitted.{latencyAdmitted, fractionAdmitted, rateAdmitted};
+ghost use Rattle.network.specs.Tables.{setupWidth, tillForm, blockForm};
+ghost use Rattle.network.specs.Limits.{rateOf};
+ghost use Rattle.held.specs.Held.{sizesHeld, rangesHeld, setupHeld, netHeld, wordsHeld, rulesHeld, keysHeld, masksBelow, tillsHeld, endsBelow, blocksHeld, seenHeld};
+use time::Time;
+
+// Where the numbers of `setup` stand.
+pub const TILLS: usize = 0;
+
+pub const TYPES: usize = 1;
+
+pub const CLASSES: usize = 2;
+
+pub const SHARDS: usize = 3;
+
+pub const SEEN_SLOTS: usize = 4;
+
+pub const WAIT_SLOTS: usize = 5;
+
+pub const LOG_SLOTS: usize = 6;
+
+pub const LATENCY: usize = 7;
+
+pub const JITTER: usize = 8;
+
+pub const LOSS: usize = 9;
+
+pub const DUPLICATE: usize = 10;
+
+pub const REPLAY: usize = 11;
+
+pub const SPIKE: usize = 12;
+
+pub const PLANNED: usize = 13;
+
+pub const REGIONS: usize = 14;
+
+pub const PLAN_SEED: usize = 15;
+
+pub const SEED: usize = 16;
+
+pub const FAULT_KEY: usize = 17;
+
+pub const SETUP_WIDTH: usize = 25;
+
+// Where the numbers of `net` stand.
+pub const SEQUENCE: usize = 0;
+
+pub const WAITING: usize = 1;
+
+pub const RULES: usize = 2;
+
+pub const INSTALLED: usize = 3;
+
+pub const FAULT_WORDS: usize = 4;
+
+pub const BLOCKS: usize = 5;
+
+pub const NET_WIDTH: usize = 6;
+
+// Document 01's limits.
+pub const MOST_TILLS: u64 = 64;
+
+pub const MOST_TYPES: u64 = 16;
+
+pub const MOST_CLASSES: u64 = 8;
+
+pub const MOST_SHARDS: u64 = 16;
+
+pub const MOST_SLOTS: u64 = 4096;
+
+pub const MOST_REGIONS: u64 = 16;
+
+// One word count for each ordered pair of 64 tills.
+pub const LINKS: usize = 4096;
+
+// The words of a stream's key, and of a row of `tills`.
+pub const KEY_WIDTH: u64 = 8;
+
+pub const TILL_WIDTH: usize = 4;
+
+// The word at i, or 0 where there is none.
+pub fn cell(s: &[u64], i: usize) -> u64
+    ensures { λ r. ⌜ r ≡ getD (now (s .entry)) i 0 ⌝ }
+{
+    if i < s.len() { s[i] } else { 0 }
+}
+
+// The word at i anew, where there is one.
+pub fn put(s: &mut [u64], i: usize, v: u64)
+    ensures { λ _. ⌜ now (s .exit) ≡ set (now (s .entry)) i v ⌝ }
+{
+    if i < s.len() {
+        s[i] = v;
+    }
+}
+
+// Are the sizes within the limits?
+fn sizes_held(setup: &[u64]) -> bool
+    requires { ⌜ length (now setup) ≡ setupWidth ⌝ }
+    ensures { λ r. ⌜ r ≡ sizesHeld (now (setup .entry)) ⌝ }
+{
+    if setup[TILLS] > MOST_TILLS {
+        return false;
+    }
+    if setup[TYPES] > MOST_TYPES {
+        return false;
+    }
+    if setup[CLASSES] > MOST_CLASSES {
+        return false;
+    }
+    if setup[SHARDS] > MOST_SHARDS {
+        return false;
+    }
+    if setup[WAIT_SLOTS] < 1 {
+        return false;
+    }
+    if setup[WAIT_SLOTS] > MOST_SLOTS {
+        return false;
+    }
+    if setup[SEEN_SLOTS] < 1 {
+        return false;
+    }
+    if setup[SEEN_SLOTS] > MOST_SLOTS {
+        return false;
+    }
+    if setup[LOG_SLOTS] > MOST_SLOTS {
+        return false;
+    }
+    setup[REGIONS] <= MOST_REGIONS
+}
+
+fn latency_held(ns: u64) -> bool
+    ensures { λ r. ⌜ r ≡ latencyAdmitted ns ⌝ }
+{
+    latency::latency_admitted(Time::from_nanos(ns))
+}
+
+fn fraction_held(bits: u64) -> bool
+    ensures { λ r. ⌜ r ≡ fractionAdmitted (rateOf bits) ⌝ }
+{
+    latency::fraction_admitted(float::of_any(bits))
+}
+
+fn rate_held(bits: u64) -> bool
+    ensures { λ r. ⌜ r ≡ rateAdmitted (rateOf bits) ⌝ }
+{
+    latency::rate_admitted(float::of_any(bits))
+}
+
+// Are latency, fraction and rates those that an opening admits?
+fn ranges_held(setup: &[u64]) -> bool
+    requires { ⌜ length (now setup) ≡ setupWidth ⌝ }
+    ensures { λ r. ⌜ r ≡ rangesHeld (now (setup .entry)) ⌝ }
+{
+    if !latency_held(setup[LATENCY]) {
+        return false;
+    }
+    if !fraction_held(setup[JITTER]) {
+        return false;
+    }
+    if !rate_held(setup[LOSS]) {
+        return false;
+    }
+    if !rate_held(setup[DUPLICATE]) {
+        return false;
+    }
+    if !rate_held(setup[REPLAY]) {
+        return false;
+    }
+    rate_held(setup[SPIKE])
+}
+
+pub fn setup_held(setup: &[u64]) -> bool
+    ensures { λ r. ⌜ r ≡ setupHeld (now (setup .entry)) ⌝ }
+{
+    if setup.len() != SETUP_WIDTH {
+        return false;
+    }
+    if !sizes_held(setup) {
+        return false;
+    }
+    ranges_held(setup)
+}
+
+pub fn net_held(setup: &[u64], net: &[u64]) -> bool
+    ensures { λ r. ⌜ r ≡ netHeld (now (setup .entry)) (now (net .entry)) ⌝ }
+{
+    if net.len() != NET_WIDTH {
+        return false;
+    }
+    if net[WAITING] > cell(setup, WAIT_SLOTS) {
+        return false;
+    }
+    if net[RULES] > rules::SLOTS as u64 {
+        return false;
+    }
+    net[BLOCKS] <= blocks::SLOTS as u64
+}
+
+pub fn words_held(words: &[u64]) -> bool
+    ensures { λ r. ⌜ r ≡ wordsHeld (now (words .entry)) ⌝ }
+{
+    words.len() == LINKS
+}
+
+pub fn rules_held(rules: &[u64]) -> bool
+    ensures { λ r. ⌜ r ≡ rulesHeld (now (rules .entry)) ⌝ }
+{
+    rules.len() == rules::SLOTS * rules::WIDTH
+}
+
+pub fn keys_held(setup: &[u64], keys: &[u32]) -> bool
+    requires { ⌜ setupHeld (now setup) ≡ true ⌝ }
+    ensures { λ r. ⌜ r ≡ keysHeld (now (setup .entry)) (now (keys .entry)) ⌝ }
+{
+    let n = setup[TILLS];
+    keys.len() as u64 == n * n * KEY_WIDTH
+}
+
+// 2^n: a mask of n types or shards is below it.
+pub fn power(n: u64) -> u64
+    requires { ⌜ n ≤ 16 ⌝ }
+    ensures { λ r. ⌜ r ≡ 2 ^ n ⌝ }
+{
+    1 << n
+}
+
+// Are the masks of the till whose words start at b below these powers?
+fn masks_below(tills: &[u64], b: usize, types: u64, shards: u64) -> bool
+    requires { ⌜ b + tillForm .width ≤ length (now tills) ⌝ }
+    ensures { λ r. ⌜ r ≡ masksBelow types shards (tillForm .read (drop b (now (tills .entry)))) ⌝ }
+{
+    if tills[b + 1] >= types {
+        return false;
+    }
+    if tills[b + 2] >= types {
+        return false;
+    }
+    tills[b + 3] < shards
+}
+
+// Are those of the first n tills?
+fn all_masks_below(tills: &[u64], n: usize, types: u64, shards: u64) -> bool
+    requires { ⌜ n * tillForm .width ≤ length (now tills) ⌝ }
+    ensures { λ r. ⌜ r ≡ allOf (masksBelow types shards) (rowsOf tillForm (now (tills .entry)) n) ⌝ }
+{
+    let mut i: usize = 0;
+    while i < n {
+        if !masks_below(tills, i * TILL_WIDTH, types, shards) {
+            return false;
+        }
+        i += 1;
+    }
+    true
+}
+
+pub fn tills_held(setup: &[u64], tills: &[u64]) -> bool
+    requires { ⌜ setupHeld (now setup) ≡ true ⌝ }
+    ensures { λ r. ⌜ r ≡ tillsHeld (now (setup .entry)) (now (tills .entry)) ⌝ }
+{
+    let n = setup[TILLS] as usize;
+    if tills.len() != n * TILL_WIDTH {
+        return false;
+    }
+    all_masks_below(tills, n, power(setup[TYPES]), power(setup[SHARDS]))
+}
+
+// Does the window whose words start at b name tills that exist?
+fn ends_below(blocks: &[u64], b: usize, tills: u64) -> bool
+    requires { ⌜ b + blockForm .width ≤ length (now blocks) ⌝ }
+    ensures { λ r. ⌜ r ≡ endsBelow tills (blockForm .read (drop b (now (blocks .entry)))) ⌝ }
+{
+    if blocks[b] >= tills {
+        return false;
+    }
+    blocks[b + 1] < tills
+}
+
+// Do the first n windows?
+fn all_ends_below(blocks: &[u64], n: usize, tills: u64) -> bool
+    requires { ⌜ n * blockForm .width ≤ length (now blocks) ⌝ }
+    ensures { λ r. ⌜ r ≡ allOf (endsBelow tills) (rowsOf blockForm (now (blocks .entry)) n) ⌝ }
+{
+    let mut i: usize = 0;
+    while i < n {
+        if !ends_below(blocks, i * blocks::WIDTH, tills) {
+            return false;
+        }
+        i += 1;
+    }
+    true
+}
+
+pub fn blocks_held(setup: &[u64], net: &[u64], blocks: &[u64]) -> bool
+    requires { ⌜ (setupHeld (now setup) ≡ true) × (netHeld (now setup) (now net) ≡ true) ⌝ }
+    ensures { λ r. ⌜ r ≡ blocksHeld (now (setup .entry)) (now (net .entry)) (now (blocks .entry)) ⌝ }
+{
+    if blocks.len() != blocks::SLOTS * blocks::WIDTH {
+        return false;
+    }
+    all_ends_below(blocks, net[BLOCKS] as usize, setup[TILLS])
+}
+
+pub fn seen_held(setup: &[u64], seen: &[u64]) -> bool
+    requires { ⌜ setupHeld (now setup) ≡ true ⌝ }
+    ensures { λ r. ⌜ r ≡ seenHeld (now (setup .entry)) (now (seen .entry)) ⌝ }
+{
+    let n = setup[TILLS] as usize;
+    let slots = setup[SEEN_SLOTS];
+    if seen.len() != n + n * (slots as usize) {
+        return false;
+    }
+    scan::column_within(seen, 0, 1, n, slots)
+}

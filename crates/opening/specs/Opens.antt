@@ -1,0 +1,95 @@
+-- The opening as a call on the lent tables, and what its parts write.
+use Prim.Native.Nat.{ℕ, _*_, _/_, _%_, _≤_}
+use mathlib.Core.Path.{_≡_}
+use mathlib.Core.Bool.{true, cond}
+use mathlib.Core.List.{List, [], _++_}
+use lib.Dec.{eqb}
+use lib.ListN.{length, drop, replicate}
+use Rattle.rows.specs.Lists.{upTo}
+use Rattle.rows.specs.Rows.{flat}
+use Rattle.rings.specs.Rings as rings
+use Rattle.log.specs.Log as log
+use Rattle.streams.specs.Link.{linkKey}
+use Rattle.geography.specs.Geography.{mostRegions, regionOf, pricesOf}
+use Rattle.network.specs.Lists.{every}
+use Rattle.network.specs.Opening.{Plan, Settings, mostTills, mostTypes, links}
+use Rattle.network.specs.Live.{openTills, ringsOf}
+use Rattle.network.specs.Tables.{Tables, setupWidth, netWidth, tillForm}
+use Rattle.network.specs.Limits.{rangeTests}
+use Rattle.network.specs.Real.{keyWidth, pairCells, pricesWidth}
+use Rattle.network.specs.Open.{openNumber, openCall}
+use Rattle.opening_tests.specs.declared.NetworkSizes.{NetworkSizes}
+use Rattle.opening_tests.specs.Given.{sizesOf, keyBytes}
+use Rattle.opening.specs.declared.Opened.{Opened}
+
+abbrev pub tables : (setup net names tills words keys prices seen waiting rings rules blocks log : List ℕ) → Tables
+tables setup net names tills words keys prices seen waiting rings rules blocks log = record {
+  setup = setup;
+  net = net;
+  names = names;
+  tills = tills;
+  words = words;
+  keys = keys;
+  prices = prices;
+  seen = seen;
+  waiting = waiting;
+  rings = rings;
+  rules = rules;
+  blocks = blocks;
+  log = log;
+}
+
+-- ---- The contract
+
+abbrev pub openedOf : ℕ → Opened
+openedOf n = record { number = n }
+
+-- the number of the first question whose answer is "no", or 0; and every lent table at exit
+unfoldable pub Does : Settings → (masks : List ℕ) → (T T′ : Tables) → Opened → Type 0
+Does x masks T T′ r = (r ≡ openedOf (openNumber x masks T)) × (T′ ≡ openCall x masks T)
+
+-- ---- What the parts write
+
+-- the keys of the links between n tills
+unfoldable pub linkKeys : (seed n : ℕ) → List ℕ
+linkKeys seed n = flat (λ i. linkKey seed (i / n) (i % n)) (upTo (n * n) (λ i. i))
+
+unfoldable pub pricesFor : Plan → (tills : ℕ) → List ℕ
+pricesFor p tills = cond (eqb (p .planned) 0) [] (pricesOf (p .seed) (p .regions) (replicate (pairCells p) 0) ++ upTo tills (λ t. regionOf (p .seed) (p .regions) t))
+
+-- what the opening alone writes: settings and tables that passed the questions
+pub record Settled (x : Settings) (key setup words keys prices : List ℕ) : Type 0 where
+  pub tills : x .sizes .tills ≤ mostTills
+  pub regions : x .plan .regions ≤ mostRegions
+  pub rates : every (rangeTests (x .config)) ≡ true
+  pub key-long : length key ≡ keyBytes
+  pub setup-long : length setup ≡ setupWidth
+  pub words-long : length words ≡ links
+  pub keys-long : length keys ≡ x .sizes .tills * x .sizes .tills * keyWidth
+  pub prices-long : length prices ≡ pricesWidth (x .plan) (x .sizes .tills)
+
+-- what calls write
+pub record Begun (z : NetworkSizes) (masks net tills seen heads head : List ℕ) : Type 0 where
+  pub tills-most : z .tills ≤ mostTills
+  pub types-most : z .types ≤ mostTypes
+  pub masks-long : length masks ≡ z .tills
+  pub net-long : length net ≡ netWidth
+  pub tills-long : length tills ≡ z .tills * tillForm .width
+  pub seen-long : z .tills ≤ length seen
+  pub rings-long : ringsOf (sizesOf z) * rings.headWidth ≤ length heads
+  pub log-long : log.recordsAt ≤ length head
+
+abbrev pub begunNet : List ℕ
+begunNet = replicate netWidth 0
+
+abbrev pub begunTills : NetworkSizes → List ℕ → List ℕ
+begunTills z masks = flat (tillForm .words) (openTills masks (z .tills))
+
+abbrev pub begunSeen : NetworkSizes → List ℕ → List ℕ
+begunSeen z seen = replicate (z .tills) 0 ++ drop (z .tills) seen
+
+abbrev pub begunRings : NetworkSizes → List ℕ → List ℕ
+begunRings z heads = replicate (ringsOf (sizesOf z) * rings.headWidth) 0 ++ drop (ringsOf (sizesOf z) * rings.headWidth) heads
+
+abbrev pub begunLog : List ℕ → List ℕ
+begunLog l = log.clearedAt l

@@ -1,0 +1,117 @@
+-- Products and sums of any numbers, tested by division; the lengths of the tables in that form. Assumes nothing.
+use mathlib.Core.Path.{_≡_, refl, sym, ap, _∙_}
+use mathlib.Core.Bool.{Bool, true, false, cond}
+use mathlib.Core.List.{List, []}
+use Prim.Native.Nat.{ℕ, zero, suc, _+_, _-_, _*_, _/_, _%_, _≤_, _<_}
+use native.Mathlib.Omega.{arith}
+use native.Mathlib.Nat.{div-add-mod', add-zero, mul-zero, mul-comm, mul-div-cancel, mul-mod-left, mul-mod-right}
+use lib.Dec.{eqb}
+use lib.ListN.{length}
+use borrow.Author.Tests.{eq-eqb, ne-eqb, eqb-true, eqb-false}
+use Rattle.word.specs.Word.{leWord}
+use Rattle.rows.specs.Lists.{upTo}
+use Rattle.geography.specs.Geography.{atLeastOne}
+use Rattle.delivery.specs.Delivery as delivery
+use Rattle.waiting.specs.Waiting as waiting
+use Rattle.rings.specs.Rings as rings
+use Rattle.log.specs.Log as log
+use Rattle.network.specs.Tables.{tillForm}
+use Rattle.network.specs.Real.{keyWidth, pricesWidth}
+use Rattle.opening_tests.specs.declared.RegionPlan.{RegionPlan}
+use Rattle.opening_tests.specs.Given.{keyWords, keyBytes, planOf}
+use Rattle.opening_tests.specs.Asked.{fitsPrices}
+
+eqb-same : (x y u v : ℕ) → (x ≡ y → u ≡ v) → (u ≡ v → x ≡ y) → eqb x y ≡ eqb u v
+eqb-same x y u v f g = go (eqb x y) refl
+  where
+    go : (b : Bool) → eqb x y ≡ b → b ≡ eqb u v
+    go true h = sym (eq-eqb u v (f (eqb-true x y h)))
+    go false h = sym (ne-eqb u v (λ e. eqb-false x y h (g e)))
+
+module _ (n a b : ℕ) where
+  pub product-none : b ≡ 0 → eqb n 0 ≡ eqb n (a * b)
+  product-none h = let e : 0 ≡ a * b = sym (ap (λ (k : ℕ). a * k) h ∙ mul-zero a) in ap (eqb n) e
+
+  pub product-odd : (n % b ≡ 0 → ⊥) → false ≡ eqb n (a * b)
+  product-odd h = sym (ne-eqb n (a * b) (λ e. h (ap (λ (k : ℕ). k % b) e ∙ mul-mod-left a b)))
+
+  pub product-even : (b ≡ 0 → ⊥) → n % b ≡ 0 → eqb (n / b) a ≡ eqb n (a * b)
+  product-even h k =
+      let some : 0 < b = omega (arith, h) in
+      eqb-same (n / b) a n (a * b) (λ e. sym (div-add-mod' n b) ∙ (λ j. e j * b + k j) ∙ add-zero (a * b)) (λ e. ap (λ (m : ℕ). m / b) e ∙ mul-div-cancel a some)
+
+module _ (n c k m : ℕ) where
+  pub sum-low : n < c → false ≡ eqb n (c + k * m)
+  sum-low h = sym (ne-eqb n (c + k * m) (λ e. omega arith))
+
+  pub sum-odd : c ≤ n → ((n - c) % k ≡ 0 → ⊥) → false ≡ eqb n (c + k * m)
+  sum-odd h odd = sym (ne-eqb n (c + k * m) (λ e. odd (let r : n - c ≡ k * m = omega arith in ap (λ (j : ℕ). j % k) r ∙ mul-mod-right k m)))
+
+  pub sum-even : (r : Bool) → 0 < k → c ≤ n → (n - c) % k ≡ 0 → r ≡ eqb ((n - c) / k) m → r ≡ eqb n (c + k * m)
+  sum-even r some h even e = e ∙ eqb-same ((n - c) / k) m n (c + k * m) there back
+    where
+      there : (n - c) / k ≡ m → n ≡ c + k * m
+      there q = let s : n - c ≡ m * k = sym (div-add-mod' (n - c) k) ∙ (λ j. q j * k + even j) ∙ add-zero (m * k) in omega (arith, mul-comm m k)
+
+      back : n ≡ c + k * m → (n - c) / k ≡ m
+      back q = let s : n - c ≡ m * k = omega (arith, mul-comm m k) in ap (λ (j : ℕ). j / k) s ∙ mul-div-cancel m some
+
+-- prices
+module _ (n : ℕ) (p : RegionPlan) (tills : ℕ) where
+  pub no-prices : p .planned ≡ 0 → eqb n 0 ≡ fitsPrices n p tills
+  unfolding fitsPrices
+  no-prices h = sym (ap (λ (b : Bool). eqb n (cond b 0 (2 * (atLeastOne (p .regions) * atLeastOne (p .regions)) + tills))) (eq-eqb (p .planned) 0 h))
+
+  pub some-prices : (r : Bool) (k : ℕ) → (p .planned ≡ 0 → ⊥) → k ≡ atLeastOne (p .regions) → r ≡ eqb n (tills + 2 * (k * k)) → r ≡ fitsPrices n p tills
+  unfolding fitsPrices
+  some-prices r k h e q =
+      let t : tills + 2 * (k * k) ≡ 2 * (k * k) + tills = omega arith in
+      q ∙ ap (eqb n) (t ∙ ap (λ (j : ℕ). 2 * (j * j) + tills) e)
+      ∙ sym (ap (λ (b : Bool). eqb n (cond b 0 (2 * (atLeastOne (p .regions) * atLeastOne (p .regions)) + tills))) (ne-eqb (p .planned) 0 h))
+
+pub one-region : (r : ℕ) → r ≡ 0 → 1 ≡ atLeastOne r
+unfolding atLeastOne
+one-region r h = omega arith
+
+pub more-regions : (r : ℕ) → (r ≡ 0 → ⊥) → r ≡ atLeastOne r
+unfolding atLeastOne
+more-regions r h = omega (arith, h)
+
+-- a length in the form that is tested
+pub formed : (n m k : ℕ) (r b : Bool) → m ≡ k → r ≡ eqb n k → r ≡ b → eqb n m ≡ b
+formed n m k r b e h q = ap (eqb n) e ∙ sym h ∙ q
+
+-- 32 bytes are a key, and nothing else is
+pub key-whole : (bytes : List ℕ) → length bytes ≡ keyBytes → keyWords bytes ≡ upTo keyWidth (λ i. leWord bytes (4 * i))
+unfolding keyWords
+key-whole bytes h = ap (λ (b : Bool). cond b (upTo keyWidth (λ i. leWord bytes (4 * i))) []) (eq-eqb (length bytes) keyBytes h)
+
+pub key-long : (bytes : List ℕ) → length bytes ≡ keyBytes → eqb (length (keyWords bytes)) keyWidth ≡ true
+key-long bytes h = ap (λ (l : List ℕ). eqb (length l) keyWidth) (key-whole bytes h)
+
+pub key-other : (bytes : List ℕ) → (length bytes ≡ keyBytes → ⊥) → eqb (length (keyWords bytes)) keyWidth ≡ false
+unfolding keyWords
+key-other bytes h = ap (λ (b : Bool). eqb (length (cond b (upTo keyWidth (λ i. leWord bytes (4 * i))) [])) keyWidth) (ne-eqb (length bytes) keyBytes h)
+
+pub priced : (n : ℕ) (p : RegionPlan) (tills : ℕ) (r b : Bool) → r ≡ fitsPrices n p tills → r ≡ b → eqb n (pricesWidth (planOf p) tills) ≡ b
+unfolding fitsPrices
+priced n p tills r b h q = sym h ∙ q
+
+-- the tables' lengths as sums
+pub tills-sum : (n : ℕ) → n * tillForm .width ≡ 0 + tillForm .width * (n * 1)
+tills-sum n = omega arith
+
+pub keys-sum : (n : ℕ) → n * n * keyWidth ≡ 0 + keyWidth * (n * n)
+keys-sum n = omega arith
+
+pub seen-sum : (n k : ℕ) → n + n * k ≡ n + 1 * (n * k)
+seen-sum n k = omega arith
+
+pub waiting-sum : (n : ℕ) → n * waiting.width ≡ 0 + waiting.width * (n * 1)
+waiting-sum n = omega arith
+
+pub rings-sum : (n : ℕ) → n * rings.scopes * (rings.headWidth + rings.span) ≡ 0 + rings.scopes * (rings.headWidth + rings.span) * (n * 1)
+rings-sum n = omega arith
+
+pub log-sum : (n : ℕ) → log.sizeOf n ≡ log.recordsAt + delivery.width * (n * 1)
+log-sum n = omega arith

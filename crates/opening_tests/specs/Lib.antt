@@ -1,0 +1,4 @@
+pub mod Given
+pub mod Asked
+pub mod Texts
+pub mod Sizes

@@ -1,0 +1,72 @@
+-- The loops: copies counted by their till, words copied, and the first copy's time. Assumes nothing.
+use mathlib.Core.Path.{_≡_, refl, sym, ap, _∙_}
+use mathlib.Core.Bool.{Bool}
+use mathlib.Core.List.{List, [], _∷_, _++_}
+use Prim.Native.Nat.{ℕ, zero, suc, _+_, _*_, _<_}
+use native.Mathlib.Omega.{arith}
+use lib.Dec.{eqb}
+use lib.ListN.{length, getD, set, take, drop}
+use lib.Seq.{take-suc, drop-cons, set-at, append-snoc, length-take-le}
+use borrow.Author.Tests.{eq-eqb, ne-eqb}
+use Rattle.rows.proofs.Rows.{rows-more}
+use Rattle.delivery.specs.declared.Delivery.{Delivery}
+use Rattle.delivery.specs.Delivery as delivery
+use Rattle.waiting.specs.declared.Copy.{Copy}
+use Rattle.waiting.specs.Waiting as waiting
+use Rattle.network.specs.Lists.{bit, count}
+use Rattle.network.specs.Calls.{number, firstTime}
+use Rattle.waiting_calls.specs.Call.{transitOf, wordsOver}
+
+pub same-yes : (a b : ℕ) → a ≡ b → 1 ≡ bit (eqb a b)
+same-yes a b e = ap bit (sym (eq-eqb a b e))
+
+pub same-no : (a b : ℕ) → (a ≡ b → ⊥) → 0 ≡ bit (eqb a b)
+same-no a b e = ap bit (sym (ne-eqb a b e))
+
+-- ---- Copies to a till
+
+count-snoc : (p : Copy → Bool) (l : List Copy) (c : Copy) → count p (l ++ (c ∷ [])) ≡ count p l + bit (p c)
+count-snoc p [] c = let e : bit (p c) + 0 ≡ 0 + bit (p c) = omega arith in e
+count-snoc p (x ∷ l) c = let h = count-snoc p l c in let e : bit (p x) + count p (l ++ (c ∷ [])) ≡ bit (p x) + count p l + bit (p c) = omega arith in e
+
+module _ (t : ℕ) (w : List ℕ) where
+  pub transit-none : 0 ≡ transitOf t w 0
+  unfolding transitOf
+  transit-none = refl
+
+  pub transit-more : (i k b : ℕ) (d : Delivery) → k ≡ transitOf t w i → d ≡ delivery.read (drop (i * waiting.width) w) → b ≡ bit (eqb (d .to) t) → k + b ≡ transitOf t w (i + 1)
+  unfolding transitOf
+  transit-more i k b d ek ed eb =
+      let to : Copy → Bool = λ (c : Copy). eqb (c .delivery .to) t in
+      let c : Copy = waiting.read (drop (i * waiting.width) w) in
+      (λ j. ek j + (eb ∙ ap (λ (x : Delivery). bit (eqb (x .to) t)) ed) j)
+      ∙ sym (count-snoc to (waiting.copies w i) c)
+      ∙ ap (count to) (sym (rows-more waiting.width waiting.read w i))
+
+-- ---- Words
+
+module _ (ws out : List ℕ) where
+  pub words-none : out ≡ wordsOver ws 0 out
+  unfolding wordsOver
+  words-none = refl
+
+  pub words-more : (i : ℕ) (l : List ℕ) → i < length ws → i < length out → l ≡ wordsOver ws i out → set l i (getD ws i 0) ≡ wordsOver ws (i + 1) out
+  unfolding wordsOver
+  words-more i l h k e =
+      let n : suc i ≡ i + 1 = omega arith in
+      let v : ℕ = getD ws i 0 in
+      ap (λ (x : List ℕ). set x i v) (e ∙ ap (λ (x : List ℕ). take i ws ++ x) (drop-cons out i 0 k))
+      ∙ set-at (take i ws) (getD out i 0) (drop (suc i) out) v i (length-take-le i ws (omega arith))
+      ∙ sym (append-snoc (take i ws) v (drop (suc i) out))
+      ∙ ap (λ (x : List ℕ). x ++ drop (suc i) out) (sym (take-suc ws i 0 h))
+      ∙ ap (λ (j : ℕ). take j ws ++ drop j out) n
+
+-- ---- The first copy
+
+pub first-none : (w : List ℕ) (n : ℕ) → n ≡ 0 → firstTime (waiting.copies w n) ≡ number 0 0
+first-none w zero e = refl
+first-none w (suc n) e = absurd (omega arith)
+
+pub first-some : (w : List ℕ) (n : ℕ) → (n ≡ 0 → ⊥) → firstTime (waiting.copies w n) ≡ number 1 (delivery.read (drop 0 w) .time)
+first-some w zero e = absurd (e refl)
+first-some w (suc n) e = refl
