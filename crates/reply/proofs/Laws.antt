@@ -19,7 +19,7 @@ module _ (T : Tables) (c : Call) (n : ℕ) (e : n ≡ callReply T c .number) whe
     by-number : isNumber (callReply T c .number) ≡ true
     by-number = is-number (callReply T c .number) (λ z. h (e ∙ z))
 
-    silenced : callReply T c ≡ record { number = n; answer = silent }
+    pub silenced : callReply T c ≡ record { number = n; answer = silent }
     silenced = ap (λ (b : Bool). record { number = callReply T c .number; answer = answerT (openingAt T) b T c }) by-number ∙ ap (λ (k : ℕ). record { number = k; answer = silent }) (sym e)
 
     -- a refused call leaves every table as found
@@ -36,7 +36,7 @@ module _ (T : Tables) (c : Call) (n : ℕ) (e : n ≡ callReply T c .number) whe
     no-number : isNumber (callReply T c .number) ≡ false
     no-number = ap isNumber (sym e ∙ h)
 
-    answered : callReply T c ≡ record { number = 0; answer = answerOf (openingAt T) (live (sizesAt (T .setup)) T) c }
+    pub answered : callReply T c ≡ record { number = 0; answer = answerOf (openingAt T) (live (sizesAt (T .setup)) T) c }
     answered =
         ap (λ (b : Bool). record { number = callReply T c .number; answer = answerT (openingAt T) b T c }) no-number
         ∙ ap (λ (k : ℕ). record { number = k; answer = answerOf (openingAt T) (live (sizesAt (T .setup)) T) c }) (sym e ∙ h)
