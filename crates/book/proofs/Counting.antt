@@ -1,13 +1,13 @@
 -- Counts of list functions of the book.
-use mathlib.Core.Path.{_≡_, refl, sym, ap, _∙_}
-use Prim.Native.Nat.{ℕ, zero, suc, _+_, _*_, _≤_, _<_}
+use mathlib.Core.Path.{_≡_, refl, ap, _∙_}
+use Prim.Native.Nat.{ℕ, suc, _+_}
 use native.Mathlib.Omega.{arith}
-use mathlib.Core.Bool.{Bool, true, false, cond, not, _&&_}
-use mathlib.Core.List.{List, [], _∷_, _++_}
+use mathlib.Core.Bool.{Bool, true, false, cond, _&&_}
+use mathlib.Core.List.{List, [], _∷_}
 use lib.Dec.{eqb, leb, ltb}
 use lib.ListN.{length}
-use borrow.Author.Tests.{ltb-true, ltb-false, leb-true, leb-false, eqb-true, eqb-false}
-use Rattle.book.specs.Book.{Event, scheduled, landed, dropped, down, scheduledIn, landedIn, droppedIn, scheduling, flushEvents}
+use borrow.Author.Tests.{ltb-false, leb-true, leb-false, eqb-true, eqb-false}
+use Rattle.book.specs.Book.{Event, scheduled, landed, dropped, scheduledIn, landedIn, droppedIn, scheduling, flushEvents}
 use Rattle.book.specs.History.{hasSequence, given}
 use Rattle.rows.specs.Lists.{front, behind}
 use Rattle.waiting.specs.Waiting.{passes, insertCopy}

@@ -1,7 +1,7 @@
 -- A fact at each element of a list.
-use Prim.Native.Nat.{ℕ, zero, suc, _≤_, _<_}
+use Prim.Native.Nat.{ℕ, zero, suc, _<_}
 use native.Mathlib.Omega.{arith}
-use mathlib.Core.Path.{_≡_, refl, ap}
+use mathlib.Core.Path.{_≡_, refl}
 use mathlib.Core.Bool.{Bool, true, false, cond, _&&_, false≢true}
 use mathlib.Core.List.{List, [], _∷_, _++_}
 use lib.ListN.{length, getD, set, replicate, drop}
@@ -68,6 +68,11 @@ module _ {A : Type 0} (P : A → Type 0) where
   pub each-upTo : (n : ℕ) (f : ℕ → A) → ((j : ℕ) → j < n → P (f j)) → Each P (upTo n f)
   each-upTo zero f h = tt
   each-upTo (suc n) f h = (h 0 (omega arith), each-upTo n (λ k. f (suc k)) (λ j l. h (suc j) (omega arith)))
+
+  pub upTo-each : (n : ℕ) (f : ℕ → A) (k : ℕ) → k < n → Each P (upTo n f) → P (f k)
+  upTo-each zero f k h e = absurd (omega arith)
+  upTo-each (suc n) f zero h e = e .0
+  upTo-each (suc n) f (suc k) h e = upTo-each n (λ j. f (suc j)) k (omega arith) (e .1)
 
 module _ {A : Type 0} where
   pub each-all : (p : A → Bool) (l : List A) → Each (λ (a : A). p a ≡ true) l → allOf p l ≡ true

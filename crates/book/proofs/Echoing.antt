@@ -1,9 +1,9 @@
 -- The echoes of a recipient: at most two, none with an id, each of what its ring or the message carries.
 use mathlib.Core.Path.{_≡_, refl, ap}
-use Prim.Native.Nat.{ℕ, zero, suc, _+_, _≤_}
+use Prim.Native.Nat.{ℕ, suc, _≤_}
 use native.Mathlib.Omega.{arith}
 use mathlib.Core.Bool.{Bool, true, false, cond, not, _&&_}
-use mathlib.Core.List.{List, [], _∷_, _++_}
+use mathlib.Core.List.{List, [], _∷_}
 use lib.ListN.{length, getD, length-append}
 use Rattle.rows.specs.Lists.{Each}
 use Rattle.waiting.specs.declared.Copy.{Copy}
@@ -29,7 +29,7 @@ module _ (o : Opening) (m : Message) (t : ℕ) where
   dup-few true = omega arith
   dup-few false = omega arith
 
-  echoed-few : (ring : List Carried) (w : ℕ) → length (echoed o m t ring w .value) ≤ 2
+  pub echoed-few : (ring : List Carried) (w : ℕ) → length (echoed o m t ring w .value) ≤ 2
   echoed-few ring w =
       let d = o .draws .duplicate (m .from) t w in
       omega (arith, length-append (cond {A = List Carried} (d .value) (carriedOf m ∷ []) []) (replayed o m t ring (d .words) .value), dup-few (d .value), replayed-few ring (d .words))
@@ -46,10 +46,10 @@ module _ (o : Opening) (m : Message) (t : ℕ) where
   drawn-few s = echoes-few (ringFor s m) _
 
   -- what holds of everything that the ring and the message carry, holds of what is echoed
-  module _ (P : Copy → Type 0) (Q : Carried → Type 0) (f : (c : Carried) (l : ℕ) → Q c → P (echo m t c l)) (mine : Q (carriedOf m)) where
+  module _ (P : Copy → Type 0) (Q : Carried → Type 0) (f : (c : Carried) (w : ℕ) → Q c → P (echo m t c (o .draws .latency (m .from) t (c .wire) w .value))) (mine : Q (carriedOf m)) where
     timed-each : (cs : List Carried) (w : ℕ) → Each Q cs → Each P (timed o m t w cs .copies)
     timed-each [] w e = tt
-    timed-each (c ∷ cs) w e = (f c _ (e .0), timed-each cs (o .draws .latency (m .from) t (c .wire) w .words) (e .1))
+    timed-each (c ∷ cs) w e = (f c w (e .0), timed-each cs (o .draws .latency (m .from) t (c .wire) w .words) (e .1))
 
     replayed-each : (ring : List Carried) (w : ℕ) → Each Q ring → Each Q (replayed o m t ring w .value)
     replayed-each ring w e =

@@ -2,29 +2,27 @@
 use mathlib.Core.Path.{_≡_, refl, sym, ap, _∙_, subst}
 use Prim.Native.Nat.{ℕ, zero, suc, _+_}
 use native.Mathlib.Omega.{arith}
-use mathlib.Core.Bool.{Bool, true, false, cond, false≢true}
+use mathlib.Core.Bool.{Bool, true, false, false≢true}
 use mathlib.Core.List.{List, [], _∷_, _++_, reverseAux}
 use lib.ListN.{length, drop}
-use Rattle.waiting.specs.declared.Copy.{Copy}
 use Rattle.waiting.proofs.Order.{front-all}
 use Rattle.marks.specs.Marks.{Rises}
 use Rattle.marks.proofs.Rising.{found-member}
-use Rattle.log.specs.Log.{Log}
 use Rattle.network.specs.Lists.{count}
-use Rattle.network.specs.Opening.{Sizes, Settings, Opening}
+use Rattle.network.specs.Opening.{Settings, Opening}
 use Rattle.network.specs.Live.{Live, idsAt}
-use Rattle.network.specs.Accept.{messageOf, selected, booked, noCounts, tally, total, Counts}
-use Rattle.network.specs.Flush.{Row, handled}
+use Rattle.network.specs.Accept.{messageOf, selected, booked, noCounts, tally, total}
+use Rattle.network.specs.Flush.{handled}
 use Rattle.network.specs.Calls.{Call, Answer, silent, answerOf, countsIn, rowsIn, deliveredIn, dropsIn, accept, flush, takeDown, bringUp, handlers, block, blockDuring, unblock, install, remove, decide, drain, reading}
 use Rattle.network.specs.Questions.{asked, firstNo}
 use Rattle.network.specs.Tables.{Tables, sizesAt, live}
 use Rattle.network.specs.Real.{openingOf, openingAt}
 use Rattle.network.specs.Lent.{question1}
-use Rattle.network.specs.Writes.{Reply, isNumber, numberOf, exitT, answerT, tablesBy, replyBy, outputOf, callTables, callReply, callOutput}
-use Rattle.network.specs.Open.{askedOpening, openNumber, openTables, openExit, openCall}
+use Rattle.network.specs.Writes.{Reply, isNumber, numberOf, exitT, answerT, tablesBy, replyBy, outputOf, callTables, callReply}
+use Rattle.network.specs.Open.{askedOpening, openNumber, openTables, openExit}
 use Rattle.book.specs.Book.{Book, landedIn, droppedIn, bookStep, expected, opened}
 use Rattle.book.specs.History.{hasSequence}
-use Rattle.book.specs.Demand3.{Item, own, others, reopen, Admitted, AllAdmitted, replyTo, tablesAfter, tablesAtEnd, refused, Kept, copiesOf, bookAfter, expectedOf, bookAtEnd, OnlyNo, FiveCounts, SumOf, isDrain, logFrom, LogOf, CallHolds, CallsHold, BookHolds, Demand3, Run, tablesAfterRun, Accepted, EveryList}
+use Rattle.book.specs.Demand3.{Item, own, others, reopen, Admitted, AllAdmitted, replyTo, tablesAfter, tablesAtEnd, refused, Kept, copiesOf, bookAfter, expectedOf, bookAtEnd, OnlyNo, SumOf, isDrain, logFrom, LogOf, CallHolds, CallsHold, BookHolds, Demand3, Run, tablesAfterRun, Accepted, EveryList}
 use Rattle.book.proofs.Each.{each-at}
 use Rattle.book.proofs.Marks.{two-originals}
 use Rattle.book.proofs.Sound.{SoundBook, book-sound, opened-sound}
@@ -33,7 +31,7 @@ use Rattle.book.proofs.Moves.{book-rows, book-drops, book-delivered, bo
 use Rattle.book.proofs.Asking.{first-no, rising, rising-opening}
 use Rattle.book.proofs.Fitting.{Limited}
 use Rattle.book.proofs.StepFits.{step-fits}
-use Rattle.book.proofs.Formed.{fourOf, Fixed}
+use Rattle.book.proofs.Formed.{Fixed}
 use Rattle.book.proofs.Simulation.{step-wrote}
 use Rattle.book.proofs.Unwritten.{same-step}
 use Rattle.book.proofs.Held.{Held, yes1}
@@ -49,7 +47,7 @@ module _ (o : Opening) where
     tables-are : callTables T c ≡ tablesBy o T c
     tables-are = ap (λ (q : Opening). tablesBy q T c) (h .fixed .opening)
 
-    number-is : numberOf o T c ≡ firstNo (asked o s c)
+    pub number-is : numberOf o T c ≡ firstNo (asked o s c)
     number-is = rw (yes1 o T s h c) (ap (λ (q : Live). firstNo (asked o q c)) (h .wrote .holds))
 
   answer-is : (T : Tables) (b : Book) (c : Call) → live (o .sizes) T ≡ b .live → (r : Bool) → answerT o r T c ≡ expected o b c r
@@ -177,7 +175,7 @@ module _ (o : Opening) where
   -- ---- Every list
 
   module _ (lim : Limited (o .sizes)) where
-    held-after : (b : Book) (T : Tables) (i : Item) → Held o T (b .live) → Admitted i → Held o (tablesAfter T i) (bookAfter o b T i .live)
+    pub held-after : (b : Book) (T : Tables) (i : Item) → Held o T (b .live) → Admitted i → Held o (tablesAfter T i) (bookAfter o b T i .live)
     held-after b T (own c) h a =
         subst (λ (q : Opening). Held o (tablesBy q T c) (bookStep o b c (isNumber (numberOf q T c)) .live)) (sym (h .fixed .opening))
         (held-step lim T b c h (numberOf o T c) (number-is T (b .live) h c))

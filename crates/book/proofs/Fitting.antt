@@ -1,9 +1,9 @@
 -- A call whose questions are answered "yes" leaves a live part that fits the tables: one recipient, and all of an accept.
-use mathlib.Core.Path.{_≡_, refl, sym, ap, _∙_}
+use mathlib.Core.Path.{_≡_, refl, ap, _∙_}
 use Prim.Native.Nat.{ℕ, zero, suc, _+_, _*_, _≤_, _<_}
 use native.Mathlib.Omega.{arith}
-use native.Mathlib.Nat.{le-refl, le-trans}
-use mathlib.Core.Bool.{Bool, true, false, cond, not, _&&_, _||_}
+use native.Mathlib.Nat.{le-refl}
+use mathlib.Core.Bool.{Bool, true, false, cond, _||_}
 use mathlib.Core.List.{List, [], _∷_, _++_}
 use lib.Dec.{eqb, leb, ltb}
 use lib.ListN.{length, getD, set, drop, length-set, length-append}
@@ -21,7 +21,7 @@ use Rattle.marks.specs.Marks.{placed, Rises}
 use Rattle.marks.proofs.Rising.{length-placed, rises-placed}
 use Rattle.rules.specs.declared.FaultRule.{FaultRule}
 use Rattle.decide.specs.Decide.{Decision, rulesAfter}
-use Rattle.network.specs.Opening.{Sizes, Opening, links, longestWire, mostTypes, mostClasses, mostShards}
+use Rattle.network.specs.Opening.{Sizes, Opening, links, longestWire, mostTills, mostTypes, mostClasses, mostShards, mostSlots}
 use Rattle.rules.specs.Rules.{ruleSlots, fireAt}
 use Rattle.blocks.specs.Blocks.{blockSlots}
 use Rattle.blocks.specs.declared.BlockWindow.{BlockWindow}
@@ -94,6 +94,10 @@ length-ruled v rs = go (v .drops)
 
 -- what question 2 leaves of the sizes
 pub record Limited (z : Sizes) : Type 0 where
+  pub tills : z .tills ≤ mostTills
+  pub seen : z .seenSlots ≤ mostSlots
+  pub waiting : z .waitSlots ≤ mostSlots
+  pub log : z .logSlots ≤ mostSlots
   pub types : z .types ≤ mostTypes
   pub classes : z .classes ≤ mostClasses
   pub shards : z .shards ≤ mostShards
@@ -166,6 +170,9 @@ module _ (o : Opening) (m : Message) where
   near-echo : NearMessage (o .sizes) m → (t : ℕ) → t < o .sizes .tills → (c : Carried) (l : ℕ) → nearCarried (o .sizes) c ≡ true → NearCopy (echo m t c l)
   near-echo k t b c l h = rw (k .from, lt-ltb t (o .sizes .tills) b, k .kind, both (ltb (c .class) (o .sizes .classes)) (leb (c .wire) longestWire) h .0)
 
+  near-own : NearMessage (o .sizes) m → nearCarried (o .sizes) (carriedOf m) ≡ true
+  near-own k = join _ _ (k .class) (k .wire)
+
   near-ring : (s : Live) → RingsFit (o .sizes) (s .rings) → NearRing (o .sizes) (ringFor s m)
   near-ring s f = each-at (NearRing (o .sizes)) (s .rings) (numberOf (m .kind) (m .scope)) [] (f .near) tt
 
@@ -178,7 +185,7 @@ module _ (o : Opening) (m : Message) where
   unfolding drawn
   drawn-good k s t b f = record {
     few = drawn-few o m t s;
-    near = drawn-each o m t NearCopy (λ (c : Carried). nearCarried (o .sizes) c ≡ true) (near-echo k t b) (join _ _ (k .class) (k .wire)) s (near-ring s (f .rings));
+    near = drawn-each o m t NearCopy (λ (c : Carried). nearCarried (o .sizes) c ≡ true) (λ c w. near-echo k t b c 0) (near-own k) s (near-ring s (f .rings));
   }
 
   -- question 10 at a till
@@ -202,7 +209,7 @@ module _ (o : Opening) (m : Message) where
         many = length-set r at (push slots ring (carriedOf m)) ∙ f .many;
         small = each-set (λ (l : List Carried). length l ≤ slots) r at (push slots ring (carriedOf m)) (f .small) (length-push slots ring (carriedOf m) (each-at (λ (l : List Carried). length l ≤ slots) r at [] (f .small) (omega arith)));
         near = each-set (NearRing (o .sizes)) r at (push slots ring (carriedOf m)) (f .near)
-            (each-push (λ (c : Carried). nearCarried (o .sizes) c ≡ true) slots ring (carriedOf m) (each-at (NearRing (o .sizes)) r at [] (f .near) tt) (join _ _ (k .class) (k .wire)));
+            (each-push (λ (c : Carried). nearCarried (o .sizes) c ≡ true) slots ring (carriedOf m) (each-at (NearRing (o .sizes)) r at [] (f .near) tt) (near-own k));
       }
       go false = f
 

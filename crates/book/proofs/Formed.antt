@@ -1,5 +1,5 @@
 -- Question 1 as facts: the tables that calls write are in form, and each table anew leaves the others so.
-use mathlib.Core.Path.{_≡_, refl}
+use mathlib.Core.Path.{_≡_}
 use mathlib.Core.Bool.{true}
 use Prim.Native.Nat.{ℕ, _+_, _*_, _≤_, _<_}
 use mathlib.Core.List.{List, []}
@@ -12,7 +12,7 @@ use Rattle.blocks.specs.Blocks.{blockSlots}
 use Rattle.network.specs.Lists.{every}
 use Rattle.network.specs.Opening.{Sizes, Opening, links}
 use Rattle.network.specs.Live.{Live, ringsOf}
-use Rattle.network.specs.Tables.{cell, Tables, sizesAt, live, netWidth, waitingAt, rulesAt, blocksAt, tillForm, ruleForm, blockForm}
+use Rattle.network.specs.Tables.{cell, Tables, live, netWidth, waitingAt, rulesAt, blocksAt, tillForm, ruleForm, blockForm}
 use Rattle.network.specs.Real.{openingAt}
 use Rattle.network.specs.Lent.{setupTests, namesTests, keysTests, pricesTests}
 use Rattle.network.specs.Writes.{setNet, setTills, setWords, setSeen, setWaiting, setRings, setRules, setBlocks, setLog}

@@ -1,30 +1,22 @@
 -- Tables that hold a book's live part: question 1 is answered "yes" to every call.
-use mathlib.Core.Path.{_≡_, refl, sym, ap, _∙_, subst}
-use Prim.Native.Nat.{ℕ, zero, suc, _+_, _*_, _≤_, _<_}
-use mathlib.Core.Bool.{Bool, true, false, cond, _&&_}
+use mathlib.Core.Path.{_≡_, refl, ap, _∙_}
+use mathlib.Core.Bool.{Bool, true}
 use mathlib.Core.List.{List, [], _∷_}
-use lib.Dec.{eqb, leb, ltb}
-use lib.ListN.{length}
+use lib.Dec.{leb}
 use borrow.Author.Tests.{eq-eqb, le-leb}
 use Rattle.rows.specs.Rows.{allOf}
 use Rattle.rows.specs.Lists.{Each}
-use Rattle.rows.specs.Table.{rowsOf}
 use Rattle.rows.proofs.Lists.{each-map}
-use Rattle.delivery.specs.declared.Delivery.{Delivery}
-use Rattle.waiting.specs.Waiting as waiting
-use Rattle.waiting.specs.declared.Copy.{Copy}
 use Rattle.ring.specs.Ring.{soundAt}
 use Rattle.ring.proofs.Table.{sound-true}
 use Rattle.rings.specs.Rings as rings
-use Rattle.log.specs.Log as log
 use Rattle.log.proofs.Writing.{log-sound}
-use Rattle.blocks.specs.declared.BlockWindow.{BlockWindow}
 use Rattle.network.specs.Lists.{every, below}
 use Rattle.network.specs.Opening.{Sizes, Opening}
-use Rattle.network.specs.Live.{Carried, Till, Live, ringsOf}
+use Rattle.network.specs.Live.{Carried, Live, ringsOf}
 use Rattle.network.specs.Tables.{cell, Tables, live}
 use Rattle.network.specs.Calls.{Call, Reading, isBlocked, transit, fired, isDown, nextTime, tallyOf, waitingCopies, marksOf, accept, flush, takeDown, bringUp, handlers, block, blockDuring, unblock, install, remove, decide, drain, reading}
-use Rattle.network.specs.Lent.{nearTill, nearDelivery, nearCopy, nearBlock, nearCarried, setupTests, netTests, namesTests, tillsTests, wordsTests, keysTests, pricesTests, seenTests, waitingTests, ringsTests, rulesTests, blocksTests, logTests, readingTests, lentTests, everyOf, question1}
+use Rattle.network.specs.Lent.{nearTill, nearDelivery, nearCopy, nearBlock, nearCarried, setupTests, netTests, tillsTests, wordsTests, seenTests, waitingTests, ringsTests, rulesTests, blocksTests, logTests, readingTests, lentTests, everyOf, question1}
 use Rattle.book.proofs.Each.{each-all, each-every, each-upTo, join}
 use Rattle.book.proofs.Fitting.{Fits, NearRing}
 use Rattle.book.proofs.Formed.{fourOf, Fixed, Wrote}

@@ -1,6 +1,6 @@
 -- A flush's rows are the copies that it lands, and its count of drops the copies that it drops; no other call moves a copy.
 use mathlib.Core.Path.{_≡_, refl, sym, ap, _∙_}
-use Prim.Native.Nat.{ℕ, zero, suc, _+_}
+use Prim.Native.Nat.{ℕ, _+_}
 use native.Mathlib.Omega.{arith}
 use mathlib.Core.Bool.{Bool, true, false, cond, not}
 use mathlib.Core.List.{List, [], _∷_, map, reverseAux}
@@ -11,7 +11,7 @@ use Rattle.network.specs.Lists.{bit, count}
 use Rattle.network.specs.Opening.{Opening}
 use Rattle.network.specs.Live.{Live}
 use Rattle.network.specs.Accept.{Message, messageOf, selected, Drawn, drawn, Class, deduplicated, partition, loss, fault, sent, classOf, copies, effect, offered, liveAfter, noCounts}
-use Rattle.network.specs.Flush.{Row, rowOf, due, stops, lands, rowsOf, dropsOf, handled, loggedAll}
+use Rattle.network.specs.Flush.{rowOf, due, stops, lands, dropsOf, handled, loggedAll}
 use Rattle.network.specs.Calls.{Call, Reading, isBlocked, transit, fired, isDown, nextTime, tallyOf, waitingCopies, marksOf, read, firstTime, Answer, rowsIn, deliveredIn, dropsIn, countsIn, accept, flush, takeDown, bringUp, handlers, block, blockDuring, unblock, install, remove, decide, drain, reading}
 use Rattle.book.specs.Book.{Book, Event, landed, dropped, landedIn, droppedIn, flushEvents, eventsOf, offerEvents, eventsAfter, bookStep, expected}
 use Rattle.book.specs.Demand3.{copiesOf, isDrain, logFrom}

@@ -1,14 +1,14 @@
 -- Every call's writes are the book's change of what the tables hold.
 use mathlib.Core.Path.{_≡_, refl, sym, ap, _∙_, subst}
-use Prim.Native.Nat.{ℕ, zero, suc, _+_, _*_, _≤_, _<_}
+use Prim.Native.Nat.{ℕ, _+_, _*_, _≤_, _<_}
 use native.Mathlib.Omega.{arith}
 use native.Mathlib.Nat.{le-trans}
-use mathlib.Core.Bool.{Bool, true, false, cond, not, _&&_}
+use mathlib.Core.Bool.{Bool, true, false, cond, _&&_}
 use mathlib.Core.List.{List, [], _∷_, _++_}
-use lib.Dec.{ltb, leb}
+use lib.Dec.{ltb}
 use lib.ListN.{length, getD, set, take, drop, length-take}
 use borrow.Author.Tests.{ltb-true, leb-true}
-use Rattle.rows.specs.Lists.{Each, upTo}
+use Rattle.rows.specs.Lists.{Each}
 use Rattle.ring.specs.Ring.{push}
 use Rattle.rows.proofs.Lists.{each-map, getD-upTo}
 use Rattle.rows.proofs.Rows.{length-rows}
@@ -21,7 +21,6 @@ use Rattle.marks.proofs.Rising.{length-placed, length-removed}
 use Rattle.rings.specs.Rings as rings
 use Rattle.card.specs.Card.{exact, fieldsOf}
 use Rattle.rules.specs.Rules.{ruleSlots, mostRules, installNumber, without}
-use Rattle.rules.specs.declared.FaultRule.{FaultRule}
 use Rattle.decide.specs.Decide.{Decision}
 use Rattle.blocks.specs.Blocks as blocks
 use Rattle.blocks.specs.Blocks.{blockSlots, always, during}
@@ -35,12 +34,12 @@ use Rattle.network.specs.Calls.{Call, liveStep, withHandlers, ruleAdded, ruleRe
 use Rattle.network.specs.Questions.{asked, firstNo}
 use Rattle.network.specs.Lent.{nearDelivery, nearCopy}
 use Rattle.network.specs.Tables.{cell, Tables, live, idsStart, waitingAt, rulesAt, installedAt, blocksAt, blockForm, ruleForm}
-use Rattle.network.specs.Writes.{setRings, wordsT, ruledT, marksT, pushT, rememberT, effectT, offeredT, acceptT, clearT, waitingT, recordT, recordAllT, blockT, unblockT, installT, removeT, tillT, drainT, flushT, stepT}
-use Rattle.book.proofs.Each.{both, each-at, each-keep, each-front, all-each}
+use Rattle.network.specs.Writes.{setRings, wordsT, ruledT, marksT, pushT, rememberT, effectT, offeredT, acceptT, clearT, waitingT, recordT, recordAllT, blockT, tillT, flushT, stepT}
+use Rattle.book.proofs.Each.{both, each-front, all-each}
 use Rattle.book.proofs.Asking.{all-yes, rising}
 use Rattle.book.proofs.Sound.{Below, selected-below, sent-unmarked}
-use Rattle.book.proofs.Fitting.{Limited, Small, Fits, NearMessage, Good, drawn-good, few-copies, Ready, room, effect-fits, effect-length, effect-ready, length-keep, length-behind}
-use Rattle.book.proofs.StepFits.{step-fits, near-message, length-without}
+use Rattle.book.proofs.Fitting.{Limited, Fits, NearMessage, Good, drawn-good, few-copies, Ready, room, effect-fits, effect-length, effect-ready, length-behind}
+use Rattle.book.proofs.StepFits.{near-message, length-without}
 use Rattle.book.proofs.Formed.{Formed, Wrote}
 use Rattle.book.proofs.WriteLaws.{till-wrote, marks-wrote, words-wrote, waiting-wrote, block-wrote, unblock-wrote, install-wrote, remove-wrote, ruled-wrote, ring-wrote, record-wrote, drain-wrote, push-wrote}
 
@@ -67,7 +66,7 @@ module _ (o : Opening) where
         let w = words-wrote (o .sizes) T f (link (m .from) t) n in
         ruled-wrote (o .sizes) (wordsT T (link (m .from) t) n) (w .formed) v
 
-    effect-wrote : (c : Class) (T : Tables) (d : Drawn) (t : ℕ) → Formed (o .sizes) T → Good o m d → t < o .sizes .tills
+    pub effect-wrote : (c : Class) (T : Tables) (d : Drawn) (t : ℕ) → Formed (o .sizes) T → Good o m d → t < o .sizes .tills
         → (c ≡ sent → length (idsAt (live (o .sizes) T) t) < o .sizes .seenSlots) → cell (T .net) waitingAt + 3 ≤ o .sizes .waitSlots → Wrote (o .sizes) (effectT o m c T d t) (effect o m c (live (o .sizes) T) d t)
     effect-wrote deduplicated T d t f g b r w = record { formed = f; holds = refl }
     effect-wrote partition T d t f g b r w = record { formed = f; holds = refl }
@@ -119,13 +118,13 @@ module _ (o : Opening) where
   -- ---- Flush
 
   -- a copy in range is for a till
-  near-to : (d : Delivery) → nearDelivery (o .sizes) d ≡ true → d .to < o .sizes .tills
+  pub near-to : (d : Delivery) → nearDelivery (o .sizes) d ≡ true → d .to < o .sizes .tills
   near-to d h = ltb-true (d .to) (o .sizes .tills) (go (ltb (d .from) (o .sizes .tills)) (ltb (d .to) (o .sizes .tills)) (ltb (d .kind) (o .sizes .types)) (ltb (d .class) (o .sizes .classes)) h)
     where
       go : (a b c e : Bool) → (a && b && c && e) ≡ true → b ≡ true
       go a b c e h = both a b (both (a && b) c (both (a && b && c) e h .0) .0) .1
 
-  ids-few : (z : Sizes) (T : Tables) (t : ℕ) → Formed z T → t < z .tills → length (idsAt (live z T) t) ≤ z .seenSlots
+  pub ids-few : (z : Sizes) (T : Tables) (t : ℕ) → Formed z T → t < z .tills → length (idsAt (live z T) t) ≤ z .seenSlots
   ids-few z T t f b =
       let i : ℕ = idsStart z t in
       let n : ℕ = cell (T .seen) t in

@@ -1,11 +1,10 @@
 -- What holds of every book: each copy is in one place, no original is scheduled twice, waiting is in order.
-use mathlib.Core.Path.{_≡_, refl, sym, ap, _∙_, subst}
-use Prim.Native.Nat.{ℕ, zero, suc, _+_, _*_, _≤_, _<_}
+use mathlib.Core.Path.{_≡_, refl, sym, _∙_, subst}
+use Prim.Native.Nat.{ℕ, zero, suc, _+_, _<_}
 use native.Mathlib.Omega.{arith}
-use mathlib.Core.Bool.{Bool, true, false, cond, not, _&&_, _||_}
-use mathlib.Core.List.{List, [], _∷_, _++_}
-use lib.Dec.{eqb, leb, ltb}
-use lib.ListN.{length, getD, set, replicate, length-set, length-replicate}
+use mathlib.Core.Bool.{Bool, true, false, cond, _&&_}
+use mathlib.Core.List.{List, [], _∷_}
+use lib.ListN.{length, getD, replicate, length-set, length-replicate}
 use borrow.Author.Tests.{lt-ltb, lt-leb}
 use Rattle.rows.specs.Rows.{pick, keep}
 use Rattle.rows.specs.Lists.{Each, front, behind}
@@ -23,8 +22,8 @@ use Rattle.rules.proofs.Ids.{install-ascends, remove-ascends, fire-ascends}
 use Rattle.decide.specs.Decide.{Decision, rulesAfter}
 use Rattle.network.specs.Lists.{bit, count, below}
 use Rattle.network.specs.Opening.{Opening}
-use Rattle.network.specs.Live.{Engine, Live, isOriginal, marked, idsAt, stopped, openingLive}
-use Rattle.network.specs.Accept.{Message, messageOf, selected, Drawn, drawn, original, Class, deduplicated, partition, loss, fault, sent, firstFit, classOf, copies, mark, ruled, effect, offered, liveAfter, insertAll}
+use Rattle.network.specs.Live.{Live, isOriginal, marked, idsAt, stopped}
+use Rattle.network.specs.Accept.{Message, messageOf, selected, Drawn, drawn, original, Class, deduplicated, partition, loss, fault, sent, firstFit, classOf, copies, effect, offered, liveAfter, insertAll}
 use Rattle.network.specs.Flush.{due, stops, unmark, clearing}
 use Rattle.network.specs.Calls.{Call, liveStep, accept, flush, takeDown, bringUp, handlers, block, blockDuring, unblock, install, remove, decide, drain, reading}
 use Rattle.book.specs.Book.{Book, Event, scheduledIn, landedIn, droppedIn, eventsOf, offerEvents, eventsAfter, happened, opened, bookStep}

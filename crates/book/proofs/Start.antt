@@ -2,16 +2,15 @@
 use mathlib.Core.Path.{_≡_, refl, sym, ap, _∙_}
 use Prim.Native.Nat.{ℕ, zero, suc, _+_, _*_, _≤_, _<_}
 use native.Mathlib.Omega.{arith}
-use native.Mathlib.Nat.{le-refl}
 use mathlib.Core.Bool.{Bool, true, false, cond, _&&_}
 use mathlib.Core.List.{List, [], _∷_, _++_, append-nil}
-use lib.Dec.{eqb, leb, ltb}
+use lib.Dec.{eqb, ltb}
 use lib.ListN.{length, getD, drop, replicate, length-append, length-drop, length-replicate, getD-replicate, List·getD-append}
 use borrow.Author.Tests.{eq-eqb, eqb-true, leb-true}
 use Rattle.rows.specs.Rows.{allOf, flat}
 use Rattle.rows.specs.Lists.{Each, upTo}
 use Rattle.rows.specs.Table.{rowsOf, over}
-use Rattle.rows.proofs.Lists.{length-upTo, upTo-same}
+use Rattle.rows.proofs.Lists.{length-upTo}
 use Rattle.rows.proofs.Table.{rows-over, length-words}
 use Rattle.marks.specs.Marks.{idsOf}
 use Rattle.ring.specs.Ring.{firstAt, ringFrom, slotAt}
@@ -20,24 +19,22 @@ use Rattle.rings.specs.declared.Entry.{Entry}
 use Rattle.log.specs.Log as log
 use Rattle.log.proofs.Draining.{drained-log, drained-sound}
 use Rattle.geography.specs.Geography.{atLeastOne, linkIn, linkAdmitted}
-use Rattle.rules.specs.Rules.{ruleSlots}
-use Rattle.blocks.specs.Blocks.{blockSlots}
-use Rattle.network.specs.Lists.{every, below, within}
+use Rattle.network.specs.Lists.{every, below}
 use Rattle.network.specs.Opening.{Sizes, Settings, links}
-use Rattle.network.specs.Live.{Till, Live, upTill, openTills, openingLive, ringsOf}
+use Rattle.network.specs.Live.{upTill, openTills, openingLive, ringsOf}
 use Rattle.network.specs.Questions.{Asked}
-use Rattle.network.specs.Tables.{cell, Tables, live, setupOf, setupWidth, tillForm, netWidth, idsStart}
-use Rattle.network.specs.Limits.{sizeTests, textTests, unlikeTests, rangeTests}
-use Rattle.network.specs.Real.{keyWidth, keysOf, pricedBy, pricesWidth, pairCells, regionAt, openingOf}
-use Rattle.network.specs.Lent.{hasLength, setupTests, namesTests, keysTests, pricesTests}
-use Rattle.network.specs.Open.{lengthsOf, lentTests, limitTests, askedOpening, openNumber, openTables}
+use Rattle.network.specs.Tables.{cell, Tables, live, setupOf, setupWidth, tillForm, idsStart}
+use Rattle.network.specs.Limits.{sizeTests}
+use Rattle.network.specs.Real.{keyWidth, pricedBy, regionAt, openingOf}
+use Rattle.network.specs.Lent.{setupTests, namesTests, keysTests, pricesTests}
+use Rattle.network.specs.Open.{lentTests, limitTests, askedOpening, openNumber, openTables}
 use Rattle.network.proofs.Opened.{length-keys, length-priced, priced-admitted, region-below}
 use Rattle.book.proofs.Each.{each-all, each-every, every-each, each-upTo, join, True}
 use Rattle.book.proofs.Asking.{all-yes, rising-opening}
 use Rattle.book.proofs.Fitting.{Limited}
 use Rattle.book.proofs.StepFits.{opening-fits}
-use Rattle.book.proofs.Formed.{fourOf, Fixed, NetFormed, Formed, Wrote}
-use Rattle.book.proofs.WriteLaws.{till-exact}
+use Rattle.book.proofs.Formed.{fourOf, Fixed, Formed}
+use Rattle.book.proofs.Parts.{till-exact}
 use Rattle.book.proofs.Held.{Held}
 
 -- n zeros, and behind them what stood there
@@ -173,7 +170,7 @@ module _ (x : Settings) (masks : List ℕ) (lent : Tables) (accepted : openNumbe
   pub limited : Limited z
   limited =
       let l = every-each (sizeTests x) (limits .0) in
-      record { types = leb-true _ _ (l .1 .0); classes = leb-true _ _ (l .1 .1 .0); shards = leb-true _ _ (l .1 .1 .1 .0) }
+      record { tills = leb-true _ _ (l .0); seen = leb-true _ _ (l .1 .1 .1 .1 .1 .1 .1 .0); waiting = leb-true _ _ (l .1 .1 .1 .1 .1 .0); log = leb-true _ _ (l .1 .1 .1 .1 .1 .1 .1 .1 .0); types = leb-true _ _ (l .1 .0); classes = leb-true _ _ (l .1 .1 .0); shards = leb-true _ _ (l .1 .1 .1 .0) }
 
   pub open-held : Held (openingOf x (lent .names)) (openTables x masks lent) (openingLive (x .sizes) masks)
   open-held = record { fixed = fixed; wrote = record { formed = formed; holds = holds }; fits = opening-fits (openingOf x (lent .names)) masks (yes .1 .1 .1 .0) }

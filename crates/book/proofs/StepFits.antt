@@ -1,16 +1,16 @@
 -- Every call leaves a live part that fits the tables.
-use mathlib.Core.Path.{_≡_, refl, sym, ap, _∙_}
-use Prim.Native.Nat.{ℕ, zero, suc, _+_, _*_, _^_, _≤_, _<_, max}
+use mathlib.Core.Path.{_≡_, refl, sym, _∙_}
+use Prim.Native.Nat.{ℕ, suc, _+_, _^_, _≤_, max}
 use lib.Pow.{pow-pos}
 use native.Mathlib.Omega.{arith}
 use native.Mathlib.Nat.{le-refl, le-trans}
-use mathlib.Core.Bool.{Bool, true, false, cond, not, _&&_, _||_, false≢true}
+use mathlib.Core.Bool.{Bool, true, false, cond, _&&_, _||_, false≢true}
 use mathlib.Core.List.{List, [], _∷_, _++_}
 use lib.Dec.{eqb, leb, ltb}
 use lib.ListN.{length, getD, set, length-set, length-replicate, length-append}
 use borrow.Author.Tests.{ltb-true, leb-true, lt-ltb, eqb-true}
-use Rattle.rows.specs.Rows.{allOf, keep}
-use Rattle.rows.specs.Lists.{Each, front, behind}
+use Rattle.rows.specs.Rows.{allOf}
+use Rattle.rows.specs.Lists.{Each}
 use Rattle.ring.specs.Ring.{push}
 use Rattle.rows.proofs.Lists.{length-upTo}
 use Rattle.delivery.specs.declared.Delivery.{Delivery}
@@ -18,16 +18,15 @@ use Rattle.waiting.specs.Waiting.{onTime}
 use Rattle.waiting.specs.declared.Copy.{Copy}
 use Rattle.marks.specs.Marks.{removed, Rises}
 use Rattle.marks.proofs.Rising.{length-removed}
-use Rattle.card.specs.Card.{fieldsOf}
 use Rattle.rules.specs.declared.FaultRule.{FaultRule}
 use Rattle.network.specs.Lists.{within}
 use Rattle.network.specs.Opening.{Sizes, Opening, links, global, longestWire}
 use Rattle.rules.specs.Rules.{ruleSlots, mostRules, without}
-use Rattle.blocks.specs.Blocks.{blockSlots, always, during, other}
+use Rattle.blocks.specs.Blocks.{blockSlots, always, during}
 use Rattle.blocks.specs.declared.BlockWindow.{BlockWindow}
 use Rattle.rings.specs.Rings.{slots}
-use Rattle.network.specs.Live.{Carried, Till, downTill, upTill, Engine, Live, openTills, openingLive, isOriginal, ringsOf, tillAt, withTills, withEngine, withBlocks}
-use Rattle.network.specs.Accept.{Entry, Message, messageOf, selected}
+use Rattle.network.specs.Live.{Carried, Till, downTill, upTill, Engine, Live, openingLive, isOriginal, ringsOf, tillAt, withTills, withEngine, withBlocks}
+use Rattle.network.specs.Accept.{Entry, messageOf, selected}
 use Rattle.network.specs.Flush.{due, stops, lands, unmark, clearing, loggedAll}
 use Rattle.log.specs.Log as log
 use Rattle.log.specs.Log.{Log, logged, tallied, wrap, noTally}
@@ -38,7 +37,7 @@ use Rattle.book.proofs.Each.{both, join, each-set, each-at, each-replic
 use Rattle.book.proofs.Sound.{selected-below, length-clearing}
 use Rattle.book.proofs.Marks.{clearing-rises}
 use Rattle.book.proofs.Asking.{all-yes, rising}
-use Rattle.book.proofs.Fitting.{Limited, Small, Fits, EngineFits, RingsFit, NearRing, QueueFits, LogFits, NearMessage, accept-fits, ruled-fits, length-keep, length-behind, length-push}
+use Rattle.book.proofs.Fitting.{Limited, Small, Fits, EngineFits, NearRing, LogFits, NearMessage, accept-fits, ruled-fits, length-keep, length-behind, length-push}
 
 -- ---- Flush
 

@@ -3,8 +3,6 @@ use mathlib.Core.Path.{_≡_, refl, _∙_}
 use Prim.Native.Nat.{ℕ}
 use mathlib.Core.Bool.{Bool, true, false, cond, _&&_}
 use mathlib.Core.List.{List, [], _∷_}
-use lib.ListN.{length}
-use Rattle.waiting.specs.Waiting.{insertCopy}
 use Rattle.waiting.specs.declared.Copy.{Copy}
 use Rattle.marks.specs.Marks.{placed, removed}
 use Rattle.rings.specs.Rings as rings
@@ -15,9 +13,9 @@ use Rattle.network.specs.Live.{Live, isOriginal, idsAt, ringsOf}
 use Rattle.network.specs.Accept.{Message, messageOf, selected, Drawn, drawn, Class, deduplicated, partition, loss, fault, sent, classOf, copies, carriedOf}
 use Rattle.network.specs.Flush.{due, later, stops, lands}
 use Rattle.network.specs.Calls.{Call, accept, flush, takeDown, bringUp, handlers, block, blockDuring, unblock, install, remove, decide, drain, reading}
-use Rattle.network.specs.Tables.{cell, Tables, live, sequenceAt, faultWordsAt}
-use Rattle.network.specs.Writes.{setRules, setRings, netT, wordsT, marksT, waitingT, ruledT, recordT, recordAllT, pushT, rememberT, effectT, offeredT, acceptT, clearT, flushT, stepT}
-use Rattle.book.proofs.Formed.{Four, fourOf}
+use Rattle.network.specs.Tables.{Tables, live, faultWordsAt}
+use Rattle.network.specs.Writes.{setRules, setRings, netT, wordsT, marksT, waitingT, ruledT, recordAllT, pushT, rememberT, effectT, offeredT, acceptT, clearT, stepT}
+use Rattle.book.proofs.Formed.{fourOf}
 
 module _ (z : Sizes) where
   same-ruled : (T : Tables) (v : Decision) → fourOf (ruledT T v) ≡ fourOf T

@@ -1,33 +1,28 @@
 -- One lemma a write: it is the book's change of what the tables hold.
 use mathlib.Core.Path.{_≡_, refl, sym, ap, _∙_, subst}
-use Prim.Native.Nat.{ℕ, zero, suc, _+_, _-_, _*_, _%_, _^_, _≤_, _<_}
+use Prim.Native.Nat.{ℕ, zero, suc, _+_, _*_, _%_, _^_, _≤_, _<_}
 use native.Mathlib.Omega.{arith}
-use native.Mathlib.Nat.{le-refl, le-trans, mul-le-mul-right, suc-mul}
-use mathlib.Core.Bool.{Bool, true, false, cond, not}
-use mathlib.Core.List.{List, [], _∷_, _++_, append-nil}
-use mathlib.Core.Logic.{_⊎_, inl, inr}
+use native.Mathlib.Nat.{le-refl, mul-le-mul-right}
+use mathlib.Core.Bool.{Bool, true, false, cond}
+use mathlib.Core.List.{List, [], _∷_, _++_}
 use lib.Dec.{eqb, ltb}
-use lib.ListN.{length, getD, set, take, drop, replicate, length-set, length-drop, length-append, length-take}
-use lib.Seq.{getD-set-same, getD-set-other, set-split, drop-set-lt, take-set-le, getD-take, getD-drop, length-take-le}
+use lib.ListN.{length, getD, set, drop, replicate, length-set, length-drop, length-append}
+use lib.Seq.{take-set-le}
 use borrow.Author.Tests.{eqb-true, eqb-false, ltb-true, ltb-false}
 use Rattle.shift.specs.Shift.{putWords, closed}
 use Rattle.shift.proofs.Laws.{length-put, length-closed}
-use Rattle.shift.proofs.Parts.{put-before, put-here}
 use Rattle.rows.specs.Rows.{rows, keep, flat, kept}
-use Rattle.rows.specs.Lists.{upTo}
 use Rattle.ring.specs.Ring.{push}
-use Rattle.rows.specs.Table.{Form, Exact, rowsOf, over}
-use Rattle.rows.proofs.Rows.{length-rows, rows-take, rows-put}
-use Rattle.rows.proofs.Lists.{upTo-set, getD-upTo}
-use Rattle.rows.proofs.Table.{alone, rows-over, length-over}
+use Rattle.rows.specs.Table.{rowsOf, over}
+use Rattle.rows.proofs.Rows.{length-rows, rows-take}
+use Rattle.rows.proofs.Lists.{getD-upTo}
+use Rattle.rows.proofs.Table.{rows-over, length-over, rows-set}
 use Rattle.delivery.specs.declared.Delivery.{Delivery}
 use Rattle.waiting.specs.Waiting as waiting
 use Rattle.waiting.specs.Waiting.{insertCopy}
 use Rattle.waiting.specs.declared.Copy.{Copy}
 use Rattle.waiting.proofs.Reading as waiting-laws
 use Rattle.waiting.proofs.Order.{length-insert}
-use Rattle.marks.specs.Marks.{idsOf}
-use Rattle.marks.proofs.Laws.{others}
 use Rattle.rings.specs.Rings as rings
 use Rattle.rings.proofs.Laws as rings-laws
 use Rattle.log.specs.Log as log
@@ -38,162 +33,20 @@ use Rattle.rules.specs.declared.FaultRule.{FaultRule}
 use Rattle.rules.proofs.Laws as rules-laws
 use Rattle.rules.proofs.Held.{rules-installed, rules-removed, rules-fired, install-room}
 use Rattle.card.specs.Card.{fieldsOf}
-use Rattle.decide.specs.Decide.{Decision, rulesAfter}
+use Rattle.decide.specs.Decide.{Decision}
 use Rattle.blocks.specs.Blocks as blocks
 use Rattle.blocks.specs.Blocks.{blockSlots, blockWidth, blocksOf, blockNumber, blockTable, unblockTable, openCount}
 use Rattle.blocks.specs.declared.BlockWindow.{BlockWindow}
-use Rattle.blocks.proofs.Laws as blocks-laws
-use Rattle.blocks.proofs.Held.{blocks-added, blocks-unblocked, block-room}
-use Rattle.network.specs.Opening.{Sizes, Opening, links}
+use Rattle.blocks.proofs.Held.{blocks-added, blocks-unblocked}
+use Rattle.network.specs.Opening.{Sizes}
 use Rattle.network.specs.Live.{Carried, Till, Live, withTills, withSeen, withEngine, withRings, withWords, withWaiting, withLog, withBlocks, withRules, ringsOf}
 use Rattle.network.specs.Accept.{insertAll, ruled}
 use Rattle.network.specs.Calls.{ruleAdded, ruleRemoved}
-use Rattle.network.specs.Tables.{cell, Tables, live, tillForm, ruleForm, blockForm, idsStart, netWidth, sequenceAt, waitingAt, rulesAt, installedAt, faultWordsAt, blocksAt}
-use Rattle.network.specs.Writes.{setNet, setSeen, setRings, setRules, setWaiting, setBlocks, netT, tillT, wordsT, marksT, waitingT, blockT, unblockT, installT, removeT, ruledT, recordT, drainT, pushT}
-use Rattle.book.proofs.Fitting.{length-fireAt, length-keep}
-use Rattle.book.proofs.Formed.{NetFormed, SeenFormed, RingsFormed, LogFormed, Formed, Wrote, formed-net, formed-tills, formed-words, formed-seen, formed-waiting, formed-rings, formed-rules, formed-blocks, formed-log}
-
--- ---- `net`
-
--- its cells one by one
-six : (l : List ℕ) → length l ≡ netWidth → l ≡ cell l 0 ∷ cell l 1 ∷ cell l 2 ∷ cell l 3 ∷ cell l 4 ∷ cell l 5 ∷ []
-six [] h = absurd (omega arith)
-six (a ∷ []) h = absurd (omega arith)
-six (a ∷ b ∷ []) h = absurd (omega arith)
-six (a ∷ b ∷ c ∷ []) h = absurd (omega arith)
-six (a ∷ b ∷ c ∷ d ∷ []) h = absurd (omega arith)
-six (a ∷ b ∷ c ∷ d ∷ e ∷ []) h = absurd (omega arith)
-six (a ∷ b ∷ c ∷ d ∷ e ∷ f ∷ []) h = refl
-six (a ∷ b ∷ c ∷ d ∷ e ∷ f ∷ g ∷ l) h = absurd (omega arith)
-
-abbrev pub literal : List ℕ → List ℕ
-literal l = cell l 0 ∷ cell l 1 ∷ cell l 2 ∷ cell l 3 ∷ cell l 4 ∷ cell l 5 ∷ []
-
-module _ (z : Sizes) (net : List ℕ) (f : NetFormed z net) where
-  -- a cell anew, none of the three counts
-  net-plain : (i v : ℕ) → (waitingAt ≡ i → ⊥) → (rulesAt ≡ i → ⊥) → (blocksAt ≡ i → ⊥) → NetFormed z (set net i v)
-  net-plain i v w r b = record {
-    size = length-set net i v ∙ f .size;
-    waiting = rw (getD-set-other net i waitingAt v 0 w) (f .waiting);
-    rules = rw (getD-set-other net i rulesAt v 0 r) (f .rules);
-    blocks = rw (getD-set-other net i blocksAt v 0 b) (f .blocks);
-  }
-
-  net-waiting : (v : ℕ) → v ≤ z .waitSlots → NetFormed z (set net waitingAt v)
-  net-waiting v h = record {
-    size = length-set net waitingAt v ∙ f .size;
-    waiting = rw (getD-set-same net waitingAt v 0 (omega (arith, f .size))) h;
-    rules = rw (getD-set-other net waitingAt rulesAt v 0 (λ e. omega arith)) (f .rules);
-    blocks = rw (getD-set-other net waitingAt blocksAt v 0 (λ e. omega arith)) (f .blocks);
-  }
-
-  net-rules : (v : ℕ) → v ≤ ruleSlots → NetFormed z (set net rulesAt v)
-  net-rules v h = record {
-    size = length-set net rulesAt v ∙ f .size;
-    waiting = rw (getD-set-other net rulesAt waitingAt v 0 (λ e. omega arith)) (f .waiting);
-    rules = rw (getD-set-same net rulesAt v 0 (omega (arith, f .size))) h;
-    blocks = rw (getD-set-other net rulesAt blocksAt v 0 (λ e. omega arith)) (f .blocks);
-  }
-
-  net-blocks : (v : ℕ) → v ≤ blockSlots → NetFormed z (set net blocksAt v)
-  net-blocks v h = record {
-    size = length-set net blocksAt v ∙ f .size;
-    waiting = rw (getD-set-other net blocksAt waitingAt v 0 (λ e. omega arith)) (f .waiting);
-    rules = rw (getD-set-other net blocksAt rulesAt v 0 (λ e. omega arith)) (f .rules);
-    blocks = rw (getD-set-same net blocksAt v 0 (omega (arith, f .size))) h;
-  }
-
--- ---- Rows
-
-pub till-exact : Exact tillForm
-till-exact = record { long = λ t. refl; back = λ t m. refl; whole = four }
-  where
-    four : (l : List ℕ) → 4 ≤ length l → cell l 0 ∷ cell l 1 ∷ cell l 2 ∷ cell l 3 ∷ [] ≡ take 4 l
-    four [] h = absurd (omega arith)
-    four (a ∷ []) h = absurd (omega arith)
-    four (a ∷ b ∷ []) h = absurd (omega arith)
-    four (a ∷ b ∷ c ∷ []) h = absurd (omega arith)
-    four (a ∷ b ∷ c ∷ d ∷ l) h = refl
-
--- a row anew
-row-set : {R : Type 0} (f : Form R) → Exact f → (ws : List ℕ) (n p : ℕ) (r : R) → p < n → n * f .width ≤ length ws → rowsOf f (putWords ws (p * f .width) (f .words r)) n ≡ set (rowsOf f ws n) p r
-unfolding putWords
-row-set f x ws n p r h room =
-    ap (λ (k : ℕ). rowsOf f (take (p * f .width) ws ++ (f .words r ++ drop (p * f .width + k) ws)) n) (x .long r)
-    ∙ rows-put (f .width) (f .read) (alone f x) ws (f .words r) n p (x .long r) h room
-    ∙ ap (λ (y : _). take p (rowsOf f ws n) ++ (y ∷ drop (p + 1) (rowsOf f ws n))) (read-own f x r)
-    ∙ back
-  where
-    read-own : {R : Type 0} (f : Form R) → Exact f → (r : R) → f .read (f .words r) ≡ r
-    read-own f x r = ap (f .read) (sym (append-nil (f .words r))) ∙ x .back r []
-
-    back : take p (rowsOf f ws n) ++ (r ∷ drop (p + 1) (rowsOf f ws n)) ≡ set (rowsOf f ws n) p r
-    back = let e : p + 1 ≡ suc p = omega arith in rw e (sym (set-split (rowsOf f ws n) p r (omega (arith, length-rows (f .width) (f .read) n ws))))
-
--- ---- Marks
-
-module _ (z : Sizes) (seen : List ℕ) (f : SeenFormed z seen) (t : ℕ) (ids : List ℕ) (b : t < z .tills) (le : length ids ≤ z .seenSlots) where
-  abbrev start : ℕ
-  start = idsStart z t
-
-  room : start + length ids ≤ length seen
-  room = let k : (t + 1) * z .seenSlots ≤ z .tills * z .seenSlots = mul-le-mul-right (z .seenSlots) (omega arith) in
-      omega (arith, f .size, suc-mul t (z .seenSlots), k)
-
-  abbrev put : List ℕ
-  put = putWords seen start ids
-
-  abbrev after : List ℕ
-  after = set put t (length ids)
-
-  long : length after ≡ length seen
-  long = length-set put t (length ids) ∙ length-put seen start ids room
-
-  -- a count before the places is no id
-  before : (k : ℕ) → k < z .tills → cell put k ≡ cell seen k
-  before k h =
-      let own : (w : List ℕ) → getD (take 1 (drop k w)) 0 0 ≡ cell w (k + 0) = λ w. getD-take 1 (drop k w) 0 0 (omega arith) ∙ getD-drop k w 0 0 in
-      let e : k + 0 ≡ k = omega arith in
-      subst (λ (i : ℕ). cell put i ≡ cell seen i) e (sym (own put) ∙ ap (λ (x : List ℕ). getD x 0 0) (put-before seen start ids k 1 (omega arith) (omega (arith, room))) ∙ own seen)
-
-  count-here : cell after t ≡ length ids
-  count-here = getD-set-same put t (length ids) 0 (omega (arith, length-put seen start ids room, f .size))
-
-  count-there : (k : ℕ) → k < z .tills → (k ≡ t → ⊥) → cell after k ≡ cell seen k
-  count-there k h n = getD-set-other put t k (length ids) 0 n ∙ before k h
-
-  -- the places lie behind the counts
-  places : (s n : ℕ) → z .tills ≤ s → idsOf after s n ≡ idsOf put s n
-  places s n h = ap (take n) (drop-set-lt s put t (length ids) (omega arith))
-
-  apart : (k : ℕ) → k < z .tills → (k ≡ t → ⊥) → (idsStart z k + cell seen k ≤ start) ⊎ (start + length ids ≤ idsStart z k)
-  apart k h n = go (ltb k t) refl
-    where
-      go : (x : Bool) → ltb k t ≡ x → (idsStart z k + cell seen k ≤ start) ⊎ (start + length ids ≤ idsStart z k)
-      go true p =
-          let m : (k + 1) * z .seenSlots ≤ t * z .seenSlots = mul-le-mul-right (z .seenSlots) (omega (arith, ltb-true k t p)) in
-          inl (omega (arith, suc-mul k (z .seenSlots), m, f .counts k h))
-      go false p =
-          let m : (t + 1) * z .seenSlots ≤ k * z .seenSlots = mul-le-mul-right (z .seenSlots) (omega (arith, ltb-false k t p, n)) in
-          inr (omega (arith, suc-mul t (z .seenSlots), m))
-
-  ids-here : idsOf after start (cell after t) ≡ ids
-  ids-here = ap (idsOf after start) count-here ∙ places start (length ids) (omega arith) ∙ put-here seen start ids room
-
-  ids-there : (k : ℕ) → k < z .tills → (k ≡ t → ⊥) → idsOf after (idsStart z k) (cell after k) ≡ idsOf seen (idsStart z k) (cell seen k)
-  ids-there k h n = ap (idsOf after (idsStart z k)) (count-there k h n) ∙ places (idsStart z k) (cell seen k) (omega arith) ∙ others seen start ids (idsStart z k) (cell seen k) room (apart k h n)
-
-  seen-formed : SeenFormed z after
-  seen-formed = record { size = long ∙ f .size; counts = λ k h. go k h (eqb k t) refl }
-    where
-      go : (k : ℕ) → k < z .tills → (x : Bool) → eqb k t ≡ x → cell after k ≤ z .seenSlots
-      go k h true p = rw (eqb-true k t p, count-here) le
-      go k h false p = rw (count-there k h (eqb-false k t p)) (f .counts k h)
-
-  seen-holds : upTo (z .tills) (λ k. idsOf after (idsStart z k) (cell after k)) ≡ set (upTo (z .tills) (λ k. idsOf seen (idsStart z k) (cell seen k))) t ids
-  seen-holds =
-      upTo-set (z .tills) (λ k. idsOf seen (idsStart z k) (cell seen k)) (λ k. idsOf after (idsStart z k) (cell after k)) t b ids-there
-      ∙ ap (set (upTo (z .tills) (λ k. idsOf seen (idsStart z k) (cell seen k))) t) ids-here
+use Rattle.network.specs.Tables.{cell, Tables, live, tillForm, ruleForm, blockForm, netWidth, sequenceAt, waitingAt, rulesAt, installedAt, faultWordsAt, blocksAt}
+use Rattle.network.specs.Writes.{setNet, setRings, setRules, setWaiting, setBlocks, netT, tillT, wordsT, marksT, waitingT, blockT, unblockT, installT, removeT, ruledT, recordT, drainT, pushT}
+use Rattle.book.proofs.Fitting.{length-keep}
+use Rattle.book.proofs.Parts.{six, net-plain, net-waiting, net-rules, net-blocks, till-exact, seen-formed, seen-holds}
+use Rattle.book.proofs.Formed.{Formed, Wrote, formed-net, formed-tills, formed-words, formed-seen, formed-waiting, formed-rings, formed-rules, formed-blocks, formed-log}
 
 -- ---- The writes
 
@@ -206,7 +59,7 @@ module _ (z : Sizes) (T : Tables) (f : Formed z T) where
       let k : (t + 1) * tillForm .width ≤ z .tills * tillForm .width = mul-le-mul-right (tillForm .width) (omega arith) in
       record {
         formed = formed-tills z T f _ (length-put (T .tills) (t * tillForm .width) (tillForm .words x) (omega (arith, f .tills)) ∙ f .tills);
-        holds = λ j. withTills (live z T) (row-set tillForm till-exact (T .tills) (z .tills) t x b (rw (f .tills) (le-refl _)) j);
+        holds = λ j. withTills (live z T) (rows-set tillForm till-exact (T .tills) (z .tills) t x b (rw (f .tills) (le-refl _)) j);
       }
 
   pub words-wrote : (i n : ℕ) → Wrote z (wordsT T i n) (withWords (live z T) (set (live z T .words) i n))

@@ -1,5 +1,5 @@
 -- Document 01's book: its live part, and all that happened. It is fed a call and whether a number refused it, nothing else.
-use Prim.Native.Nat.{ℕ, zero, suc, _+_}
+use Prim.Native.Nat.{ℕ}
 use mathlib.Core.Bool.{Bool, true, false, cond}
 use mathlib.Core.List.{List, [], _∷_}
 use Rattle.network.specs.Opening.{Opening}

@@ -4,23 +4,23 @@ use Prim.Native.Nat.{ℕ, zero, suc, _+_}
 use mathlib.Core.Bool.{Bool, true, false}
 use mathlib.Core.List.{List, [], _∷_, _++_, map, reverseAux}
 use lib.Dec.{T}
-use lib.ListN.{length, drop}
+use lib.ListN.{length}
 use Rattle.rows.specs.Rows.{keep}
 use Rattle.waiting.specs.Waiting.{onTime, Sorted}
 use Rattle.waiting.specs.declared.Copy.{Copy}
 use Rattle.rules.specs.Rules.{Ascending}
 use Rattle.network.specs.Lists.{bit, count, some-of}
 use Rattle.network.specs.Opening.{Settings, Opening}
-use Rattle.network.specs.Live.{Live, marked}
+use Rattle.network.specs.Live.{marked}
 use Rattle.log.specs.Log.{Log, emptyLog}
 use Rattle.network.specs.Accept.{messageOf, selected, Booked, booked, noCounts, tally, total}
 use Rattle.network.specs.Flush.{Row, handled, due, loggedAll}
-use Rattle.network.specs.Calls.{Call, Answer, silent, counted, countsIn, rowsIn, deliveredIn, dropsIn, accept, flush, takeDown, bringUp, handlers, block, blockDuring, unblock, install, remove, decide, drain, reading}
+use Rattle.network.specs.Calls.{Call, Answer, silent, countsIn, rowsIn, deliveredIn, dropsIn, accept, flush, takeDown, bringUp, handlers, block, blockDuring, unblock, install, remove, decide, drain, reading}
 use Rattle.network.specs.Questions.{asked, answerTo}
 use Rattle.network.specs.Tables.{Tables, sizesAt, live}
 use Rattle.network.specs.Real.{openingOf, openingAt}
 use Rattle.network.specs.Lent.{question1}
-use Rattle.network.specs.Writes.{Reply, isNumber, outputOf, callTables, callReply, callOutput}
+use Rattle.network.specs.Writes.{Reply, isNumber, callTables, callReply, callOutput}
 use Rattle.network.specs.Open.{askedOpening, openNumber, openTables, openCall}
 use Rattle.book.specs.Book.{Book, Event, scheduled, scheduledIn, landedIn, droppedIn, bookStep, expected, opened}
 use Rattle.book.specs.History.{hasSequence, given, originalOf, clears, standing}

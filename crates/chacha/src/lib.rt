@@ -47,9 +47,10 @@ fn half(q: Quad, s: u32, t: u32) -> Quad
     Quad { a, b, c, d }
 }
 
-fn quarter(q: Quad) -> Quad
-    ensures { λ r. ⌜ r ≡ quarterOf q ⌝ }
+fn quarter(a: u32, b: u32, c: u32, d: u32) -> Quad
+    ensures { λ r. ⌜ r ≡ quarterOf (record { a = a; b = b; c = c; d = d }) ⌝ }
 {
+    let q = Quad { a, b, c, d };
     half(half(q, 16, 12), 8, 7)
 }
 
@@ -57,54 +58,14 @@ fn quarter(q: Quad) -> Quad
 fn double_round(v: Words) -> Words
     ensures { λ r. ⌜ listOf r ≡ diagonals (columns (listOf v)) ⌝ }
 {
-    let c0 = quarter(Quad {
-        a: v.w0,
-        b: v.w4,
-        c: v.w8,
-        d: v.w12,
-    });
-    let c1 = quarter(Quad {
-        a: v.w1,
-        b: v.w5,
-        c: v.w9,
-        d: v.w13,
-    });
-    let c2 = quarter(Quad {
-        a: v.w2,
-        b: v.w6,
-        c: v.w10,
-        d: v.w14,
-    });
-    let c3 = quarter(Quad {
-        a: v.w3,
-        b: v.w7,
-        c: v.w11,
-        d: v.w15,
-    });
-    let d0 = quarter(Quad {
-        a: c0.a,
-        b: c1.b,
-        c: c2.c,
-        d: c3.d,
-    });
-    let d1 = quarter(Quad {
-        a: c1.a,
-        b: c2.b,
-        c: c3.c,
-        d: c0.d,
-    });
-    let d2 = quarter(Quad {
-        a: c2.a,
-        b: c3.b,
-        c: c0.c,
-        d: c1.d,
-    });
-    let d3 = quarter(Quad {
-        a: c3.a,
-        b: c0.b,
-        c: c1.c,
-        d: c2.d,
-    });
+    let c0 = quarter(v.w0, v.w4, v.w8, v.w12);
+    let c1 = quarter(v.w1, v.w5, v.w9, v.w13);
+    let c2 = quarter(v.w2, v.w6, v.w10, v.w14);
+    let c3 = quarter(v.w3, v.w7, v.w11, v.w15);
+    let d0 = quarter(c0.a, c1.b, c2.c, c3.d);
+    let d1 = quarter(c1.a, c2.b, c3.c, c0.d);
+    let d2 = quarter(c2.a, c3.b, c0.c, c1.d);
+    let d3 = quarter(c3.a, c0.b, c1.c, c2.d);
     Words {
         w0: d0.a,
         w1: d1.a,

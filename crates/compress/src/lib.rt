@@ -47,9 +47,11 @@ fn half(q: Quad, m: u32, s: u32, t: u32) -> Quad
     Quad { a, b, c, d }
 }
 
-pub fn mix(q: Quad, x: u32, y: u32) -> Quad
-    ensures { λ r. ⌜ r ≡ mixOf q x y ⌝ }
+// G.
+pub fn mix(a: u32, b: u32, c: u32, d: u32, x: u32, y: u32) -> Quad
+    ensures { λ r. ⌜ r ≡ mixOf (record { a = a; b = b; c = c; d = d }) x y ⌝ }
 {
+    let q = Quad { a, b, c, d };
     half(half(q, x, 16, 12), y, 8, 7)
 }
 
@@ -57,86 +59,14 @@ pub fn mix(q: Quad, x: u32, y: u32) -> Quad
 fn round(v: Words, m: Words) -> Words
     ensures { λ r. ⌜ listOf r ≡ roundOf (listOf v) (listOf m) ⌝ }
 {
-    let c0 = mix(
-        Quad {
-            a: v.w0,
-            b: v.w4,
-            c: v.w8,
-            d: v.w12,
-        },
-        m.w0,
-        m.w1,
-    );
-    let c1 = mix(
-        Quad {
-            a: v.w1,
-            b: v.w5,
-            c: v.w9,
-            d: v.w13,
-        },
-        m.w2,
-        m.w3,
-    );
-    let c2 = mix(
-        Quad {
-            a: v.w2,
-            b: v.w6,
-            c: v.w10,
-            d: v.w14,
-        },
-        m.w4,
-        m.w5,
-    );
-    let c3 = mix(
-        Quad {
-            a: v.w3,
-            b: v.w7,
-            c: v.w11,
-            d: v.w15,
-        },
-        m.w6,
-        m.w7,
-    );
-    let d0 = mix(
-        Quad {
-            a: c0.a,
-            b: c1.b,
-            c: c2.c,
-            d: c3.d,
-        },
-        m.w8,
-        m.w9,
-    );
-    let d1 = mix(
-        Quad {
-            a: c1.a,
-            b: c2.b,
-            c: c3.c,
-            d: c0.d,
-        },
-        m.w10,
-        m.w11,
-    );
-    let d2 = mix(
-        Quad {
-            a: c2.a,
-            b: c3.b,
-            c: c0.c,
-            d: c1.d,
-        },
-        m.w12,
-        m.w13,
-    );
-    let d3 = mix(
-        Quad {
-            a: c3.a,
-            b: c0.b,
-            c: c1.c,
-            d: c2.d,
-        },
-        m.w14,
-        m.w15,
-    );
+    let c0 = mix(v.w0, v.w4, v.w8, v.w12, m.w0, m.w1);
+    let c1 = mix(v.w1, v.w5, v.w9, v.w13, m.w2, m.w3);
+    let c2 = mix(v.w2, v.w6, v.w10, v.w14, m.w4, m.w5);
+    let c3 = mix(v.w3, v.w7, v.w11, v.w15, m.w6, m.w7);
+    let d0 = mix(c0.a, c1.b, c2.c, c3.d, m.w8, m.w9);
+    let d1 = mix(c1.a, c2.b, c3.c, c0.d, m.w10, m.w11);
+    let d2 = mix(c2.a, c3.b, c0.c, c1.d, m.w12, m.w13);
+    let d3 = mix(c3.a, c0.b, c1.c, c2.d, m.w14, m.w15);
     Words {
         w0: d0.a,
         w1: d1.a,

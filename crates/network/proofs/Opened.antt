@@ -2,24 +2,22 @@
 use mathlib.Core.Path.{_≡_, refl, sym, ap, _∙_}
 use Prim.Native.Nat.{ℕ, zero, suc, _+_, _-_, _*_, _/_, _%_, _^_, _≤_, _<_}
 use native.Mathlib.Omega.{arith}
-use native.Mathlib.Nat.{mul-le-mul-right, suc-mul, add-mul, mul-comm, mul-assoc, mod-lt, add-mul-div-right, add-mul-mod-self-right, div-eq-of-lt, mod-eq-of-lt, zero-add, div-lt-iff-lt-mul, div-add-mod'}
-use mathlib.Core.Bool.{Bool, true, false, cond, not, _&&_}
+use native.Mathlib.Nat.{mul-le-mul-right, suc-mul, mod-lt, add-mul-div-right, add-mul-mod-self-right, div-eq-of-lt, mod-eq-of-lt, zero-add, div-lt-iff-lt-mul, div-add-mod'}
+use mathlib.Core.Bool.{Bool, true, false, cond}
 use mathlib.Core.List.{List, [], _∷_, _++_}
 use lib.Dec.{eqb, leb, ltb}
 use lib.ListN.{length, getD, take, drop, replicate, length-append, length-replicate, List·getD-append}
-use lib.Seq.{take-at, drop-at, drop-append-add, take-append-seam, getD-append-add}
+use lib.Seq.{take-at, drop-append-add, getD-append-add}
 use borrow.Author.Tests.{lt-ltb}
 use Rattle.compress.specs.Compress.{compressed, folded}
 use Rattle.chunk.specs.Chunk.{chunk, blocks, parent}
 use Rattle.digest.specs.Blake3.{hash, tree, pick}
-use Rattle.rows.specs.Rows.{flat, allOf}
+use Rattle.rows.specs.Rows.{flat}
 use Rattle.rows.specs.Lists.{upTo}
 use Rattle.rows.proofs.Lists.{length-upTo, getD-upTo}
 use Rattle.geography.specs.Geography.{atLeastOne, linkWidth, linkIn, linkAt, linkAdmitted, planLink, regionOf, pricesOf}
-use Rattle.geography.specs.declared.Link.{Link}
 use Rattle.streams.specs.Link.{linkKey}
 use Rattle.geography.proofs.Prices.{length-prices, prices-are, plan-admitted}
-use Rattle.network.specs.Lists.{below}
 use Rattle.network.specs.Opening.{Plan, Settings}
 use Rattle.network.specs.Tables.{cell}
 use Rattle.network.specs.Real.{keyWidth, keysOf, keyOf, pairCells, pricesWidth, pricedBy, regionAt}

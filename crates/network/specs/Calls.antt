@@ -1,10 +1,10 @@
 -- The calls: what each does to the live part, and what it answers.
-use Prim.Native.Nat.{ℕ, zero, suc, _+_, _*_}
-use mathlib.Core.Bool.{Bool, true, false, cond, not}
+use Prim.Native.Nat.{ℕ, suc}
+use mathlib.Core.Bool.{Bool, true, false, not}
 use mathlib.Core.List.{List, [], _∷_, _++_}
-use lib.Dec.{leb}
-use lib.ListN.{length, getD, set, replicate}
-use Rattle.digest.specs.Blake3.{hash}
+use lib.ListN.{getD, set}
+use Rattle.digest.specs.Blake3.{digestOf}
+use Rattle.digest.specs.declared.Hashed.{Hashed}
 use Rattle.rule.specs.declared.DropSpec.{DropSpec}
 use Rattle.card.specs.Card.{fieldsOf}
 use Rattle.rules.specs.declared.Reading as rules
@@ -16,7 +16,7 @@ use Rattle.waiting.specs.declared.Copy.{Copy}
 use Rattle.log.specs.declared.Tally.{Tally}
 use Rattle.log.specs.Log.{noTally, Log, emptyLog}
 use Rattle.network.specs.Lists.{bit, count}
-use Rattle.network.specs.Opening.{Opening, longestInput}
+use Rattle.network.specs.Opening.{Opening}
 use Rattle.network.specs.Live.{Context, Till, downTill, upTill, Live, Engine, withBlocks, withRules, withTills, withSeen, withEngine, withLog, tillAt, idsAt, isUp, inTransit}
 use Rattle.network.specs.Accept.{Entry, messageOf, selected, liveAfter, booked, Counts, noCounts, tally, ruled}
 use Rattle.network.specs.Flush.{Row, rowsOf, dropsOf, handled, due, flushed}
@@ -194,9 +194,5 @@ dropsIn (ids is) = 0
 
 -- ---- The digest by itself: no table is lent, and nothing of the network is asked. 6: is the input at most 65,700 bytes?
 
-pub record Digested : Type 0 where
-  pub number : ℕ
-  pub words : List ℕ
-
-abbrev pub digestReply : List ℕ → Digested
-digestReply input = cond (leb (length input) longestInput) (record { number = 0; words = hash input }) (record { number = 6; words = replicate 8 0 })
+abbrev pub digestReply : List ℕ → Hashed
+digestReply input = digestOf input

@@ -1,14 +1,13 @@
 -- Question 1: do the lent tables have the opening's sizes, with counts, hosts, types and classes in range? A call is lent the tables that concern it.
 -- Tables that no accepted opening left, so that a call on them would have no meaning, are answered "no" as well.
-use Prim.Native.Nat.{ℕ, zero, suc, _+_, _-_, _*_}
-use mathlib.Core.Bool.{Bool, true, false, cond, _&&_}
-use mathlib.Core.List.{List, [], _∷_, _++_}
+use Prim.Native.Nat.{ℕ, _+_, _*_}
+use mathlib.Core.Bool.{Bool, true, cond, _&&_}
+use mathlib.Core.List.{List, [], _∷_}
 use lib.Dec.{eqb, leb, ltb}
 use lib.ListN.{length}
 use Rattle.rows.specs.Rows.{allOf}
 use Rattle.rows.specs.Table.{rowsOf}
 use Rattle.delivery.specs.declared.Delivery.{Delivery}
-use Rattle.delivery.specs.Delivery as delivery
 use Rattle.waiting.specs.Waiting as waiting
 use Rattle.waiting.specs.declared.Copy.{Copy}
 use Rattle.rings.specs.Rings as rings
@@ -22,7 +21,7 @@ use Rattle.network.specs.Lists.{every, below, within}
 use Rattle.network.specs.Opening.{Sizes, links, longestWire}
 use Rattle.network.specs.Live.{Carried, Till, ringsOf}
 use Rattle.network.specs.Calls.{Call, Reading, isBlocked, transit, fired, isDown, nextTime, tallyOf, waitingCopies, marksOf, accept, flush, takeDown, bringUp, handlers, block, blockDuring, unblock, install, remove, decide, drain, reading}
-use Rattle.network.specs.Tables.{cell, Tables, setupWidth, sizesAt, settingsAt, netWidth, waitingAt, rulesAt, blocksAt, namesWidth, tillForm, ruleForm, blockForm}
+use Rattle.network.specs.Tables.{cell, Tables, setupWidth, settingsAt, netWidth, waitingAt, rulesAt, blocksAt, namesWidth, tillForm, ruleForm, blockForm}
 use Rattle.network.specs.Limits.{sizeTests, textTests, rangeTests}
 use Rattle.network.specs.Real.{keyWidth, pricesWidth, regionAt}
 

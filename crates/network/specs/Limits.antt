@@ -1,6 +1,6 @@
 -- Questions 2 and 3: the sizes, names, latency, fraction and rates that an opening admits.
 use Prim.Native.Nat.{ℕ}
-use mathlib.Core.Bool.{Bool, _&&_}
+use mathlib.Core.Bool.{Bool}
 use mathlib.Core.List.{List, [], _∷_}
 use lib.Dec.{leb}
 use lib.Ieee.{Float, binary64, ofBits}
@@ -8,7 +8,7 @@ use Rattle.rows.specs.Rows.{allOf}
 use Rattle.geography.specs.Geography.{mostRegions}
 use Rattle.latency.specs.Admitted.{latencyAdmitted, fractionAdmitted, rateAdmitted}
 use Rattle.rows.specs.Lists.{upTo}
-use Rattle.network.specs.Lists.{every, below, unlike}
+use Rattle.network.specs.Lists.{below, unlike}
 use Rattle.network.specs.Opening.{Sizes, Config, Settings, mostTills, mostTypes, longestName, mostClasses, mostShards, longestKey, mostSlots}
 use Rattle.network.specs.Tables.{cell, nameAt, shardAt, textAt}
 

@@ -1,10 +1,9 @@
 -- What of the book the calls go by.
-use Prim.Native.Nat.{ℕ, zero, suc, _+_, _*_}
-use mathlib.Core.Bool.{Bool, true, false, cond, not, _&&_, _||_}
-use mathlib.Core.List.{List, [], _∷_, _++_}
+use Prim.Native.Nat.{ℕ, suc, _*_}
+use mathlib.Core.Bool.{Bool, not, _||_}
+use mathlib.Core.List.{List, [], _∷_}
 use lib.Dec.{eqb}
-use lib.ListN.{length, getD, replicate}
-use Rattle.delivery.specs.declared.Delivery.{Delivery}
+use lib.ListN.{getD, replicate}
 use Rattle.waiting.specs.declared.Copy.{Copy}
 use Rattle.marks.specs.Marks.{found}
 use Rattle.log.specs.Log.{Log, emptyLog}
@@ -14,7 +13,7 @@ use Rattle.rules.specs.declared.FaultRule.{FaultRule}
 use Rattle.blocks.specs.declared.BlockWindow.{BlockWindow}
 use Rattle.blocks.specs.Blocks.{blocked}
 use Rattle.rows.specs.Lists.{upTo}
-use Rattle.network.specs.Lists.{bit, count}
+use Rattle.network.specs.Lists.{count}
 use Rattle.rings.specs.Rings.{scopes}
 use Rattle.network.specs.Opening.{Sizes, links}
 

@@ -1,9 +1,8 @@
 -- The opening: its questions 1, 2, 3 and 5, and the tables that it leaves.
 use Prim.Native.Nat.{ℕ, zero, suc, _+_, _*_}
-use mathlib.Core.Bool.{Bool, true, false, cond, _&&_}
+use mathlib.Core.Bool.{Bool}
 use mathlib.Core.List.{List, [], _∷_, _++_}
-use lib.Dec.{eqb}
-use lib.ListN.{length, drop, replicate}
+use lib.ListN.{drop, replicate}
 use Rattle.rows.specs.Rows.{allOf, flat}
 use Rattle.waiting.specs.Waiting as waiting
 use Rattle.rings.specs.Rings as rings
@@ -11,7 +10,7 @@ use Rattle.log.specs.Log as log
 use Rattle.rules.specs.Rules.{ruleSlots}
 use Rattle.blocks.specs.Blocks.{blockSlots}
 use Rattle.network.specs.Lists.{every, within}
-use Rattle.network.specs.Opening.{Sizes, Settings, links}
+use Rattle.network.specs.Opening.{Settings, links}
 use Rattle.network.specs.Live.{openTills, ringsOf}
 use Rattle.network.specs.Questions.{Asked, ask, firstNo}
 use Rattle.network.specs.Tables.{Tables, setupOf, setupWidth, netWidth, namesWidth, tillForm, ruleForm, blockForm}

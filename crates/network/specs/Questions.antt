@@ -1,7 +1,7 @@
--- Document 01's questions, in order: each call meets those that concern it. Question 1 is asked of the lent tables (`Tables`), 2 and 3 at the opening (`Open`).
-use Prim.Native.Nat.{ℕ, zero, suc, _+_, _*_, max}
-use mathlib.Core.Bool.{Bool, true, false, cond, not, _&&_, _||_}
-use mathlib.Core.List.{List, [], _∷_, _++_}
+-- Document 01's questions, in order: each call meets those that concern it. Question 1 is asked of the lent tables (`Lent`), 2 and 3 at the opening (`Open`).
+use Prim.Native.Nat.{ℕ, _+_, _*_, max}
+use mathlib.Core.Bool.{Bool, true, false, cond, _&&_, _||_}
+use mathlib.Core.List.{List, [], _∷_}
 use lib.Dec.{eqb, leb, ltb}
 use lib.ListN.{length, getD}
 use Rattle.rows.specs.Rows.{allOf}
@@ -11,7 +11,7 @@ use Rattle.blocks.specs.Blocks.{blockSlots}
 use Rattle.network.specs.Lists.{within}
 use Rattle.network.specs.Opening.{Opening, link, global, longestWire, latestNow, mostWords, lastNumber}
 use Rattle.network.specs.Live.{Live, marked, idsAt}
-use Rattle.network.specs.Accept.{Entry, Message, messageOf, selected}
+use Rattle.network.specs.Accept.{Entry, messageOf, selected}
 use Rattle.network.specs.Flush.{due}
 use Rattle.network.specs.Calls.{Call, Reading, isBlocked, transit, fired, isDown, nextTime, tallyOf, waitingCopies, marksOf, accept, flush, takeDown, bringUp, handlers, block, blockDuring, unblock, install, remove, decide, drain, reading}
 

@@ -1,9 +1,9 @@
 -- The draws that an opening has: link streams, latencies, the fault stream and ids, from the crates below.
-use Prim.Native.Nat.{ℕ, zero, suc, _+_, _-_, _*_, _/_, _%_, _^_}
-use mathlib.Core.Bool.{Bool, true, false, cond, not, _&&_, _||_}
+use Prim.Native.Nat.{ℕ, _+_, _*_, _/_, _%_, _^_}
+use mathlib.Core.Bool.{Bool, cond, not, _||_}
 use mathlib.Core.List.{List, [], _∷_, _++_}
 use lib.Dec.{eqb}
-use lib.Ieee.{Float, lt}
+use lib.Ieee.{lt}
 use lib.ListN.{getD, take, drop, replicate}
 use Rattle.rows.specs.Rows.{flat}
 use Rattle.float.specs.Float.{zero64}
@@ -16,7 +16,7 @@ use Rattle.geography.specs.Geography.{atLeastOne, linkWidth, regionOf, pricesOf
 use Rattle.geography.specs.declared.Cost.{Cost}
 use Rattle.decide.specs.Decide.{decideOf}
 use Rattle.rows.specs.Lists.{upTo}
-use Rattle.network.specs.Opening.{Sizes, Config, Plan, Settings, Draw, Draws, Opening, global}
+use Rattle.network.specs.Opening.{Plan, Settings, Draw, Draws, Opening, global}
 use Rattle.network.specs.Limits.{rateOf}
 use Rattle.network.specs.Tables.{Tables, cell, sizesAt, settingsAt, nameAt, shardAt, textAt}
 

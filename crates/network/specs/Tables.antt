@@ -1,14 +1,9 @@
--- The lent tables: their cells by name, what of the book they hold, and question 1.
-use Prim.Native.Nat.{ℕ, zero, suc, _+_, _-_, _*_}
-use mathlib.Core.Bool.{Bool, true, false, cond, not, _&&_, _||_}
-use mathlib.Core.List.{List, [], _∷_, _++_}
-use lib.Dec.{eqb, leb, ltb}
-use lib.ListN.{length, getD, take, drop}
-use Rattle.rows.specs.Rows.{allOf}
+-- The lent tables: their cells by name, and what of the book they hold.
+use Prim.Native.Nat.{ℕ, suc, _+_, _*_}
+use mathlib.Core.List.{List, [], _∷_}
+use lib.ListN.{getD, take, drop}
 use Rattle.rows.specs.Table.{Form, rowsOf}
-use Rattle.delivery.specs.declared.Delivery.{Delivery}
 use Rattle.waiting.specs.Waiting as waiting
-use Rattle.waiting.specs.declared.Copy.{Copy}
 use Rattle.marks.specs.Marks.{idsOf}
 use Rattle.rings.specs.Rings as rings
 use Rattle.log.specs.Log as log
@@ -17,8 +12,7 @@ use Rattle.rules.specs.declared.FaultRule.{FaultRule}
 use Rattle.blocks.specs.Blocks as blocks
 use Rattle.blocks.specs.declared.BlockWindow.{BlockWindow}
 use Rattle.rows.specs.Lists.{upTo}
-use Rattle.network.specs.Lists.{every, within}
-use Rattle.network.specs.Opening.{Sizes, Config, Plan, Settings, longestName, longestKey, mostTypes, mostShards}
+use Rattle.network.specs.Opening.{Sizes, Settings, longestName, longestKey, mostTypes, mostShards}
 use Rattle.network.specs.Live.{Till, Live, ringsOf}
 
 abbrev pub cell : List ℕ → ℕ → ℕ

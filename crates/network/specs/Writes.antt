@@ -1,16 +1,15 @@
 -- What a call writes, table by table; decisions are taken from what the tables hold. THE CONTRACTS of the public calls are `callTables`, `callReply` and `callOutput`.
-use Prim.Native.Nat.{ℕ, zero, suc, _+_, _*_}
-use mathlib.Core.Bool.{Bool, true, false, cond, not, _&&_, _||_}
+use Prim.Native.Nat.{ℕ, zero, suc, _*_}
+use mathlib.Core.Bool.{Bool, true, false, cond, _&&_}
 use mathlib.Core.List.{List, [], _∷_, _++_}
-use lib.Dec.{eqb}
-use lib.ListN.{length, getD, set, drop, replicate}
+use lib.ListN.{length, set, drop}
 use Rattle.shift.specs.Shift.{putWords}
 use Rattle.rows.specs.Rows.{flat}
-use Rattle.rows.specs.Table.{Form, over}
+use Rattle.rows.specs.Table.{over}
 use Rattle.delivery.specs.Delivery as delivery
 use Rattle.delivery.specs.declared.Delivery.{Delivery}
 use Rattle.waiting.specs.Waiting as waiting
-use Rattle.waiting.specs.Waiting.{insertCopy, onTime}
+use Rattle.waiting.specs.Waiting.{insertCopy}
 use Rattle.waiting.specs.declared.Copy.{Copy}
 use Rattle.rules.specs.Rules.{without, installTable, removeTable, fireTable}
 use Rattle.decide.specs.Decide.{Decision}
@@ -26,7 +25,7 @@ use Rattle.network.specs.Flush.{Row, due, later, stops, lands}
 use Rattle.network.specs.Calls as calls
 use Rattle.network.specs.Calls.{Call, Answer, silent, answerOf, accept, flush, takeDown, bringUp, handlers, block, blockDuring, unblock, install, remove, decide, drain, reading, withHandlers}
 use Rattle.network.specs.Questions.{asked, firstNo}
-use Rattle.network.specs.Tables.{cell, Tables, live, tillForm, ruleForm, blockForm, idsStart, sequenceAt, waitingAt, rulesAt, installedAt, faultWordsAt, blocksAt}
+use Rattle.network.specs.Tables.{cell, Tables, live, tillForm, idsStart, sequenceAt, waitingAt, rulesAt, installedAt, faultWordsAt, blocksAt}
 use Rattle.network.specs.Real.{openingAt}
 use Rattle.network.specs.Lent.{question1}
 

@@ -1,26 +1,26 @@
 -- Computed runs, on the tables: document 01's marked lines and tempting errors, which the theorem alone would not see where book and tables err alike.
--- Draws here are toys, so that each run is short: a fraction is a percentage that follows from the word count. `Real` has runs with the real ones.
+-- Draws here are toys, so that each run is short: a fraction is a percentage that follows from the word count. The crate `runs` has runs with the real ones.
 use mathlib.Core.Path.{_≡_, refl}
-use Prim.Native.Nat.{ℕ, zero, suc, _+_, _*_, _%_}
+use Prim.Native.Nat.{ℕ, suc, _+_, _*_, _%_}
 use mathlib.Core.Bool.{Bool, true, false, cond, not}
 use mathlib.Core.List.{List, [], _∷_, _++_, map}
-use lib.Dec.{eqb, leb, ltb}
+use lib.Dec.{eqb, ltb}
 use lib.ListN.{length, replicate}
 use Rattle.waiting.specs.declared.Copy.{Copy}
 use Rattle.rules.specs.declared.FaultRule.{FaultRule}
 use Rattle.rule.specs.declared.Message.{Message}
 use Rattle.rule.specs.Rule.{ruleOf, applies}
 use Rattle.decide.specs.Decide.{Decision}
-use Rattle.network.specs.Opening.{Draw, Draws, Sizes, Settings, Opening, global}
+use Rattle.network.specs.Opening.{Draw, Draws, Settings, Opening, global}
 use Rattle.network.specs.Accept.{Entry, Counts}
 use Rattle.network.specs.Flush.{Row}
 use Rattle.log.specs.Log.{emptyLog}
 use Rattle.network.specs.Questions.{asked, firstNo}
 use Rattle.network.specs.Live.{Live, withWaiting, openingLive}
-use Rattle.network.specs.Calls.{Call, Answer, counted, number, tallied, isBlocked, transit, nextTime, tallyOf, countsIn, rowsIn, deliveredIn, dropsIn, accept, flush, takeDown, bringUp, handlers, block, blockDuring, unblock, install, remove, decide, drain, reading}
+use Rattle.network.specs.Calls.{Call, counted, number, tallied, isBlocked, transit, nextTime, tallyOf, countsIn, rowsIn, deliveredIn, dropsIn, accept, flush, takeDown, bringUp, handlers, block, blockDuring, unblock, install, remove, decide, drain, reading}
 use Rattle.network.specs.Tables.{Tables, live, cell}
 use Rattle.network.specs.Writes.{Reply, tablesBy, replyBy}
 use Rattle.network.specs.Open.{lengthsOf, openNumber, openTables}
 use Rattle.latency.specs.Admitted as admitted
 use lib.Ieee as ieee
 use Rattle.waiting.specs.Waiting as waiting
@@ -39,8 +39,9 @@ use Rattle.digest.specs.Blake3 as digest
 use Rattle.compress.specs.Compress as compress
 use Rattle.word.specs.Word as word
 use Rattle.streams.specs.Link as link
+use Rattle.draw.specs.Fraction as fraction
 use Rattle.network.specs.Real as real
 use Rattle.network.specs.Accept as accepting
 
 abbrev chance : ℕ → ℕ → Draw Bool
 chance rate words = cond (eqb rate 0) (record { value = false; words = words }) (record { value = ltb (words * 37 % 100) rate; words = 2 + words })
@@ -73,11 +74,11 @@ settings waits log = record {
 }
 
 -- names "a" and "b" in a table of zeros
-abbrev names : List ℕ
+abbrev pub names : List ℕ
 names = 1 ∷ 97 ∷ (replicate 63 0 ++ (1 ∷ 98 ∷ replicate 1245 0))
 
 -- tables with something in every cell
-abbrev lent : Settings → Tables
+abbrev pub lent : Settings → Tables
 lent x =
     let n = lengthsOf x in
     record {
@@ -97,7 +98,7 @@ lent x =
     }
 
 -- tills 0 and 1 have the shard
-abbrev masks : List ℕ
+abbrev pub masks : List ℕ
 masks = 1 ∷ 1 ∷ 0 ∷ []
 
 -- the opening with toy draws, and the tables after a list of calls
@@ -123,14 +124,14 @@ reply cs c = replyBy plain (tables plain cs) c
 abbrev held : Opening → List Call → Live
 held o cs = live (small .sizes) (tables o cs)
 
-abbrev five : ℕ → ℕ → ℕ → ℕ → ℕ → Counts
+abbrev pub five : ℕ → ℕ → ℕ → ℕ → ℕ → Counts
 five sent deduplicated partition loss fault = record { sent = sent; deduplicated = deduplicated; partition = partition; loss = loss; fault = fault }
 
 -- one byte on the wire, type 1, class 2
-abbrev entry : ℕ → ℕ → ℕ → ℕ → Entry
+abbrev pub entry : ℕ → ℕ → ℕ → ℕ → Entry
 entry from now scope byte = record { from = from; now = now; kind = 1; class = 2; scope = scope; wire = byte ∷ []; tag = 77 }
 
-abbrev hello : Call
+abbrev pub hello : Call
 hello = accept (entry 0 1000 global 5) true
 
 abbrev counts : Reply → Counts
@@ -242,6 +243,7 @@ pub record Flushes : Type 0 where
   pub sender-gone : rowsTo (reply (hello ∷ takeDown 0 ∷ []) flying) ≡ []
   -- two originals of one id wait at one till: accept, down, up, accept; the flush drop of the first clears the mark that the second set
   pub two-wait : map kindOf (held plain (hello ∷ takeDown 1 ∷ bringUp 1 1 ∷ hello ∷ []) .waiting) ≡ 11 ∷ 21 ∷ 11 ∷ []
+  pub second-unmarked : held plain (hello ∷ takeDown 1 ∷ bringUp 1 1 ∷ accept (entry 0 5000 global 5) true ∷ blockDuring 0 1 1001001 1001002 ∷ flush 1002000 3 ∷ []) .seen ≡ [] ∷ [] ∷ (116005 ∷ []) ∷ []
   -- a host handler takes a global entry, and none for a shard
   pub host-shard : deliveredIn (reply (handlers 1 0 2 ∷ accept (entry 0 1000 0 5) true ∷ []) flying .answer) ≡ 0
   pub host-global : deliveredIn (reply (handlers 1 0 2 ∷ hello ∷ []) flying .answer) ≡ 1
@@ -266,7 +268,15 @@ pub record Crowd : Type 0 where
   pub two-fit : firstNo (asked (big 3) (crowded 3) hello) ≡ 0
   pub three-do-not : firstNo (asked (big 4) (crowded 4) hello) ≡ 11
 
+-- ---- A rate of 0, of either sign, takes no draw; above 0 it takes two words
+
+pub record Rates : Type 0 where
+  pub at-zero : (key : List ℕ) (words : ℕ) → real.chance key 0 words ≡ record { value = false; words = words + 0 }
+  pub at-minus-zero : (key : List ℕ) (words : ℕ) → real.chance key 0x8000000000000000 words ≡ record { value = false; words = words + 0 }
+  pub above-zero : (key : List ℕ) (words : ℕ) → real.chance key 0x3fe0000000000000 words .words ≡ words + 2
+
 pub record Runs : Type 0 where
+  pub rates : Rates
   pub numbers : Numbers
   pub accepts : Accepts
   pub losses : Losses
@@ -275,12 +285,13 @@ pub record Runs : Type 0 where
   pub crowd : Crowd
 
 pub runs : Runs
-unfolding admitted.latencyAdmitted admitted.fractionAdmitted admitted.rateAdmitted ieee.eq ieee.le ieee.ofBits waiting.before marks.halve marks.position ring.slotOf ring.pushSlot ring.pushedAt log.tallyAt log.talliedAt log.notedAt log.pushed log.clearedAt table.over rows.kept shift.putWords shift.closed rules.without rules.readingOf rules.fireAt rules.installNumber rules.installTable rules.indexOf rules.removeTable rules.fireTable rules.putAt blocks.windowOf blocks.joins blocks.stops blocks.blocked blocks.blockTable blocks.openCount blocks.unblockTable blocks.putAt rule.has rule.filterOf rule.windowOf rule.actionOf rule.ruleOf rule.holds rule.passes rule.applies card.leAt card.sizeOf card.placesOf card.fieldOf card.specOf card.exact word.le8 word.le4 real.keysOf link.linkKey link.linkBytes real.pricedBy digest.hash digest.tree chunk.chunk chunk.blocks chunk.parent compress.compressed compress.folded accepting.drawn accepting.offered
+unfolding real.chance fraction.hitsAt fraction.hitWords ieee.lt admitted.latencyAdmitted admitted.fractionAdmitted admitted.rateAdmitted ieee.eq ieee.le ieee.ofBits waiting.before marks.halve marks.position ring.slotOf ring.pushSlot ring.pushedAt log.tallyAt log.talliedAt log.notedAt log.pushed log.clearedAt table.over rows.kept shift.putWords shift.closed rules.without rules.readingOf rules.fireAt rules.installNumber rules.installTable rules.indexOf rules.removeTable rules.fireTable rules.putAt blocks.windowOf blocks.joins blocks.stops blocks.blocked blocks.blockTable blocks.openCount blocks.unblockTable blocks.putAt rule.has rule.filterOf rule.windowOf rule.actionOf rule.ruleOf rule.holds rule.passes rule.applies card.leAt card.sizeOf card.placesOf card.fieldOf card.specOf card.exact word.le8 word.le4 real.keysOf link.linkKey link.linkBytes real.pricedBy digest.hash digest.tree chunk.chunk chunk.blocks chunk.parent compress.compressed compress.folded accepting.drawn accepting.offered
 runs = record {
+  rates = record { at-zero = λ key words. refl; at-minus-zero = λ key words. refl; above-zero = λ key words. refl };
   numbers = record { opens = refl; key-short = refl; never-opened = refl; no-till = refl; no-shard = refl; too-late = refl; no-mark-free = refl; no-row = refl; bad-card = refl; not-opening = refl };
   accepts = record { third-down = refl; third-down-again = refl; sender-down = refl; to-shard = refl; blocked-now = refl; blocked-words = refl; no-loss-draw = refl; in-window = refl; before-window = refl; after-window = refl; fault-unmarked = refl; fault-resent = refl; fired = refl; gone = refl };
   losses = record { lost = refl; lost-words = refl; resent = refl; resent-words = refl };
   echoes = record { kinds = refl; sequences = refl; ids = refl; first-words = refl; second-words = refl; ring = refl; in-transit = refl; log-of-one = refl; forced-out = refl; drained-short = refl; drained-empty = refl };
-  flushes = record { lands = refl; delivered = refl; dropped = refl; mark-gone = refl; sent-again = refl; window-ends = refl; down-in-flight = refl; up-again = refl; unhandled = refl; sender-gone = refl; two-wait = refl; host-shard = refl; host-global = refl; not-due = refl; next = refl; unblock-all = refl; is-blocked = refl; end-open = refl };
+  flushes = record { lands = refl; delivered = refl; dropped = refl; mark-gone = refl; sent-again = refl; window-ends = refl; down-in-flight = refl; up-again = refl; unhandled = refl; sender-gone = refl; two-wait = refl; second-unmarked = refl; host-shard = refl; host-global = refl; not-due = refl; next = refl; unblock-all = refl; is-blocked = refl; end-open = refl };
   crowd = record { two-fit = refl; three-do-not = refl };
 }
