@@ -1,30 +1,28 @@
 -- The ways through the block calls: the ladders of their questions, what a passed ladder says, and the two ways of each call.
 use mathlib.Core.Path.{_≡_, refl, sym, ap, _∙_}
-use mathlib.Core.Bool.{Bool, true, false, cond, _&&_}
+use mathlib.Core.Bool.{Bool, true, false, cond}
 use mathlib.Core.List.{List}
 use Prim.Native.Nat.{ℕ, suc, max, _+_, _*_, _≤_, _<_}
 use native.Mathlib.Omega.{arith}
 use native.Mathlib.Numerals.{add-one}
-use lib.Dec.{leb, ltb}
+use lib.Dec.{ltb}
 use lib.ListN.{length, set}
 use borrow.Author.Tests.{lt-ltb, le-ltb, le-leb, lt-leb}
 use Rattle.rows.proofs.Rows.{length-rows}
 use Rattle.blocks.specs.Blocks.{blockWidth, blockSlots, firstBlock, blocksOf, blocked, always, during, blockNumber, blockTable, openCount, unblockTable}
 use Rattle.blocks.specs.declared.BlockWindow.{BlockWindow}
-use Rattle.blocks.proofs.Held.{block-room}
 use Rattle.network.specs.Lists.{bit}
 use Rattle.network.specs.Opening.{latestNow}
-use Rattle.network.specs.Calls.{Call, block, blockDuring, unblock, reading, isBlocked, number, answerOf}
-use Rattle.network.specs.Tables.{Tables, cell, sizesAt, live, setupWidth, netWidth, blocksAt}
+use Rattle.network.specs.Calls.{Call, block, blockDuring, unblock, reading, isBlocked, number}
+use Rattle.network.specs.Tables.{Tables, cell, sizesAt, setupWidth, netWidth, blocksAt}
 use Rattle.network.specs.Real.{openingAt}
 use Rattle.network.specs.Writes.{callReply, stepT}
 use Rattle.held.specs.Held.{setupHeld, netHeld, blocksHeld}
 use Rattle.held.proofs.Ladder.{yes, no, both, only}
 use Rattle.held.proofs.Passed.{PassedSetup, PassedNet, setup-says, net-says}
 use Rattle.held.proofs.PassedRows.{PassedBlocks, blocks-say}
-use Rattle.reply.specs.declared.Done.{Done}
 use Rattle.reply.specs.declared.Value.{Value}
-use Rattle.reply.specs.Reply.{refusedBy}
+use Rattle.reply.specs.Reply.{refusedBy, answeredBy}
 use Rattle.reply.proofs.Laws as reply
 use Rattle.block_calls.specs.Calls.{lend, Changes, DoesIsBlocked, blocksLent, pairNumber, freeNumber, nowNumber}
 
@@ -176,9 +174,9 @@ module _ (s n b : List ℕ) (from to at r : ℕ) (e : r ≡ pairNumber s n b fro
       let same = e ∙ ask-number T s n b from to at in
       (q ∙ reply.value-refused (lend T s n b) (reading (isBlocked from to at)) r same h, reply.stays (lend T s n b) (reading (isBlocked from to at)) r same h)
 
-  pub ask-done : r ≡ 0 → (k : ℕ) → k ≡ cell n blocksAt → (a t : Bool) → a ≡ blocked from to at (blocksOf b k) → a ≡ t → DoesIsBlocked s n b from to at (record { number = 0; found = 1; value = bit t })
+  pub ask-done : r ≡ 0 → (k : ℕ) → k ≡ cell n blocksAt → (a t : Bool) → a ≡ blocked from to at (blocksOf b k) → a ≡ t → (v : Value) → v ≡ answeredBy (bit t) → DoesIsBlocked s n b from to at v
   unfolding DoesIsBlocked
-  ask-done h k k-is a t p q = λ T.
+  ask-done h k k-is a t p q v v-is = λ T.
       let same = e ∙ ask-number T s n b from to at in
       let here : blocked from to at (blocksOf b (cell n blocksAt)) ≡ t = ap (λ (j : ℕ). blocked from to at (blocksOf b j)) (sym k-is) ∙ sym p ∙ q in
-      (reply.value (lend T s n b) (reading (isBlocked from to at)) r same h 1 (bit t) (ap (λ (x : Bool). number 1 (bit x)) here), reply.steps (lend T s n b) (reading (isBlocked from to at)) r same h)
+      (v-is ∙ reply.value (lend T s n b) (reading (isBlocked from to at)) r same h 1 (bit t) (ap (λ (x : Bool). number 1 (bit x)) here), reply.steps (lend T s n b) (reading (isBlocked from to at)) r same h)

@@ -125,15 +125,7 @@ pub fn is_blocked(setup: &[u64], net: &[u64], blocks: &[u64], from: u64, to: u64
     }
     let n = net[held::BLOCKS];
     if blocks::is_blocked(blocks, n as usize, from, to, at) {
-        return Value {
-            number: 0,
-            found: 1,
-            value: 1,
-        };
+        return reply::answered(1);
     }
-    Value {
-        number: 0,
-        found: 1,
-        value: 0,
-    }
+    reply::answered(0)
 }

@@ -5,7 +5,7 @@ use Prim.Native.Nat.{ℕ, zero, suc}
 use Rattle.network.specs.Calls.{Call, Answer, silent, number, answerOf}
 use Rattle.network.specs.Tables.{Tables, live, sizesAt}
 use Rattle.network.specs.Real.{openingAt}
-use Rattle.network.specs.Writes.{Reply, isNumber, exitT, answerT, stepT, callTables, callReply}
+use Rattle.network.specs.Writes.{isNumber, exitT, answerT, stepT, callTables, callReply}
 use Rattle.reply.specs.declared.Done.{Done}
 use Rattle.reply.specs.declared.Value.{Value}
 use Rattle.reply.specs.Reply.{doneOf, valueOf, refusedBy}

@@ -33,5 +33,9 @@ doneOf q = record { number = q .number }
 abbrev pub valueOf : Reply → Value
 valueOf q = record { number = q .number; found = foundIn (q .answer); value = valueIn (q .answer) }
 
+-- a refusal, and an answer that there is
 abbrev pub refusedBy : ℕ → Value
 refusedBy n = record { number = n; found = 0; value = 0 }
+
+abbrev pub answeredBy : ℕ → Value
+answeredBy v = record { number = 0; found = 1; value = v }

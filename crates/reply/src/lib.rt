@@ -1,6 +1,6 @@
 // The replies of the calls that answer at most one number: first the number of the question that refused the call, 0 where none did.
 ghost use mathlib.Core.Path.{_≡_};
-ghost use Rattle.reply.specs.Reply.{refusedBy};
+ghost use Rattle.reply.specs.Reply.{refusedBy, answeredBy};
 
 #[repr(C)]
 pub struct Done {
@@ -22,5 +22,15 @@ pub fn refused(number: u64) -> Value
         number,
         found: 0,
         value: 0,
+    }
+}
+
+pub fn answered(value: u64) -> Value
+    ensures { λ r. ⌜ r ≡ answeredBy value ⌝ }
+{
+    Value {
+        number: 0,
+        found: 1,
+        value,
     }
 }

@@ -4,39 +4,33 @@ use Rattle.block_calls.proofs.Laws.{passed, ask-refused, ask-done}
 use borrow.Author.Needs.{needs}
 use Rattle.block_calls.proofs.is_blocked.Statement.{statement}
 use Rattle.block_calls.proofs.is_blocked.Tie as tie
-use Rattle.block_calls.proofs.is_blocked.Reads as reads
-use Rattle.block_calls.proofs.is_blocked.Lts as lts
-use Rattle.block_calls.proofs.time_refusal.Reads as time-refusal-reads
-use Rattle.blocks.proofs.is_blocked.Reads as is-blocked-reads
-use Rattle.reply.proofs.refused.Reads as refused-reads
 
--- src/lib.rt:136:9
 time-refusal-requires : tie.Need-time-refusal-requires
 time-refusal-requires c κs = search needs
 
--- src/lib.rt:138:9
 refused-requires : tie.Need-refused-requires
 refused-requires c κs = search needs
 
--- src/lib.rt:138:9
 returns : tie.Need-returns
 returns c = ask-refused (c .before .before .before .before .before .before .args .setup .now) (c .before .before .before .before .before .before .args .net .now) (c .before .before .before .before .before .before .args .blocks .now) (c .before .before .before .before .before .before .args .from) (c .before .before .before .before .before .before .args .to) (c .before .before .before .before .before .before .args .at) _ (c .before .before .time-refusal .ensures) _ (c .refused .ensures) (c .before .if1 .taken)
 
--- src/lib.rt:140:13
 shared-slice-read-n : tie.Need-shared-slice-read-n
 shared-slice-read-n c = let p = passed _ _ _ _ _ _ (sym (c .before .before .time-refusal .ensures) ∙ c .before .if1 .left) .0 in omega (arith, p .net)
 
--- src/lib.rt:141:8
 is-blocked-requires : tie.Need-is-blocked-requires
 is-blocked-requires c κs = let p = passed _ _ _ _ _ _ (sym (c .before .before .time-refusal .ensures) ∙ c .before .if1 .left) .0 in omega (arith, p .blocks, p .count)
 
--- src/lib.rt:142:9
-returns-2 : tie.Need-returns-2
-returns-2 c = ask-done (c .before .before .before .before .before .before .before .before .args .setup .now) (c .before .before .before .before .before .before .before .before .args .net .now) (c .before .before .before .before .before .before .before .before .args .blocks .now) (c .before .before .before .before .before .before .before .before .args .from) (c .before .before .before .before .before .before .before .before .args .to) (c .before .before .before .before .before .before .before .before .args .at) _ (c .before .before .before .before .time-refusal .ensures) (c .before .before .before .if1 .left) _ refl _ _ (c .before .is-blocked .ensures) (c .if2 .taken)
+answered-requires : tie.Need-answered-requires
+answered-requires c κs = search needs
 
--- src/lib.rt:126:1
+returns-2 : tie.Need-returns-2
+returns-2 c = ask-done (c .before .before .before .before .before .before .before .before .before .args .setup .now) (c .before .before .before .before .before .before .before .before .before .args .net .now) (c .before .before .before .before .before .before .before .before .before .args .blocks .now) (c .before .before .before .before .before .before .before .before .before .args .from) (c .before .before .before .before .before .before .before .before .before .args .to) (c .before .before .before .before .before .before .before .before .before .args .at) _ (c .before .before .before .before .before .time-refusal .ensures) (c .before .before .before .before .if1 .left) _ refl _ _ (c .before .before .is-blocked .ensures) (c .before .if2 .taken) _ (c .answered .ensures)
+
+answered-requires-2 : tie.Need-answered-requires-2
+answered-requires-2 c κs = search needs
+
 returns-3 : tie.Need-returns-3
-returns-3 c = ask-done (c .before .before .before .before .before .before .before .before .args .setup .now) (c .before .before .before .before .before .before .before .before .args .net .now) (c .before .before .before .before .before .before .before .before .args .blocks .now) (c .before .before .before .before .before .before .before .before .args .from) (c .before .before .before .before .before .before .before .before .args .to) (c .before .before .before .before .before .before .before .before .args .at) _ (c .before .before .before .before .time-refusal .ensures) (c .before .before .before .if1 .left) _ refl _ _ (c .before .is-blocked .ensures) (c .if2 .left)
+returns-3 c = ask-done (c .before .before .before .before .before .before .before .before .before .args .setup .now) (c .before .before .before .before .before .before .before .before .before .args .net .now) (c .before .before .before .before .before .before .before .before .before .args .blocks .now) (c .before .before .before .before .before .before .before .before .before .args .from) (c .before .before .before .before .before .before .before .before .before .args .to) (c .before .before .before .before .before .before .before .before .before .args .at) _ (c .before .before .before .before .before .time-refusal .ensures) (c .before .before .before .before .if1 .left) _ refl _ _ (c .before .before .is-blocked .ensures) (c .before .if2 .left) _ (c .answered2 .ensures)
 
 pub is-blocked-spec : {M : Type 1} → statement M
 is-blocked-spec =
@@ -47,5 +41,7 @@ is-blocked-spec =
     returns
     shared-slice-read-n
     is-blocked-requires
+    answered-requires
     returns-2
+    answered-requires-2
     returns-3)

@@ -1,0 +1,163 @@
+// Draws by an opening's settings: where a link's stream and the fault stream stand, a rate's hit, an index, and a latency.
+ghost use mathlib.Core.Path.{_≡_};
+ghost use Prim.Native.Nat.{_+_, _*_, _^_, _%_, _<_, _≤_};
+ghost use lib.ListN.{length, take, drop};
+ghost use Rattle.streams.specs.Streams.{Holds};
+ghost use Rattle.geography.specs.Geography.{Stands, atLeastOne, mostRegions};
+ghost use Rattle.network.specs.Opening.{mostTills, longestWire};
+ghost use Rattle.network.specs.Tables.{cell, setupWidth, settingsAt, keyAt};
+ghost use Rattle.network.specs.Limits.{rateOf};
+ghost use Rattle.network.specs.Real.{keyWidth, keyOf, faultKeyOf, regionAt, costAt};
+ghost use Rattle.link_draws.specs.Drawing.{Priced, Sent, Struck, Picked, Delayed};
+use draw::Hit;
+use geography::Cost;
+use latency::Sample;
+use streams::Cursor;
+use streams::Drawn32;
+use time::Time;
+
+// Cells of `setup`.
+const LATENCY: usize = 7;
+
+const JITTER: usize = 8;
+
+const SPIKE: usize = 12;
+
+const PLANNED: usize = 13;
+
+const REGIONS: usize = 14;
+
+const KEY: usize = 17;
+
+fn low(x: u64) -> u32
+    ensures { λ r. ⌜ r ≡ x % 2 ^ 32 ⌝ }
+{
+    (x % 4294967296) as u32
+}
+
+// The rate that is kept in cell i.
+pub fn rate(setup: &[u64], i: usize) -> f64
+    requires { ⌜ i < length (now setup) ⌝ }
+    ensures { λ r. ⌜ r ≡ rateOf (cell (now (setup .entry)) i) ⌝ }
+{
+    float::of_any(setup[i])
+}
+
+// The key whose words start at b.
+fn key_at(keys: &[u32], b: usize) -> [u32; 8]
+    requires { ⌜ b + keyWidth ≤ length (now keys) ⌝ }
+    ensures { λ r. ⌜ r ≡ take keyWidth (drop b (now (keys .entry))) ⌝ }
+{
+    [
+        keys[b],
+        keys[b + 1],
+        keys[b + 2],
+        keys[b + 3],
+        keys[b + 4],
+        keys[b + 5],
+        keys[b + 6],
+        keys[b + 7],
+    ]
+}
+
+fn fault_key(setup: &[u64]) -> [u32; 8]
+    requires { ⌜ length (now setup) ≡ setupWidth ⌝ }
+    ensures { λ r. ⌜ r ≡ faultKeyOf (settingsAt (now (setup .entry)) .faultKey) ⌝ }
+{
+    [
+        low(setup[KEY]),
+        low(setup[KEY + 1]),
+        low(setup[KEY + 2]),
+        low(setup[KEY + 3]),
+        low(setup[KEY + 4]),
+        low(setup[KEY + 5]),
+        low(setup[KEY + 6]),
+        low(setup[KEY + 7]),
+    ]
+}
+
+// The link's stream at a word count.
+pub fn link_at(keys: &[u32], tills: usize, from: usize, to: usize, count: u64) -> Cursor
+    requires { ⌜ («from» < tills) × (to < tills) × (tills ≤ mostTills) × (length (now keys) ≡ tills * tills * keyWidth) ⌝ }
+    ensures { λ r. ⌜ Stands (keyOf tills (now (keys .entry)) «from» to) count r ⌝ }
+{
+    let key = key_at(keys, (from * tills + to) * 8);
+    streams::at(key, count)
+}
+
+// The fault stream at a word count.
+pub fn fault_at(setup: &[u64], count: u64) -> Cursor
+    requires { ⌜ length (now setup) ≡ setupWidth ⌝ }
+    ensures { λ r. ⌜ Stands (faultKeyOf (settingsAt (now (setup .entry)) .faultKey)) count r ⌝ }
+{
+    let key = fault_key(setup);
+    streams::at(key, count)
+}
+
+// A draw for the rate in cell i, made only where it is above 0.
+pub fn chance(setup: &[u64], i: usize, c: Cursor) -> Hit
+    requires { ⌜ (i < length (now setup)) × (c .count + 1 < 2 ^ 63) × Holds c ⌝ }
+    ensures { λ r. ⌜ Struck (cell (now (setup .entry)) i) c r ⌝ }
+{
+    draw::hits(c, rate(setup, i))
+}
+
+// A ring index below n.
+pub fn index(c: Cursor, n: u32) -> Drawn32
+    requires { ⌜ (0 < n) × (c .count + 1 < 2 ^ 63) × Holds c ⌝ }
+    ensures { λ r. ⌜ Picked n c r ⌝ }
+{
+    draw::whole32(c, n)
+}
+
+fn at_least_one(n: u64) -> u64
+    ensures { λ r. ⌜ r ≡ atLeastOne n ⌝ }
+{
+    if n == 0 {
+        return 1;
+    }
+    n
+}
+
+// The region that a till sits in; 0 without a plan.
+fn region(setup: &[u64], prices: &[u64], t: usize) -> u64
+    requires { ⌜ Priced (now setup) (now prices) × (t < mostTills) ⌝ }
+    ensures { λ r. ⌜ r ≡ regionAt (settingsAt (now (setup .entry)) .plan) (now (prices .entry)) t ⌝ }
+{
+    let n = at_least_one(setup[REGIONS]);
+    let i = (2 * (n * n)) as usize + t;
+    if i < prices.len() {
+        return prices[i];
+    }
+    0
+}
+
+// Base and time on the wire between two tills.
+fn cost(setup: &[u64], prices: &[u64], from: usize, to: usize, bytes: u64) -> Cost
+    requires { ⌜ Sent (now setup) (now prices) «from» to bytes ⌝ }
+    ensures { λ r. ⌜ r ≡ costAt (settingsAt (now (setup .entry))) (now (prices .entry)) «from» to bytes ⌝ }
+{
+    let a = region(setup, prices, from);
+    let b = region(setup, prices, to);
+    let latency = Time::from_nanos(setup[LATENCY]);
+    geography::cost_between(
+        prices,
+        setup[PLANNED] != 0,
+        setup[REGIONS],
+        a,
+        b,
+        latency,
+        bytes,
+    )
+}
+
+// The latency of so many bytes between two tills.
+pub fn delay(setup: &[u64], prices: &[u64], from: usize, to: usize, bytes: u64, c: Cursor) -> Sample
+    requires { ⌜ Sent (now setup) (now prices) «from» to bytes × (c .count + 5 < 2 ^ 63) × Holds c ⌝ }
+    ensures { λ r. ⌜ Delayed (settingsAt (now (setup .entry))) (now (prices .entry)) «from» to bytes c r ⌝ }
+{
+    let k = cost(setup, prices, from, to, bytes);
+    let base = k.base;
+    let wire = k.transmission;
+    latency::sample_latency(c, base, rate(setup, JITTER), rate(setup, SPIKE), wire)
+}
