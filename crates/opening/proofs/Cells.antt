@@ -10,7 +10,6 @@ use lib.ListN.{length, getD, take, drop, set, replicate, length-append, length-t
 use lib.Seq.{take-all, take-at, drop-at}
 use borrow.Author.Tests.{eq-eqb, ne-eqb}
 use Rattle.word.specs.Word.{leWord}
-use Rattle.rows.specs.Rows.{flat}
 use Rattle.rows.specs.Lists.{upTo}
 use Rattle.rows.proofs.Lists.{length-upTo}
 use Rattle.shift.specs.Shift.{putWords}
@@ -18,11 +17,11 @@ use Rattle.shift.proofs.Laws.{stores, stored}
 use Rattle.shift.proofs.Blocks.{cells-at}
 use Rattle.log.specs.Log as log
 use Rattle.streams.specs.Link.{linkKey}
-use Rattle.geography.specs.Geography.{atLeastOne, linkWidth, regionOf, pricesOf}
+use Rattle.geography.specs.Geography.{regionOf, pricesOf}
 use Rattle.geography.proofs.Prices.{length-prices}
-use Rattle.network.specs.Opening.{Plan, Settings}
+use Rattle.network.specs.Opening.{Settings}
 use Rattle.network.specs.Lists.{every}
-use Rattle.network.specs.Limits.{rateOf, rangeTests}
+use Rattle.network.specs.Limits.{rangeTests}
 use Rattle.network.specs.Tables.{setupOf}
 use Rattle.network.specs.Real.{keyWidth, keysOf, pairCells, pricesWidth, pricedBy}
 use Rattle.network.proofs.Opened.{length-hash}

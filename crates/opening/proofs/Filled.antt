@@ -8,7 +8,6 @@ use lib.ListN.{length, getD, take, drop, set, replicate, length-append, length-t
 use lib.Seq.{drop-cons, set-at, append-snoc, take-suc, take-all, take-at, drop-append-add, drop-drop}
 use Rattle.rows.specs.Rows.{flat}
 use Rattle.rows.specs.Lists.{upTo}
-use Rattle.rows.proofs.Lists.{length-upTo}
 use Rattle.shift.specs.Shift.{putWords}
 
 -- one cell more: a stands in front of what was there

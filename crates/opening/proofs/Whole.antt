@@ -1,21 +1,16 @@
 -- The whole opening: refused, or every table as the network's definitions say. Assumes nothing.
 use mathlib.Core.Path.{_≡_, refl, sym, ap, _∙_}
-use mathlib.Core.List.{List, _++_}
-use Prim.Native.Nat.{ℕ, zero, suc, _+_, _*_, _≤_}
-use native.Mathlib.Nat.{mul-le-mul-left}
+use mathlib.Core.List.{List}
+use Prim.Native.Nat.{ℕ, zero, suc}
 use native.Mathlib.Omega.{arith}
-use lib.ListN.{length, drop, replicate}
+use lib.ListN.{length, replicate}
 use borrow.Author.Tests.{eq-eqb, eqb-true, eqb-false}
 use lib.Dec.{eqb}
 use mathlib.Core.Bool.{Bool, true, false, false≢true}
-use Rattle.rows.specs.Rows.{flat}
-use Rattle.rings.specs.Rings as rings
-use Rattle.log.specs.Log as log
 use Rattle.network.specs.Opening.{Settings, links}
-use Rattle.network.specs.Live.{openTills, ringsOf}
-use Rattle.network.specs.Tables.{Tables, setupOf, netWidth, tillForm}
+use Rattle.network.specs.Tables.{Tables, setupOf}
 use Rattle.network.specs.Real.{keyWidth, keysOf, pricedBy}
-use Rattle.network.specs.Open.{lengthsOf, openNumber, openTables, openExit, openCall}
+use Rattle.network.specs.Open.{openNumber, openExit}
 use Rattle.opening_tests.specs.declared.NetworkConfig.{NetworkConfig}
 use Rattle.opening_tests.specs.declared.NetworkSizes.{NetworkSizes}
 use Rattle.opening_tests.specs.declared.RegionPlan.{RegionPlan}
@@ -24,7 +19,6 @@ use Rattle.opening_tests.specs.Given.{settingsOf, keyWords, keyBytes}
 use Rattle.opening_tests.specs.Asked.{numberOf}
 use Rattle.opening_tests.proofs.Number.{Passed, passed, lengthsIn, number-is}
 use Rattle.opening_tests.proofs.Sums.{key-other}
-use Rattle.opening.specs.declared.Opened.{Opened}
 use Rattle.opening.specs.Opens.{tables, openedOf, Does, Settled, Begun, begunNet, begunTills, begunSeen, begunRings, begunLog}
 
 -- the questions do not ask the seed

@@ -1,15 +1,12 @@
 -- What an opening that passes its questions says of sizes, tables and rates; and the number by lengths is the network's. Assumes nothing.
-use mathlib.Core.Path.{_≡_, refl, sym, ap, _∙_}
-use mathlib.Core.Bool.{Bool, true, false}
-use mathlib.Core.List.{List, [], _∷_}
+use mathlib.Core.Path.{_≡_, refl}
+use mathlib.Core.Bool.{true}
+use mathlib.Core.List.{List}
 use Prim.Native.Nat.{ℕ, _≤_}
-use native.Mathlib.Omega.{arith}
-use lib.Dec.{eqb, leb}
 use lib.ListN.{length}
 use borrow.Author.Tests.{eqb-true, leb-true}
-use Rattle.rows.specs.Rows.{allOf}
 use Rattle.geography.specs.Geography.{mostRegions}
-use Rattle.network.specs.Lists.{every, within}
+use Rattle.network.specs.Lists.{every}
 use Rattle.network.specs.Opening.{Settings, mostTills, mostTypes, mostClasses, mostShards, mostSlots}
 use Rattle.network.specs.Tables.{Tables}
 use Rattle.network.specs.Limits.{sizeTests, rangeTests}

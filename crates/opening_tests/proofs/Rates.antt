@@ -3,7 +3,7 @@ use mathlib.Core.Path.{_≡_, refl, sym, ap, _∙_}
 use mathlib.Core.Bool.{Bool, true, false, false≢true}
 use Prim.Native.Nat.{ℕ}
 use lib.Dec.{T}
-use lib.Ieee.{Float, nan, inf, fin, binary64, fits, isNan, le, eq, ofBits, toBits}
+use lib.Ieee.{Float, nan, inf, fin, binary64, fits, isNan, le, eq}
 use lib.Ieee.Bits.{ofBits-toBits}
 use Rattle.latency.specs.Admitted.{fractionAdmitted, rateAdmitted}
 use Rattle.network.specs.Limits.{rateOf}

@@ -1,53 +1,35 @@
-use Prim.Native.Nat.{ℕ, _+_, _*_, _-_, _/_, _%_, _^_, _≤_, _<_}
-use mathlib.Core.Path.{_≡_, refl, sym, ap, subst, _∙_}
-use mathlib.Core.List.{List, [], _∷_, _++_}
-use native.Mathlib.Omega.{arith}
+use Prim.Native.Nat.{_-_}
+use mathlib.Core.Path.{_∙_}
 use borrow.Author.Needs.{needs}
-use lib.ListN.{length, take, drop, replicate, length-set}
 use Rattle.opening_tests.specs.Given.{settingsOf}
 use Rattle.opening.proofs.Cells.{keys-of, priced-by}
 use Rattle.opening.proofs.write_settled.Statement.{statement}
 use Rattle.opening.proofs.write_settled.Tie as tie
-use Rattle.opening.proofs.write_settled.Reads as reads
-use Rattle.opening.proofs.write_settled.Lts as lts
-use Rattle.opening.proofs.fill.clear_words.Reads as clear-words-reads
-use Rattle.opening.proofs.links.write_keys.Reads as write-keys-reads
-use Rattle.opening.proofs.prices.write_prices.Reads as write-prices-reads
-use Rattle.opening.proofs.settings.write_setup.Reads as write-setup-reads
 
--- src/lib.rt:40:5
 write-setup-requires : tie.Need-write-setup-requires
 write-setup-requires c κs = (c .before .before .before .before .before .before .pre .rates, c .before .before .before .before .before .before .pre .key-long, c .before .before .before .before .before .before .pre .setup-long)
 
--- src/lib.rt:41:5
 clear-words-requires : tie.Need-clear-words-requires
 clear-words-requires c κs = c .before .before .before .before .before .before .before .before .before .before .pre .words-long
 
--- src/lib.rt:42:5
 write-keys-requires : tie.Need-write-keys-requires
 write-keys-requires c κs = (c .before .before .before .before .before .before .before .before .before .before .before .before .before .before .pre .tills, c .before .before .before .before .before .before .before .before .before .before .before .before .before .before .pre .keys-long)
 
--- src/lib.rt:43:5
 write-prices-requires : tie.Need-write-prices-requires
 write-prices-requires c κs = (c .before .before .before .before .before .before .before .before .before .before .before .before .before .before .before .before .before .before .pre .tills, c .before .before .before .before .before .before .before .before .before .before .before .before .before .before .before .before .before .before .pre .regions, c .before .before .before .before .before .before .before .before .before .before .before .before .before .before .before .before .before .before .pre .prices-long)
 
--- src/lib.rt:26:1
 same-length : tie.Need-same-length
 same-length c = search needs
 
--- src/lib.rt:26:1
 same-length-2 : tie.Need-same-length-2
 same-length-2 c = search needs
 
--- src/lib.rt:26:1
 same-length-3 : tie.Need-same-length-3
 same-length-3 c = search needs
 
--- src/lib.rt:26:1
 same-length-4 : tie.Need-same-length-4
 same-length-4 c = search needs
 
--- src/lib.rt:26:1
 returns : tie.Need-returns
 returns c = (c .before .before .before .before .before .before .before .before .before .before .before .before .before .before .write-setup .ensures, c .before .before .before .before .before .before .before .before .before .before .clear-words .ensures, c .before .before .before .before .before .before .write-keys .ensures ∙ keys-of (settingsOf (c .before .before .before .before .before .before .before .before .before .before .before .before .before .before .before .before .before .before .before .before .before .args .config) (c .before .before .before .before .before .before .before .before .before .before .before .before .before .before .before .before .before .before .before .before .before .args .sizes) (c .before .before .before .before .before .before .before .before .before .before .before .before .before .before .before .before .before .before .before .before .before .args .plan) (c .before .before .before .before .before .before .before .before .before .before .before .before .before .before .before .before .before .before .before .before .before .args .seed) (c .before .before .before .before .before .before .before .before .before .before .before .before .before .before .before .before .before .before .before .before .before .args .key .now)), c .before .before .write-prices .ensures ∙ priced-by (settingsOf (c .before .before .before .before .before .before .before .before .before .before .before .before .before .before .before .before .before .before .before .before .before .args .config) (c .before .before .before .before .before .before .before .before .before .before .before .before .before .before .before .before .before .before .before .before .before .args .sizes) (c .before .before .before .before .before .before .before .before .before .before .before .before .before .before .before .before .before .before .before .before .before .args .plan) (c .before .before .before .before .before .before .before .before .before .before .before .before .before .before .before .before .before .before .before .before .before .args .seed) (c .before .before .before .before .before .before .before .before .before .before .before .before .before .before .before .before .before .before .before .before .before .args .key .now)))
 

@@ -1,60 +1,43 @@
-use Rattle.held.proofs.Ladder.{on, off, last, is-no, is-yes}
-use borrow.Author.Tests.{eq-eqb, ne-eqb, le-leb, lt-leb, not-true, not-false}
+use Rattle.held.proofs.Ladder.{on, off, last}
+use borrow.Author.Tests.{not-true, not-false}
 use mathlib.Core.Path.{sym, _∙_}
 use borrow.Author.Needs.{needs}
 use Rattle.opening_tests.proofs.config_admitted.Statement.{statement}
 use Rattle.opening_tests.proofs.config_admitted.Tie as tie
-use Rattle.opening_tests.proofs.config_admitted.Reads as reads
-use Rattle.opening_tests.proofs.config_admitted.Lts as lts
-use Rattle.opening_tests.proofs.fraction_in_range.Reads as fraction-in-range-reads
-use Rattle.opening_tests.proofs.latency_in_range.Reads as latency-in-range-reads
-use Rattle.opening_tests.proofs.rate_in_range.Reads as rate-in-range-reads
 
--- src/lib.rt:92:9
 latency-in-range-requires : tie.Need-latency-in-range-requires
 latency-in-range-requires c κs = search needs
 
--- src/lib.rt:93:9
 returns : tie.Need-returns
 returns c = off _ _ (sym (c .before .latency-in-range .ensures) ∙ not-true _ (c .if1 .taken))
 
--- src/lib.rt:95:9
 fraction-in-range-requires : tie.Need-fraction-in-range-requires
 fraction-in-range-requires c κs = search needs
 
--- src/lib.rt:96:9
 returns-2 : tie.Need-returns-2
 returns-2 c = on _ _ _ (sym (c .before .before .before .latency-in-range .ensures) ∙ not-false _ (c .before .before .if1 .left)) (off _ _ (sym (c .before .fraction-in-range .ensures) ∙ not-true _ (c .if2 .taken)))
 
--- src/lib.rt:98:9
 rate-in-range-requires : tie.Need-rate-in-range-requires
 rate-in-range-requires c κs = search needs
 
--- src/lib.rt:99:9
 returns-3 : tie.Need-returns-3
 returns-3 c = on _ _ _ (sym (c .before .before .before .before .before .latency-in-range .ensures) ∙ not-false _ (c .before .before .before .before .if1 .left)) (on _ _ _ (sym (c .before .before .before .fraction-in-range .ensures) ∙ not-false _ (c .before .before .if2 .left)) (off _ _ (sym (c .before .rate-in-range .ensures) ∙ not-true _ (c .if3 .taken))))
 
--- src/lib.rt:101:9
 rate-in-range-requires-2 : tie.Need-rate-in-range-requires-2
 rate-in-range-requires-2 c κs = search needs
 
--- src/lib.rt:102:9
 returns-4 : tie.Need-returns-4
 returns-4 c = on _ _ _ (sym (c .before .before .before .before .before .before .before .latency-in-range .ensures) ∙ not-false _ (c .before .before .before .before .before .before .if1 .left)) (on _ _ _ (sym (c .before .before .before .before .before .fraction-in-range .ensures) ∙ not-false _ (c .before .before .before .before .if2 .left)) (on _ _ _ (sym (c .before .before .before .rate-in-range .ensures) ∙ not-false _ (c .before .before .if3 .left)) (off _ _ (sym (c .before .rate-in-range2 .ensures) ∙ not-true _ (c .if4 .taken)))))
 
--- src/lib.rt:104:9
 rate-in-range-requires-3 : tie.Need-rate-in-range-requires-3
 rate-in-range-requires-3 c κs = search needs
 
--- src/lib.rt:105:9
 returns-5 : tie.Need-returns-5
 returns-5 c = on _ _ _ (sym (c .before .before .before .before .before .before .before .before .before .latency-in-range .ensures) ∙ not-false _ (c .before .before .before .before .before .before .before .before .if1 .left)) (on _ _ _ (sym (c .before .before .before .before .before .before .before .fraction-in-range .ensures) ∙ not-false _ (c .before .before .before .before .before .before .if2 .left)) (on _ _ _ (sym (c .before .before .before .before .before .rate-in-range .ensures) ∙ not-false _ (c .before .before .before .before .if3 .left)) (on _ _ _ (sym (c .before .before .before .rate-in-range2 .ensures) ∙ not-false _ (c .before .before .if4 .left)) (off _ _ (sym (c .before .rate-in-range3 .ensures) ∙ not-true _ (c .if5 .taken))))))
 
--- src/lib.rt:107:5
 rate-in-range-requires-4 : tie.Need-rate-in-range-requires-4
 rate-in-range-requires-4 c κs = search needs
 
--- src/lib.rt:89:1
 returns-6 : tie.Need-returns-6
 returns-6 c = on _ _ _ (sym (c .before .before .before .before .before .before .before .before .before .before .latency-in-range .ensures) ∙ not-false _ (c .before .before .before .before .before .before .before .before .before .if1 .left)) (on _ _ _ (sym (c .before .before .before .before .before .before .before .before .fraction-in-range .ensures) ∙ not-false _ (c .before .before .before .before .before .before .before .if2 .left)) (on _ _ _ (sym (c .before .before .before .before .before .before .rate-in-range .ensures) ∙ not-false _ (c .before .before .before .before .before .if3 .left)) (on _ _ _ (sym (c .before .before .before .before .rate-in-range2 .ensures) ∙ not-false _ (c .before .before .before .if4 .left)) (on _ _ _ (sym (c .before .before .rate-in-range3 .ensures) ∙ not-false _ (c .before .if5 .left)) (last _ _ (c .rate-in-range4 .ensures))))))
 

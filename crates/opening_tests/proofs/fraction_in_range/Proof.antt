@@ -5,15 +5,10 @@ use lib.Dec.{T}
 use borrow.Author.Needs.{needs}
 use Rattle.opening_tests.proofs.fraction_in_range.Statement.{statement}
 use Rattle.opening_tests.proofs.fraction_in_range.Tie as tie
-use Rattle.opening_tests.proofs.fraction_in_range.Reads as reads
-use Rattle.opening_tests.proofs.fraction_in_range.Lts as lts
-use Rattle.latency.proofs.fraction_admitted.Reads as fraction-admitted-reads
 
--- src/lib.rt:78:5
 fraction-admitted-requires : tie.Need-fraction-admitted-requires
 fraction-admitted-requires c κs = search needs
 
--- src/lib.rt:75:1
 returns : tie.Need-returns
 returns c = sym (asked fractionAdmitted _ _ _ (subst T (sym (c .before .good .0 .1)) tt) (c .fraction-admitted .ensures) refl)
 

@@ -1,17 +1,14 @@
-use Prim.Native.Nat.{ℕ, _+_, _*_, _-_, _^_, _≤_, _<_}
-use mathlib.Core.Path.{_≡_, refl, sym, ap, _∙_}
+use Prim.Native.Nat.{_-_, _^_, _≤_}
+use mathlib.Core.Path.{_≡_, refl}
 use native.Mathlib.Omega.{arith}
 use borrow.Author.Needs.{needs}
 use lib.ListN.{length, drop}
-use mathlib.Core.List.{List}
 use Rattle.rows.specs.Rows.{allOf}
 use Rattle.network.specs.Lists.{within}
 use Rattle.opening_tests.proofs.Scans.{all-next, all-stop, all-end}
 use Rattle.opening_tests.proofs.Masks.{beyond, inside, power}
 use Rattle.opening_tests.proofs.masks_admitted.Statement.{statement}
 use Rattle.opening_tests.proofs.masks_admitted.Tie as tie
-use Rattle.opening_tests.proofs.masks_admitted.Reads as reads
-use Rattle.opening_tests.proofs.masks_admitted.Lts as lts
 
 abbrev Inv-loop : tie.InvT-loop
 Inv-loop masks shards limit i₀ i = (i ≤ length masks) × (limit ≡ 2 ^ shards) × (allOf (λ m. within m shards) masks ≡ allOf (λ m. within m shards) (drop i masks))
@@ -19,39 +16,30 @@ Inv-loop masks shards limit i₀ i = (i ≤ length masks) × (limit ≡ 2 ^ shar
 abbrev μ-loop : tie.MeasureT-loop
 μ-loop masks shards limit i₀ i = length masks - i
 
--- src/lib.rt:94:17
 shl-limit : tie.Need-shl-limit Inv-loop μ-loop
 shl-limit c = search needs
 
--- src/lib.rt:96:5
 loop-holds : tie.Need-loop-holds Inv-loop μ-loop
 loop-holds c = (omega arith, power _ (c .pre), refl)
 
--- src/lib.rt:97:21
 mul-if1 : tie.Need-mul-if1 Inv-loop μ-loop
 mul-if1 c = search needs
 
--- src/lib.rt:97:21
 shared-slice-read-if1 : tie.Need-shared-slice-read-if1 Inv-loop μ-loop
 shared-slice-read-if1 c = search needs
 
--- src/lib.rt:98:13
 returns : tie.Need-returns Inv-loop μ-loop
 returns c = all-stop (λ m. within m (c .before .before .before .before .args .shards)) (c .before .before .before .before .args .masks .now) (c .before .before .before .loop .i) 0 (omega arith) (beyond _ _ _ (c .before .before .before .loop .inv .1) (c .if1 .taken)) (c .before .before .before .loop .inv .2)
 
--- src/lib.rt:100:9
 add-i : tie.Need-add-i Inv-loop μ-loop
 add-i c = search needs
 
--- src/lib.rt:96:5
 loop-less : tie.Need-loop-less Inv-loop μ-loop
 loop-less c = search needs
 
--- src/lib.rt:96:5
 loop-again : tie.Need-loop-again Inv-loop μ-loop
 loop-again c = (omega arith, c .before .before .before .loop .inv .1, all-next (λ m. within m (c .before .before .before .before .args .shards)) (c .before .before .before .before .args .masks .now) (c .before .before .before .loop .i) 0 (omega arith) (inside _ _ _ (c .before .before .before .loop .inv .1) (c .if1 .left)) (c .before .before .before .loop .inv .2))
 
--- src/lib.rt:90:1
 returns-2 : tie.Need-returns-2 Inv-loop μ-loop
 returns-2 c = all-end (λ m. within m (c .before .before .args .shards)) (c .before .before .args .masks .now) (c .before .loop .i) 0 (omega arith) (c .before .loop .inv .2)
 

@@ -5,15 +5,10 @@ use lib.Dec.{T}
 use borrow.Author.Needs.{needs}
 use Rattle.opening_tests.proofs.rate_in_range.Statement.{statement}
 use Rattle.opening_tests.proofs.rate_in_range.Tie as tie
-use Rattle.opening_tests.proofs.rate_in_range.Reads as reads
-use Rattle.opening_tests.proofs.rate_in_range.Lts as lts
-use Rattle.latency.proofs.rate_admitted.Reads as rate-admitted-reads
 
--- src/lib.rt:85:5
 rate-admitted-requires : tie.Need-rate-admitted-requires
 rate-admitted-requires c κs = search needs
 
--- src/lib.rt:82:1
 returns : tie.Need-returns
 returns c = sym (asked rateAdmitted _ _ _ (subst T (sym (c .before .good .0 .1)) tt) (c .rate-admitted .ensures) refl)
 

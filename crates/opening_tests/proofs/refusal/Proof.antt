@@ -1,82 +1,58 @@
-use Prim.Native.Nat.{ℕ, _+_, _*_, _-_, _^_, _≤_, _<_}
-use mathlib.Core.Path.{_≡_, refl, sym, ap, _∙_}
-use native.Mathlib.Omega.{arith}
+use Prim.Native.Nat.{_-_}
+use mathlib.Core.Path.{refl, sym, _∙_}
 use borrow.Author.Needs.{needs}
-use lib.ListN.{length, drop}
 use borrow.Author.Tests.{not-true, not-false}
 use Rattle.opening_tests.specs.Asked.{numberOf, tableTests, givenTests}
 use Rattle.opening_tests.specs.Given.{sized, keyWords}
 use Rattle.network.specs.Open.{lengthsOf}
 use Rattle.opening_tests.proofs.Ladder.{first-fails, second-fails, both-pass}
-use Rattle.held.proofs.Ladder.{on, off, no, yes, is-no, is-yes}
+use Rattle.held.proofs.Ladder.{on, off, no, yes}
 use Rattle.opening_tests.proofs.Number.{limited, held}
-use borrow.Author.Needs.{needs}
 use Rattle.opening_tests.proofs.refusal.Statement.{statement}
 use Rattle.opening_tests.proofs.refusal.Tie as tie
-use Rattle.opening_tests.proofs.refusal.Reads as reads
-use Rattle.opening_tests.proofs.refusal.Lts as lts
-use Rattle.opening_tests.proofs.config_admitted.Reads as config-admitted-reads
-use Rattle.opening_tests.proofs.lengths.given_fit.Reads as given-fit-reads
-use Rattle.opening_tests.proofs.lengths.tables_fit.Reads as tables-fit-reads
-use Rattle.opening_tests.proofs.limits.sizes_admitted.Reads as sizes-admitted-reads
-use Rattle.opening_tests.proofs.masks_admitted.Reads as masks-admitted-reads
-use Rattle.opening_tests.proofs.texts.names_admitted.Reads as names-admitted-reads
 
--- src/lib.rt:140:9
 tables-fit-requires : tie.Need-tables-fit-requires
 tables-fit-requires c κs = search needs
 
--- src/lib.rt:141:9
 returns : tie.Need-returns
 unfolding numberOf
 returns c = no _ _ _ 1 (first-fails (tableTests (lengthsOf (sized (c .before .before .before .before .before .args .sizes) (c .before .before .before .before .before .args .plan))) (c .before .before .before .before .before .args .lengths)) (givenTests (c .before .before .before .before .before .args .sizes .tills) (keyWords (c .before .before .before .before .before .args .key .now)) (c .before .before .before .before .before .args .masks .now)) (sym (c .before .tables-fit .ensures) ∙ not-true _ (c .if1 .taken))) refl
 
--- src/lib.rt:143:9
 given-fit-requires : tie.Need-given-fit-requires
 given-fit-requires c κs = search needs
 
--- src/lib.rt:144:9
 returns-2 : tie.Need-returns-2
 unfolding numberOf
 returns-2 c = no _ _ _ 1 (second-fails (tableTests (lengthsOf (sized (c .before .before .before .before .before .before .before .args .sizes) (c .before .before .before .before .before .before .before .args .plan))) (c .before .before .before .before .before .before .before .args .lengths)) (givenTests (c .before .before .before .before .before .before .before .args .sizes .tills) (keyWords (c .before .before .before .before .before .before .before .args .key .now)) (c .before .before .before .before .before .before .before .args .masks .now)) (sym (c .before .before .before .tables-fit .ensures) ∙ not-false _ (c .before .before .if1 .left)) (sym (c .before .given-fit .ensures) ∙ not-true _ (c .if2 .taken))) refl
 
--- src/lib.rt:146:9
 sizes-admitted-requires : tie.Need-sizes-admitted-requires
 sizes-admitted-requires c κs = search needs
 
--- src/lib.rt:147:9
 returns-3 : tie.Need-returns-3
 unfolding numberOf
 returns-3 c = yes _ _ _ 1 (both-pass (tableTests (lengthsOf (sized (c .before .before .before .before .before .before .before .before .before .args .sizes) (c .before .before .before .before .before .before .before .before .before .args .plan))) (c .before .before .before .before .before .before .before .before .before .args .lengths)) (givenTests (c .before .before .before .before .before .before .before .before .before .args .sizes .tills) (keyWords (c .before .before .before .before .before .before .before .before .before .args .key .now)) (c .before .before .before .before .before .before .before .before .before .args .masks .now)) (sym (c .before .before .before .before .before .tables-fit .ensures) ∙ not-false _ (c .before .before .before .before .if1 .left)) (sym (c .before .before .before .given-fit .ensures) ∙ not-false _ (c .before .before .if2 .left))) (no _ _ _ 2 (sym (off _ _ (sym (c .before .sizes-admitted .ensures) ∙ not-true _ (c .if3 .taken)))) refl)
 
--- src/lib.rt:149:9
 names-admitted-requires : tie.Need-names-admitted-requires
 names-admitted-requires c κs = let l = limited (sized (c .before .before .before .before .before .before .before .before .before .args .sizes) (c .before .before .before .before .before .before .before .before .before .args .plan)) (sym (c .before .sizes-admitted .ensures) ∙ not-false _ (c .if3 .left)) in record { long = sym (c .before .before .before .before .before .before .before .before .before .pre) ∙ held (lengthsOf (sized (c .before .before .before .before .before .before .before .before .before .args .sizes) (c .before .before .before .before .before .before .before .before .before .args .plan))) (c .before .before .before .before .before .before .before .before .before .args .lengths) (sym (c .before .before .before .before .before .tables-fit .ensures) ∙ not-false _ (c .before .before .before .before .if1 .left)) .names; types = l .types; shards = l .shards }
 
--- src/lib.rt:150:9
 returns-4 : tie.Need-returns-4
 unfolding numberOf
 returns-4 c = yes _ _ _ 1 (both-pass (tableTests (lengthsOf (sized (c .before .before .before .before .before .before .before .before .before .before .before .args .sizes) (c .before .before .before .before .before .before .before .before .before .before .before .args .plan))) (c .before .before .before .before .before .before .before .before .before .before .before .args .lengths)) (givenTests (c .before .before .before .before .before .before .before .before .before .before .before .args .sizes .tills) (keyWords (c .before .before .before .before .before .before .before .before .before .before .before .args .key .now)) (c .before .before .before .before .before .before .before .before .before .before .before .args .masks .now)) (sym (c .before .before .before .before .before .before .before .tables-fit .ensures) ∙ not-false _ (c .before .before .before .before .before .before .if1 .left)) (sym (c .before .before .before .before .before .given-fit .ensures) ∙ not-false _ (c .before .before .before .before .if2 .left))) (no _ _ _ 2 (sym (on _ _ _ (sym (c .before .before .before .sizes-admitted .ensures) ∙ not-false _ (c .before .before .if3 .left)) (sym (sym (c .before .names-admitted .ensures) ∙ not-true _ (c .if4 .taken))))) refl)
 
--- src/lib.rt:152:9
 config-admitted-requires : tie.Need-config-admitted-requires
 config-admitted-requires c κs = search needs
 
--- src/lib.rt:153:9
 returns-5 : tie.Need-returns-5
 unfolding numberOf
 returns-5 c = yes _ _ _ 1 (both-pass (tableTests (lengthsOf (sized (c .before .before .before .before .before .before .before .before .before .before .before .before .before .args .sizes) (c .before .before .before .before .before .before .before .before .before .before .before .before .before .args .plan))) (c .before .before .before .before .before .before .before .before .before .before .before .before .before .args .lengths)) (givenTests (c .before .before .before .before .before .before .before .before .before .before .before .before .before .args .sizes .tills) (keyWords (c .before .before .before .before .before .before .before .before .before .before .before .before .before .args .key .now)) (c .before .before .before .before .before .before .before .before .before .before .before .before .before .args .masks .now)) (sym (c .before .before .before .before .before .before .before .before .before .tables-fit .ensures) ∙ not-false _ (c .before .before .before .before .before .before .before .before .if1 .left)) (sym (c .before .before .before .before .before .before .before .given-fit .ensures) ∙ not-false _ (c .before .before .before .before .before .before .if2 .left))) (yes _ _ _ 2 (sym (on _ _ _ (sym (c .before .before .before .before .before .sizes-admitted .ensures) ∙ not-false _ (c .before .before .before .before .if3 .left)) (sym (sym (c .before .before .before .names-admitted .ensures) ∙ not-false _ (c .before .before .if4 .left))))) (no _ _ _ 3 (sym (c .before .config-admitted .ensures) ∙ not-true _ (c .if5 .taken)) refl))
 
--- src/lib.rt:155:9
 masks-admitted-requires : tie.Need-masks-admitted-requires
 masks-admitted-requires c κs = let l = limited (sized (c .before .before .before .before .before .before .before .before .before .before .before .before .before .args .sizes) (c .before .before .before .before .before .before .before .before .before .before .before .before .before .args .plan)) (sym (c .before .before .before .before .before .sizes-admitted .ensures) ∙ not-false _ (c .before .before .before .before .if3 .left)) in l .shards
 
--- src/lib.rt:156:9
 returns-6 : tie.Need-returns-6
 unfolding numberOf
 returns-6 c = yes _ _ _ 1 (both-pass (tableTests (lengthsOf (sized (c .before .before .before .before .before .before .before .before .before .before .before .before .before .before .before .args .sizes) (c .before .before .before .before .before .before .before .before .before .before .before .before .before .before .before .args .plan))) (c .before .before .before .before .before .before .before .before .before .before .before .before .before .before .before .args .lengths)) (givenTests (c .before .before .before .before .before .before .before .before .before .before .before .before .before .before .before .args .sizes .tills) (keyWords (c .before .before .before .before .before .before .before .before .before .before .before .before .before .before .before .args .key .now)) (c .before .before .before .before .before .before .before .before .before .before .before .before .before .before .before .args .masks .now)) (sym (c .before .before .before .before .before .before .before .before .before .before .before .tables-fit .ensures) ∙ not-false _ (c .before .before .before .before .before .before .before .before .before .before .if1 .left)) (sym (c .before .before .before .before .before .before .before .before .before .given-fit .ensures) ∙ not-false _ (c .before .before .before .before .before .before .before .before .if2 .left))) (yes _ _ _ 2 (sym (on _ _ _ (sym (c .before .before .before .before .before .before .before .sizes-admitted .ensures) ∙ not-false _ (c .before .before .before .before .before .before .if3 .left)) (sym (sym (c .before .before .before .before .before .names-admitted .ensures) ∙ not-false _ (c .before .before .before .before .if4 .left))))) (yes _ _ _ 3 (sym (c .before .before .before .config-admitted .ensures) ∙ not-false _ (c .before .before .if5 .left)) (no _ _ _ 5 (sym (c .before .masks-admitted .ensures) ∙ not-true _ (c .if6 .taken)) refl)))
 
--- src/lib.rt:128:1
 returns-7 : tie.Need-returns-7
 unfolding numberOf
 returns-7 c = yes _ _ _ 1 (both-pass (tableTests (lengthsOf (sized (c .before .before .before .before .before .before .before .before .before .before .before .before .before .before .before .args .sizes) (c .before .before .before .before .before .before .before .before .before .before .before .before .before .before .before .args .plan))) (c .before .before .before .before .before .before .before .before .before .before .before .before .before .before .before .args .lengths)) (givenTests (c .before .before .before .before .before .before .before .before .before .before .before .before .before .before .before .args .sizes .tills) (keyWords (c .before .before .before .before .before .before .before .before .before .before .before .before .before .before .before .args .key .now)) (c .before .before .before .before .before .before .before .before .before .before .before .before .before .before .before .args .masks .now)) (sym (c .before .before .before .before .before .before .before .before .before .before .before .tables-fit .ensures) ∙ not-false _ (c .before .before .before .before .before .before .before .before .before .before .if1 .left)) (sym (c .before .before .before .before .before .before .before .before .before .given-fit .ensures) ∙ not-false _ (c .before .before .before .before .before .before .before .before .if2 .left))) (yes _ _ _ 2 (sym (on _ _ _ (sym (c .before .before .before .before .before .before .before .sizes-admitted .ensures) ∙ not-false _ (c .before .before .before .before .before .before .if3 .left)) (sym (sym (c .before .before .before .before .before .names-admitted .ensures) ∙ not-false _ (c .before .before .before .before .if4 .left))))) (yes _ _ _ 3 (sym (c .before .before .before .config-admitted .ensures) ∙ not-false _ (c .before .before .if5 .left)) (yes _ _ _ 5 (sym (c .before .masks-admitted .ensures) ∙ not-false _ (c .if6 .left)) refl)))

@@ -1,14 +1,12 @@
-use Prim.Native.Nat.{ℕ, _+_, _*_, _-_, _/_, _%_, _^_, _≤_, _<_}
-use mathlib.Core.Path.{_≡_, refl, sym, ap, subst, _∙_}
-use mathlib.Core.List.{List, [], _∷_, _++_}
+use Prim.Native.Nat.{_+_, _-_, _≤_}
+use mathlib.Core.Path.{_≡_, refl}
+use mathlib.Core.List.{_++_}
 use native.Mathlib.Omega.{arith}
 use borrow.Author.Needs.{needs}
-use lib.ListN.{length, take, drop, replicate, length-set}
+use lib.ListN.{length, drop, replicate, length-set}
 use Rattle.opening.proofs.Filled.{clear-more, clear-all}
 use Rattle.opening.proofs.fill.clear.Statement.{statement}
 use Rattle.opening.proofs.fill.clear.Tie as tie
-use Rattle.opening.proofs.fill.clear.Reads as reads
-use Rattle.opening.proofs.fill.clear.Lts as lts
 
 abbrev Inv-loop : tie.InvT-loop
 Inv-loop s₀ n i₀ s i = (i ≤ n) × (length s ≡ length s₀) × (s ≡ replicate i 0 ++ drop i s₀)
@@ -16,35 +14,27 @@ Inv-loop s₀ n i₀ s i = (i ≤ n) × (length s ≡ length s₀) × (s ≡ rep
 abbrev μ-loop : tie.MeasureT-loop
 μ-loop s₀ n i₀ s i = n - i
 
--- src/fill.rt:18:5
 loop-holds : tie.Need-loop-holds Inv-loop μ-loop
 loop-holds c = (omega arith, refl, refl)
 
--- src/fill.rt:19:9
 mul-s : tie.Need-mul-s Inv-loop μ-loop
 mul-s c = search needs
 
--- src/fill.rt:19:9
 slice-write-s : tie.Need-slice-write-s Inv-loop μ-loop
 slice-write-s c = search needs
 
--- src/fill.rt:20:9
 add-i : tie.Need-add-i Inv-loop μ-loop
 add-i c = search needs
 
--- src/fill.rt:18:5
 loop-less : tie.Need-loop-less Inv-loop μ-loop
 loop-less c = search needs
 
--- src/fill.rt:18:5
 loop-again : tie.Need-loop-again Inv-loop μ-loop
 loop-again c = (omega arith, simp length-set (c .before .loop .inv .1), clear-more (c .before .before .args .s .now) (c .before .loop .s) (c .before .loop .i) (omega arith) (c .before .loop .inv .2))
 
--- src/fill.rt:13:1
 same-length : tie.Need-same-length Inv-loop μ-loop
 same-length c = search needs
 
--- src/fill.rt:13:1
 returns : tie.Need-returns Inv-loop μ-loop
 returns c = clear-all (c .before .before .args .s .now) (c .before .loop .s) (c .before .loop .i) (c .before .before .args .n) (omega arith) (c .before .loop .inv .2)
 

@@ -1,10 +1,9 @@
-use Prim.Native.Nat.{ℕ, _+_, _*_, _-_, _/_, _%_, _^_, _≤_, _<_}
-use mathlib.Core.Path.{_≡_, refl, sym, ap, subst, _∙_}
-use mathlib.Core.List.{List, [], _∷_, _++_}
+use Prim.Native.Nat.{ℕ, _+_, _*_, _-_, _≤_}
+use mathlib.Core.Path.{_≡_, refl, sym, ap, _∙_}
+use mathlib.Core.List.{_++_}
 use native.Mathlib.Omega.{arith}
 use borrow.Author.Needs.{needs}
-use lib.ListN.{length, take, drop, replicate, length-set}
-use lib.ListN.{getD}
+use lib.ListN.{length, drop, getD}
 use Rattle.rows.specs.Rows.{flat}
 use Rattle.rows.proofs.Lists.{length-upTo}
 use Rattle.shift.proofs.Laws.{length-put}
@@ -13,9 +12,6 @@ use Rattle.network.specs.Tables.{tillForm}
 use Rattle.opening.proofs.Filled.{rows-none, row-more, rows-all, upTo-more}
 use Rattle.opening.proofs.fill.write_tills.Statement.{statement}
 use Rattle.opening.proofs.fill.write_tills.Tie as tie
-use Rattle.opening.proofs.fill.write_tills.Reads as reads
-use Rattle.opening.proofs.fill.write_tills.Lts as lts
-use Rattle.opening.proofs.fill.put_till.Reads as put-till-reads
 
 abbrev Inv-loop : tie.InvT-loop
 Inv-loop tills₀ masks t₀ tills t = (t ≤ length masks) × (length tills ≡ length tills₀) × (tills ≡ flat (tillForm .words) (openTills masks t) ++ drop (t * tillForm .width) tills₀)
@@ -23,43 +19,33 @@ Inv-loop tills₀ masks t₀ tills t = (t ≤ length masks) × (length tills ≡
 abbrev μ-loop : tie.MeasureT-loop
 μ-loop tills₀ masks t₀ tills t = length masks - t
 
--- src/fill.rt:62:5
 loop-holds : tie.Need-loop-holds Inv-loop μ-loop
 loop-holds c = (omega arith, refl, rows-none (tillForm .width) (tillForm .words) (λ _. refl) (c .before .before .args .tills .now))
 
--- src/fill.rt:63:25
 mul-put-till : tie.Need-mul-put-till Inv-loop μ-loop
 mul-put-till c = search needs
 
--- src/fill.rt:63:47
 mul-put-till-2 : tie.Need-mul-put-till-2 Inv-loop μ-loop
 mul-put-till-2 c = search needs
 
--- src/fill.rt:63:47
 shared-slice-read-put-till : tie.Need-shared-slice-read-put-till Inv-loop μ-loop
 shared-slice-read-put-till c = search needs
 
--- src/fill.rt:63:9
 put-till-requires : tie.Need-put-till-requires Inv-loop μ-loop
 put-till-requires c κs = omega arith
 
--- src/fill.rt:64:9
 add-t : tie.Need-add-t Inv-loop μ-loop
 add-t c = search needs
 
--- src/fill.rt:62:5
 loop-less : tie.Need-loop-less Inv-loop μ-loop
 loop-less c = search needs
 
--- src/fill.rt:62:5
 loop-again : tie.Need-loop-again Inv-loop μ-loop
 loop-again c = let m = c .before .before .before .before .before .before .before .before .before .args .masks .now in let f : ℕ → Till = λ t. upTill (getD m t 0) in (omega arith, ap length (c .before .before .put-till .ensures) ∙ length-put _ _ _ (omega arith) ∙ c .before .before .before .before .before .before .loop .inv .1, c .before .before .put-till .ensures ∙ row-more (tillForm .width) (tillForm .words) (λ _. refl) (openTills m (c .before .before .before .before .before .before .loop .t)) (c .before .before .before .before .before .before .before .before .before .args .tills .now) (c .before .before .before .before .before .before .loop .tills) (c .before .before .before .before .before .before .loop .t) (f (c .before .before .before .before .before .before .loop .t)) (length-upTo (c .before .before .before .before .before .before .loop .t) f) (c .before .before .before .before .before .before .loop .inv .2) ∙ ap (λ l. flat (tillForm .words) l ++ drop ((c .before .before .before .before .before .before .loop .t + 1) * tillForm .width) (c .before .before .before .before .before .before .before .before .before .args .tills .now)) (sym (upTo-more (c .before .before .before .before .before .before .loop .t) f)))
 
--- src/fill.rt:57:1
 same-length : tie.Need-same-length Inv-loop μ-loop
 same-length c = search needs
 
--- src/fill.rt:57:1
 returns : tie.Need-returns Inv-loop μ-loop
 returns c = rows-all (tillForm .width) (tillForm .words) (λ _. refl) (openTills (c .before .before .before .before .args .masks .now) (c .before .loop .t)) (c .before .before .before .before .args .tills .now) (c .before .loop .tills) (c .before .loop .t) (length (c .before .before .before .before .args .masks .now)) (omega arith) (c .before .before .before .before .pre) (c .before .loop .inv .2) ∙ (let e : c .before .loop .t ≡ length (c .before .before .before .before .args .masks .now) = omega arith in ap (λ k. flat (tillForm .words) (openTills (c .before .before .before .before .args .masks .now) k)) e)
 

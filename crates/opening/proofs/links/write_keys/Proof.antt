@@ -1,10 +1,9 @@
-use Prim.Native.Nat.{ℕ, _+_, _*_, _-_, _/_, _%_, _^_, _≤_, _<_}
-use mathlib.Core.Path.{_≡_, refl, sym, ap, subst, _∙_}
-use mathlib.Core.List.{List, [], _∷_, _++_}
+use Prim.Native.Nat.{_+_, _*_, _-_, _/_, _%_, _≤_}
+use mathlib.Core.Path.{_≡_, refl, sym, ap, _∙_}
+use mathlib.Core.List.{_++_}
 use native.Mathlib.Omega.{arith}
 use borrow.Author.Needs.{needs}
-use lib.ListN.{length, take, drop, replicate, length-set}
-use native.Mathlib.Nat.{mod-lt, div-lt-iff-lt-mul}
+use lib.ListN.{length, drop}
 use Rattle.rows.specs.Rows.{flat}
 use Rattle.rows.specs.Lists.{upTo}
 use Rattle.rows.proofs.Lists.{length-upTo}
@@ -17,10 +16,6 @@ use Rattle.opening.proofs.Cells.{link-long, pair-most, some-till, quoti
 use Rattle.shift.specs.Shift.{putWords}
 use Rattle.opening.proofs.links.write_keys.Statement.{statement}
 use Rattle.opening.proofs.links.write_keys.Tie as tie
-use Rattle.opening.proofs.links.write_keys.Reads as reads
-use Rattle.opening.proofs.links.write_keys.Lts as lts
-use Rattle.opening.proofs.links.put_key.Reads as put-key-reads
-use Rattle.streams.proofs.link_key.Reads as link-key-reads
 
 abbrev Inv-loop : tie.InvT-loop
 Inv-loop keys₀ seed n pairs i₀ keys i = (i ≤ pairs) × (pairs ≡ n * n) × (length keys ≡ length keys₀) × (keys ≡ flat (λ i. linkKey seed (i / n) (i % n)) (upTo i (λ i. i)) ++ drop (i * keyWidth) keys₀)
@@ -28,59 +23,45 @@ Inv-loop keys₀ seed n pairs i₀ keys i = (i ≤ pairs) × (pairs ≡ n * n) �
 abbrev μ-loop : tie.MeasureT-loop
 μ-loop keys₀ seed n pairs i₀ keys i = pairs - i
 
--- src/links.rt:30:17
 mul-pairs : tie.Need-mul-pairs Inv-loop μ-loop
 mul-pairs c = let t = pair-most (c .before .args .n) (c .before .pre .0) in record { fits = omega arith }
 
--- src/links.rt:32:5
 loop-holds : tie.Need-loop-holds Inv-loop μ-loop
 loop-holds c = (omega arith, refl, refl, rows-none keyWidth (λ i. linkKey (c .before .args .seed) (i / c .before .args .n) (i % c .before .args .n)) (λ i. link-long (c .before .args .seed) (i / c .before .args .n) (i % c .before .args .n)) (c .before .args .keys .now))
 
--- src/links.rt:33:44
 div-link-key : tie.Need-div-link-key Inv-loop μ-loop
 div-link-key c = omega (arith, some-till (c .before .loop .i) (c .before .before .before .args .n) (c .before .before .before .pre .0) (omega arith))
 
--- src/links.rt:33:43
 cast-link-key : tie.Need-cast-link-key Inv-loop μ-loop
 cast-link-key c = let t = pair-most (c .before .before .before .args .n) (c .before .before .before .pre .0) in record { fits = quotient-fits _ _ (omega arith) }
 
--- src/links.rt:33:60
 rem-link-key : tie.Need-rem-link-key Inv-loop μ-loop
 rem-link-key c = omega (arith, some-till (c .before .loop .i) (c .before .before .before .args .n) (c .before .before .before .pre .0) (omega arith))
 
--- src/links.rt:33:59
 cast-link-key-2 : tie.Need-cast-link-key-2 Inv-loop μ-loop
 cast-link-key-2 c = let t = pair-most (c .before .before .before .args .n) (c .before .before .before .pre .0) in record { fits = remainder-fits _ _ (omega arith) }
 
--- src/links.rt:33:13
 link-key-requires : tie.Need-link-key-requires Inv-loop μ-loop
 link-key-requires c κs = search needs
 
--- src/links.rt:34:24
 mul-put-key : tie.Need-mul-put-key Inv-loop μ-loop
 mul-put-key c = search needs
 
--- src/links.rt:34:9
 put-key-requires : tie.Need-put-key-requires Inv-loop μ-loop
 put-key-requires c κs = omega arith
 
--- src/links.rt:35:9
 add-i : tie.Need-add-i Inv-loop μ-loop
 add-i c = search needs
 
--- src/links.rt:32:5
 loop-less : tie.Need-loop-less Inv-loop μ-loop
 loop-less c = search needs
 
--- src/links.rt:32:5
 loop-again : tie.Need-loop-again Inv-loop μ-loop
 loop-again c = (omega arith, c .before .before .before .before .before .before .loop .inv .1, ap length (c .before .before .put-key .ensures) ∙ length-put _ _ _ (omega arith) ∙ c .before .before .before .before .before .before .loop .inv .2, c .before .before .put-key .ensures ∙ ap (λ k. putWords (c .before .before .before .before .before .before .loop .keys) (c .before .before .before .before .before .before .loop .i * keyWidth) k) (c .before .before .before .before .link-key .ensures) ∙ row-more keyWidth (λ i. linkKey (c .before .before .before .before .before .before .before .before .args .seed) (i / c .before .before .before .before .before .before .before .before .args .n) (i % c .before .before .before .before .before .before .before .before .args .n)) (λ i. link-long (c .before .before .before .before .before .before .before .before .args .seed) (i / c .before .before .before .before .before .before .before .before .args .n) (i % c .before .before .before .before .before .before .before .before .args .n)) (upTo (c .before .before .before .before .before .before .loop .i) (λ i. i)) (c .before .before .before .before .before .before .before .before .args .keys .now) (c .before .before .before .before .before .before .loop .keys) (c .before .before .before .before .before .before .loop .i) (c .before .before .before .before .before .before .loop .i) (length-upTo (c .before .before .before .before .before .before .loop .i) (λ i. i)) (c .before .before .before .before .before .before .loop .inv .3) ∙ ap (λ l. flat (λ i. linkKey (c .before .before .before .before .before .before .before .before .args .seed) (i / c .before .before .before .before .before .before .before .before .args .n) (i % c .before .before .before .before .before .before .before .before .args .n)) l ++ drop ((c .before .before .before .before .before .before .loop .i + 1) * keyWidth) (c .before .before .before .before .before .before .before .before .args .keys .now)) (sym (upTo-more (c .before .before .before .before .before .before .loop .i) (λ i. i))))
 
--- src/links.rt:26:1
 same-length : tie.Need-same-length Inv-loop μ-loop
 same-length c = search needs
 
--- src/links.rt:26:1
 returns : tie.Need-returns Inv-loop μ-loop
 unfolding linkKeys
 returns c = rows-all keyWidth (λ i. linkKey (c .before .before .before .args .seed) (i / c .before .before .before .args .n) (i % c .before .before .before .args .n)) (λ i. link-long (c .before .before .before .args .seed) (i / c .before .before .before .args .n) (i % c .before .before .before .args .n)) (upTo (c .before .loop .i) (λ i. i)) (c .before .before .before .args .keys .now) (c .before .loop .keys) (c .before .loop .i) (c .before .before .before .args .n * c .before .before .before .args .n) (omega arith) (c .before .before .before .pre .1) (c .before .loop .inv .3) ∙ (let e : c .before .loop .i ≡ c .before .before .before .args .n * c .before .before .before .args .n = omega arith in ap (λ k. flat (λ i. linkKey (c .before .before .before .args .seed) (i / c .before .before .before .args .n) (i % c .before .before .before .args .n)) (upTo k (λ i. i))) e)

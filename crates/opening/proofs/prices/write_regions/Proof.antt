@@ -1,17 +1,14 @@
-use Prim.Native.Nat.{ℕ, _+_, _*_, _-_, _/_, _%_, _^_, _≤_, _<_}
-use mathlib.Core.Path.{_≡_, refl, sym, ap, subst, _∙_}
-use mathlib.Core.List.{List, [], _∷_, _++_}
+use Prim.Native.Nat.{_+_, _-_, _≤_}
+use mathlib.Core.Path.{_≡_, refl}
+use mathlib.Core.List.{_++_}
 use native.Mathlib.Omega.{arith}
 use borrow.Author.Needs.{needs}
-use lib.ListN.{length, take, drop, replicate, length-set}
+use lib.ListN.{length, take, drop, length-set}
 use Rattle.rows.specs.Lists.{upTo}
 use Rattle.geography.specs.Geography.{regionOf}
 use Rattle.opening.proofs.Cells.{region-more, regions-all, no-regions}
 use Rattle.opening.proofs.prices.write_regions.Statement.{statement}
 use Rattle.opening.proofs.prices.write_regions.Tie as tie
-use Rattle.opening.proofs.prices.write_regions.Reads as reads
-use Rattle.opening.proofs.prices.write_regions.Lts as lts
-use Rattle.geography.proofs.region_of.Reads as region-of-reads
 
 abbrev Inv-loop : tie.InvT-loop
 Inv-loop prices₀ n seed regions tills t₀ prices t = (t ≤ tills) × (length prices ≡ length prices₀) × (prices ≡ (take n prices₀ ++ upTo t (λ t. regionOf seed regions t)) ++ drop (n + t) prices₀)
@@ -19,47 +16,36 @@ Inv-loop prices₀ n seed regions tills t₀ prices t = (t ≤ tills) × (length
 abbrev μ-loop : tie.MeasureT-loop
 μ-loop prices₀ n seed regions tills t₀ prices t = tills - t
 
--- src/prices.rt:30:5
 loop-holds : tie.Need-loop-holds Inv-loop μ-loop
 loop-holds c = (omega arith, refl, no-regions (λ t. regionOf (c .before .args .seed) (c .before .args .regions) t) (c .before .args .n) 0 (c .before .args .prices .now) _ refl (omega arith) refl)
 
--- src/prices.rt:31:70
 cast-region-of : tie.Need-cast-region-of Inv-loop μ-loop
 cast-region-of c = omega arith
 
--- src/prices.rt:31:34
 region-of-requires : tie.Need-region-of-requires Inv-loop μ-loop
 region-of-requires c κs = search needs
 
--- src/prices.rt:31:16
 add-prices : tie.Need-add-prices Inv-loop μ-loop
 add-prices c = omega arith
 
--- src/prices.rt:31:9
 mul-prices : tie.Need-mul-prices Inv-loop μ-loop
 mul-prices c = search needs
 
--- src/prices.rt:31:9
 slice-write-prices : tie.Need-slice-write-prices Inv-loop μ-loop
 slice-write-prices c = omega arith
 
--- src/prices.rt:32:9
 add-t : tie.Need-add-t Inv-loop μ-loop
 add-t c = search needs
 
--- src/prices.rt:30:5
 loop-less : tie.Need-loop-less Inv-loop μ-loop
 loop-less c = search needs
 
--- src/prices.rt:30:5
 loop-again : tie.Need-loop-again Inv-loop μ-loop
 loop-again c = (omega arith, simp length-set (c .before .before .loop .inv .1), region-more (λ t. regionOf (c .before .before .before .before .args .seed) (c .before .before .before .before .args .regions) t) (c .before .before .before .before .args .n) (c .before .before .loop .t) (c .before .before .before .before .args .prices .now) (c .before .before .loop .prices) _ (omega arith) (c .region-of .ensures .0) (c .before .before .loop .inv .2))
 
--- src/prices.rt:25:1
 same-length : tie.Need-same-length Inv-loop μ-loop
 same-length c = search needs
 
--- src/prices.rt:25:1
 returns : tie.Need-returns Inv-loop μ-loop
 returns c = regions-all (λ t. regionOf (c .before .before .before .args .seed) (c .before .before .before .args .regions) t) (c .before .before .before .args .n) (c .before .loop .t) (c .before .before .before .args .prices .now) (c .before .loop .prices) (c .before .before .before .args .tills) (omega arith) (c .before .before .before .pre .1) (c .before .loop .inv .2)
 

@@ -1,71 +1,49 @@
-use Prim.Native.Nat.{ℕ, _+_, _*_, _-_, _/_, _%_, _^_, _≤_, _<_}
-use mathlib.Core.Path.{_≡_, refl, sym, ap, subst, _∙_}
-use mathlib.Core.List.{List, [], _∷_, _++_}
-use native.Mathlib.Omega.{arith}
+use Prim.Native.Nat.{_-_}
+use mathlib.Core.Path.{refl}
 use borrow.Author.Needs.{needs}
-use lib.ListN.{length, take, drop, replicate, length-set}
 use Rattle.opening.proofs.Cells.{numbers, setup-made}
-use borrow.Author.Needs.{needs}
 use Rattle.opening.proofs.settings.cells.Statement.{statement}
 use Rattle.opening.proofs.settings.cells.Tie as tie
-use Rattle.opening.proofs.settings.cells.Reads as reads
-use Rattle.opening.proofs.settings.cells.Lts as lts
-use Rattle.opening.proofs.settings.key_word.Reads as key-word-reads
-use Rattle.opening.proofs.settings.rate_bits.Reads as rate-bits-reads
 
--- src/settings.rt:46:9
 rate-bits-requires : tie.Need-rate-bits-requires
 rate-bits-requires c κs = numbers (c .before .args .config) (c .before .pre .0) .jitter
 
--- src/settings.rt:47:9
 rate-bits-requires-2 : tie.Need-rate-bits-requires-2
 rate-bits-requires-2 c κs = numbers (c .before .before .args .config) (c .before .before .pre .0) .loss
 
--- src/settings.rt:48:9
 rate-bits-requires-3 : tie.Need-rate-bits-requires-3
 rate-bits-requires-3 c κs = numbers (c .before .before .before .args .config) (c .before .before .before .pre .0) .duplicate
 
--- src/settings.rt:49:9
 rate-bits-requires-4 : tie.Need-rate-bits-requires-4
 rate-bits-requires-4 c κs = numbers (c .before .before .before .before .args .config) (c .before .before .before .before .pre .0) .replay
 
--- src/settings.rt:50:9
 rate-bits-requires-5 : tie.Need-rate-bits-requires-5
 rate-bits-requires-5 c κs = numbers (c .before .before .before .before .before .args .config) (c .before .before .before .before .before .pre .0) .spike
 
--- src/settings.rt:55:9
 key-word-requires : tie.Need-key-word-requires
 key-word-requires c κs = search needs
 
--- src/settings.rt:56:9
 key-word-requires-2 : tie.Need-key-word-requires-2
 key-word-requires-2 c κs = search needs
 
--- src/settings.rt:57:9
 key-word-requires-3 : tie.Need-key-word-requires-3
 key-word-requires-3 c κs = search needs
 
--- src/settings.rt:58:9
 key-word-requires-4 : tie.Need-key-word-requires-4
 key-word-requires-4 c κs = search needs
 
--- src/settings.rt:59:9
 key-word-requires-5 : tie.Need-key-word-requires-5
 key-word-requires-5 c κs = search needs
 
--- src/settings.rt:60:9
 key-word-requires-6 : tie.Need-key-word-requires-6
 key-word-requires-6 c κs = search needs
 
--- src/settings.rt:61:9
 key-word-requires-7 : tie.Need-key-word-requires-7
 key-word-requires-7 c κs = search needs
 
--- src/settings.rt:62:9
 key-word-requires-8 : tie.Need-key-word-requires-8
 key-word-requires-8 c κs = search needs
 
--- src/settings.rt:33:1
 returns : tie.Need-returns
 returns c = (setup-made (c .before .before .before .before .before .before .before .before .before .before .before .before .before .before .args .config) (c .before .before .before .before .before .before .before .before .before .before .before .before .before .before .args .sizes) (c .before .before .before .before .before .before .before .before .before .before .before .before .before .before .args .plan) (c .before .before .before .before .before .before .before .before .before .before .before .before .before .before .args .seed) (c .before .before .before .before .before .before .before .before .before .before .before .before .before .before .args .key .now) (c .before .before .before .before .before .before .before .before .before .before .before .before .before .before .pre .1) _ _ _ _ _ _ _ _ _ _ _ _ _ (c .before .before .before .before .before .before .before .before .before .before .before .before .rate-bits .ensures) (c .before .before .before .before .before .before .before .before .before .before .before .rate-bits2 .ensures) (c .before .before .before .before .before .before .before .before .before .before .rate-bits3 .ensures) (c .before .before .before .before .before .before .before .before .before .rate-bits4 .ensures) (c .before .before .before .before .before .before .before .before .rate-bits5 .ensures) (c .before .before .before .before .before .before .before .key-word .ensures) (c .before .before .before .before .before .before .key-word2 .ensures) (c .before .before .before .before .before .key-word3 .ensures) (c .before .before .before .before .key-word4 .ensures) (c .before .before .before .key-word5 .ensures) (c .before .before .key-word6 .ensures) (c .before .key-word7 .ensures) (c .key-word8 .ensures), refl)
 

@@ -1,17 +1,12 @@
-use Rattle.held.proofs.Ladder.{on, off, last, is-no, is-yes}
-use borrow.Author.Tests.{eq-eqb, ne-eqb, le-leb, lt-leb, not-true, not-false}
+use Rattle.held.proofs.Ladder.{on, off, last}
 use Rattle.opening_tests.proofs.Sums.{key-long, key-other}
 use mathlib.Core.Path.{refl}
 use Rattle.opening_tests.proofs.lengths.given_fit.Statement.{statement}
 use Rattle.opening_tests.proofs.lengths.given_fit.Tie as tie
-use Rattle.opening_tests.proofs.lengths.given_fit.Reads as reads
-use Rattle.opening_tests.proofs.lengths.given_fit.Lts as lts
 
--- src/lengths.rt:115:9
 returns : tie.Need-returns
 returns c = off _ _ (key-other (c .before .args .key .now) (c .if1 .taken))
 
--- src/lengths.rt:111:1
 returns-2 : tie.Need-returns-2
 returns-2 c = on _ _ _ (key-long (c .before .before .args .key .now) (c .before .if1 .left)) (last _ _ refl)
 

@@ -2,31 +2,22 @@ use Rattle.opening_tests.proofs.Sums.{sum-low, sum-odd, sum-even}
 use borrow.Author.Needs.{needs}
 use Rattle.opening_tests.proofs.lengths.is_sum.Statement.{statement}
 use Rattle.opening_tests.proofs.lengths.is_sum.Tie as tie
-use Rattle.opening_tests.proofs.lengths.is_sum.Reads as reads
-use Rattle.opening_tests.proofs.lengths.is_sum.Lts as lts
-use Rattle.opening_tests.proofs.lengths.is_product.Reads as is-product-reads
 
--- src/lengths.rt:54:9
 returns : tie.Need-returns
 returns c = sum-low _ _ _ _ (c .if1 .taken)
 
--- src/lengths.rt:57:8
 rem-if2 : tie.Need-rem-if2
 rem-if2 c = search needs
 
--- src/lengths.rt:58:9
 returns-2 : tie.Need-returns-2
 returns-2 c = sum-odd _ _ _ _ (c .before .if1 .left) (c .if2 .taken)
 
--- src/lengths.rt:60:16
 div-is-product : tie.Need-div-is-product
 div-is-product c = search needs
 
--- src/lengths.rt:60:5
 is-product-requires : tie.Need-is-product-requires
 is-product-requires c κs = search needs
 
--- src/lengths.rt:49:1
 returns-3 : tie.Need-returns-3
 returns-3 c = sum-even _ _ _ _ _ (c .before .before .before .pre) (c .before .before .if1 .left) (c .before .if2 .left) (c .is-product .ensures)
 

@@ -2,27 +2,19 @@ use Rattle.opening_tests.proofs.Sums.{no-prices, some-prices, one-regio
 use borrow.Author.Needs.{needs}
 use Rattle.opening_tests.proofs.lengths.prices_fit.Statement.{statement}
 use Rattle.opening_tests.proofs.lengths.prices_fit.Tie as tie
-use Rattle.opening_tests.proofs.lengths.prices_fit.Reads as reads
-use Rattle.opening_tests.proofs.lengths.prices_fit.Lts as lts
-use Rattle.opening_tests.proofs.lengths.is_sum.Reads as is-sum-reads
 
--- src/lengths.rt:53:9
 returns : tie.Need-returns
 returns c = no-prices (c .before .before .args .n) (c .before .before .args .plan) (c .before .before .args .tills) (c .if1 .taken)
 
--- src/lengths.rt:56:9
 is-sum-requires : tie.Need-is-sum-requires
 is-sum-requires c κs = search needs
 
--- src/lengths.rt:56:9
 returns-2 : tie.Need-returns-2
 returns-2 c = some-prices (c .before .before .before .before .before .args .n) (c .before .before .before .before .before .args .plan) (c .before .before .before .before .before .args .tills) _ 1 (c .before .before .before .if1 .left) (one-region _ (c .before .if2 .taken)) (c .is-sum .ensures)
 
--- src/lengths.rt:58:5
 is-sum-requires-2 : tie.Need-is-sum-requires-2
 is-sum-requires-2 c κs = search needs
 
--- src/lengths.rt:49:1
 returns-3 : tie.Need-returns-3
 returns-3 c = some-prices (c .before .before .before .before .before .args .n) (c .before .before .before .before .before .args .plan) (c .before .before .before .before .before .args .tills) _ _ (c .before .before .before .if1 .left) (more-regions _ (c .before .if2 .left)) (c .is-sum2 .ensures)
 

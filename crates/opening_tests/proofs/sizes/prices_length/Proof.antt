@@ -1,41 +1,30 @@
-use Prim.Native.Nat.{ℕ, _+_, _*_, _-_, _^_, _≤_, _<_}
-use mathlib.Core.Path.{_≡_, refl, sym, ap, _∙_}
+use Prim.Native.Nat.{_-_}
+use mathlib.Core.Path.{refl}
 use native.Mathlib.Omega.{arith}
 use borrow.Author.Needs.{needs}
-use lib.ListN.{length, drop}
 use Rattle.opening_tests.proofs.Made.{times, none-priced, some-priced}
 use Rattle.opening_tests.proofs.Sums.{one-region, more-regions}
-use borrow.Author.Needs.{needs}
 use Rattle.opening_tests.proofs.sizes.prices_length.Statement.{statement}
 use Rattle.opening_tests.proofs.sizes.prices_length.Tie as tie
-use Rattle.opening_tests.proofs.sizes.prices_length.Reads as reads
-use Rattle.opening_tests.proofs.sizes.prices_length.Lts as lts
 
--- src/sizes.rt:21:9
 returns : tie.Need-returns
 returns c = none-priced (c .before .before .args .plan) (c .before .before .args .tills) (c .if1 .taken)
 
--- src/sizes.rt:24:16
 add-result : tie.Need-add-result
 add-result c = search needs
 
--- src/sizes.rt:24:9
 returns-2 : tie.Need-returns-2
 returns-2 c = some-priced (c .before .before .before .before .args .plan) (c .before .before .before .before .args .tills) 1 _ (c .before .before .if1 .left) (one-region _ (c .if2 .taken)) refl
 
--- src/sizes.rt:26:37
 mul-result : tie.Need-mul-result
 mul-result c = let t = times _ _ 16 16 (c .before .before .before .before .before .pre .1) (c .before .before .before .before .before .pre .1) in record { fits = omega arith }
 
--- src/sizes.rt:26:5
 mul-result-2 : tie.Need-mul-result-2
 mul-result-2 c = let t = times _ _ 16 16 (c .before .before .before .before .before .pre .1) (c .before .before .before .before .before .pre .1) in record { fits = omega arith }
 
--- src/sizes.rt:26:5
 add-result-2 : tie.Need-add-result-2
 add-result-2 c = let t = times _ _ 16 16 (c .before .before .before .before .before .pre .1) (c .before .before .before .before .before .pre .1) in record { fits = omega (arith, c .before .before .before .before .before .pre .0) }
 
--- src/sizes.rt:16:1
 returns-3 : tie.Need-returns-3
 returns-3 c = some-priced (c .before .before .before .before .before .args .plan) (c .before .before .before .before .before .args .tills) _ _ (c .before .before .before .if1 .left) (more-regions _ (c .before .if2 .left)) refl
 

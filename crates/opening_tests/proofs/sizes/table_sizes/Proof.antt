@@ -1,77 +1,56 @@
-use Prim.Native.Nat.{ℕ, _+_, _*_, _-_, _^_, _≤_, _<_}
-use mathlib.Core.Path.{_≡_, refl, sym, ap, _∙_}
+use Prim.Native.Nat.{_-_}
+use mathlib.Core.Path.{sym, _∙_}
 use native.Mathlib.Omega.{arith}
 use borrow.Author.Needs.{needs}
-use lib.ListN.{length, drop}
 use borrow.Author.Tests.{not-true, not-false}
 use Rattle.opening_tests.specs.Given.{sized}
 use Rattle.opening_tests.proofs.Number.{limited}
 use Rattle.opening_tests.proofs.Made.{times, refused, made}
-use borrow.Author.Needs.{needs}
 use Rattle.opening_tests.proofs.sizes.table_sizes.Statement.{statement}
 use Rattle.opening_tests.proofs.sizes.table_sizes.Tie as tie
-use Rattle.opening_tests.proofs.sizes.table_sizes.Reads as reads
-use Rattle.opening_tests.proofs.sizes.table_sizes.Lts as lts
-use Rattle.opening_tests.proofs.limits.sizes_admitted.Reads as sizes-admitted-reads
-use Rattle.opening_tests.proofs.sizes.prices_length.Reads as prices-length-reads
 
--- src/sizes.rt:33:9
 sizes-admitted-requires : tie.Need-sizes-admitted-requires
 sizes-admitted-requires c κs = search needs
 
--- src/sizes.rt:34:9
 returns : tie.Need-returns
 returns c = refused (c .before .before .args .sizes) (c .before .before .args .plan) (sym (c .before .sizes-admitted .ensures) ∙ not-true _ (c .if1 .taken))
 
--- src/sizes.rt:55:16
 mul-t10 : tie.Need-mul-t10
 mul-t10 c = let l = limited (sized (c .before .before .args .sizes) (c .before .before .args .plan)) (sym (c .before .sizes-admitted .ensures) ∙ not-false _ (c .if1 .left)) in record { fits = omega (arith, l .tills) }
 
--- src/sizes.rt:57:15
 mul-t12 : tie.Need-mul-t12
 mul-t12 c = let l = limited (sized (c .before .before .args .sizes) (c .before .before .args .plan)) (sym (c .before .sizes-admitted .ensures) ∙ not-false _ (c .if1 .left)) in let t = times _ _ 64 64 (l .tills) (l .tills) in record { fits = omega (arith, t) }
 
--- src/sizes.rt:57:15
 mul-t13 : tie.Need-mul-t13
 mul-t13 c = let l = limited (sized (c .before .before .args .sizes) (c .before .before .args .plan)) (sym (c .before .sizes-admitted .ensures) ∙ not-false _ (c .if1 .left)) in let t = times _ _ 64 64 (l .tills) (l .tills) in record { fits = omega (arith, t) }
 
--- src/sizes.rt:58:17
 prices-length-requires : tie.Need-prices-length-requires
 prices-length-requires c κs = let l = limited (sized (c .before .before .args .sizes) (c .before .before .args .plan)) (sym (c .before .sizes-admitted .ensures) ∙ not-false _ (c .if1 .left)) in (l .tills, l .regions)
 
--- src/sizes.rt:59:23
 mul-t15 : tie.Need-mul-t15
 mul-t15 c = let l = limited (sized (c .before .before .before .before .args .sizes) (c .before .before .before .before .args .plan)) (sym (c .before .before .before .sizes-admitted .ensures) ∙ not-false _ (c .before .before .if1 .left)) in let t = times _ _ 64 4096 (l .tills) (l .seen) in record { fits = omega (arith, t) }
 
--- src/sizes.rt:59:15
 add-t16 : tie.Need-add-t16
 add-t16 c = let l = limited (sized (c .before .before .before .before .args .sizes) (c .before .before .before .before .args .plan)) (sym (c .before .before .before .sizes-admitted .ensures) ∙ not-false _ (c .before .before .if1 .left)) in let t = times _ _ 64 4096 (l .tills) (l .seen) in record { fits = omega (arith, t, l .tills) }
 
--- src/sizes.rt:60:18
 mul-t18 : tie.Need-mul-t18
 mul-t18 c = let l = limited (sized (c .before .before .before .before .before .args .sizes) (c .before .before .before .before .before .args .plan)) (sym (c .before .before .before .before .sizes-admitted .ensures) ∙ not-false _ (c .before .before .before .if1 .left)) in record { fits = omega (arith, l .waiting) }
 
--- src/sizes.rt:61:16
 mul-t19 : tie.Need-mul-t19
 mul-t19 c = let l = limited (sized (c .before .before .before .before .before .before .args .sizes) (c .before .before .before .before .before .before .args .plan)) (sym (c .before .before .before .before .before .sizes-admitted .ensures) ∙ not-false _ (c .before .before .before .before .if1 .left)) in record { fits = omega (arith, l .types) }
 
--- src/sizes.rt:62:17
 mul-t20 : tie.Need-mul-t20
 mul-t20 c = search needs
 
--- src/sizes.rt:63:18
 mul-t22 : tie.Need-mul-t22
 mul-t22 c = search needs
 
--- src/sizes.rt:64:36
 mul-t26 : tie.Need-mul-t26
 mul-t26 c = let l = limited (sized (c .before .before .before .before .before .before .before .args .sizes) (c .before .before .before .before .before .before .before .args .plan)) (sym (c .before .before .before .before .before .before .sizes-admitted .ensures) ∙ not-false _ (c .before .before .before .before .before .if1 .left)) in record { fits = omega (arith, l .log) }
 
--- src/sizes.rt:64:14
 add-t27 : tie.Need-add-t27
 add-t27 c = let l = limited (sized (c .before .before .before .before .before .before .before .args .sizes) (c .before .before .before .before .before .before .before .args .plan)) (sym (c .before .before .before .before .before .before .sizes-admitted .ensures) ∙ not-false _ (c .before .before .before .before .before .if1 .left)) in record { fits = omega (arith, l .log) }
 
--- src/sizes.rt:30:1
 returns-2 : tie.Need-returns-2
 returns-2 c = made (c .before .before .before .before .before .before .before .args .sizes) (c .before .before .before .before .before .before .before .args .plan) _ (sym (c .before .before .before .before .before .before .sizes-admitted .ensures) ∙ not-false _ (c .before .before .before .before .before .if1 .left)) (c .before .before .before .before .prices-length .ensures)
 

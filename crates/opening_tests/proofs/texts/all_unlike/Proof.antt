@@ -1,18 +1,14 @@
-use Prim.Native.Nat.{ℕ, _+_, _*_, _-_, _^_, _≤_, _<_}
-use mathlib.Core.Path.{_≡_, refl, sym, ap, _∙_}
+use Prim.Native.Nat.{_-_, _≤_}
+use mathlib.Core.Path.{_≡_, refl}
 use native.Mathlib.Omega.{arith}
 use borrow.Author.Needs.{needs}
-use lib.ListN.{length, drop}
-use Rattle.network.specs.Lists.{same, some-of, unlike}
-use Rattle.network.specs.Tables.{cell, textAt}
+use lib.ListN.{drop}
+use Rattle.network.specs.Lists.{unlike}
 use Rattle.opening_tests.specs.Texts.{textsFrom}
 use Rattle.opening_tests.proofs.Scans.{unlike-next, unlike-stop, unlike-end}
 use Rattle.opening_tests.proofs.Names.{texts-length, text-met}
 use Rattle.opening_tests.proofs.texts.all_unlike.Statement.{statement}
 use Rattle.opening_tests.proofs.texts.all_unlike.Tie as tie
-use Rattle.opening_tests.proofs.texts.all_unlike.Reads as reads
-use Rattle.opening_tests.proofs.texts.all_unlike.Lts as lts
-use Rattle.opening_tests.proofs.texts.repeated.Reads as repeated-reads
 
 abbrev Inv-loop : tie.InvT-loop
 Inv-loop names start stride n k₀ k = (k ≤ n) × (unlike (textsFrom names start stride n) ≡ unlike (drop k (textsFrom names start stride n)))
@@ -20,31 +16,24 @@ Inv-loop names start stride n k₀ k = (k ≤ n) × (unlike (textsFrom names sta
 abbrev μ-loop : tie.MeasureT-loop
 μ-loop names start stride n k₀ k = n - k
 
--- src/texts.rt:87:5
 loop-holds : tie.Need-loop-holds Inv-loop μ-loop
 loop-holds c = (omega arith, refl)
 
--- src/texts.rt:88:12
 repeated-requires : tie.Need-repeated-requires Inv-loop μ-loop
 repeated-requires c κs = (c .before .before .before .pre .0, c .before .before .before .pre .1, omega arith)
 
--- src/texts.rt:89:13
 returns : tie.Need-returns Inv-loop μ-loop
 returns c = let a = c .before .before .before .before .before .args in unlike-stop (textsFrom (a .names .now) (a .start) (a .stride) (a .n)) (c .before .before .before .loop .k) (omega (arith, texts-length (a .names .now) (a .start) (a .stride) (a .n))) (text-met (a .names .now) (a .start) (a .stride) (a .n) (c .before .before .before .loop .k) _ _ (omega arith) (c .before .repeated .ensures) (c .if1 .taken)) (c .before .before .before .loop .inv .1)
 
--- src/texts.rt:91:9
 add-k : tie.Need-add-k Inv-loop μ-loop
 add-k c = search needs
 
--- src/texts.rt:87:5
 loop-less : tie.Need-loop-less Inv-loop μ-loop
 loop-less c = search needs
 
--- src/texts.rt:87:5
 loop-again : tie.Need-loop-again Inv-loop μ-loop
 loop-again c = let a = c .before .before .before .before .before .args in (omega arith, unlike-next (textsFrom (a .names .now) (a .start) (a .stride) (a .n)) (c .before .before .before .loop .k) (omega (arith, texts-length (a .names .now) (a .start) (a .stride) (a .n))) (text-met (a .names .now) (a .start) (a .stride) (a .n) (c .before .before .before .loop .k) _ _ (omega arith) (c .before .repeated .ensures) (c .if1 .left)) (c .before .before .before .loop .inv .1))
 
--- src/texts.rt:82:1
 returns-2 : tie.Need-returns-2 Inv-loop μ-loop
 returns-2 c = let a = c .before .before .before .args in unlike-end (textsFrom (a .names .now) (a .start) (a .stride) (a .n)) (c .before .loop .k) (omega (arith, texts-length (a .names .now) (a .start) (a .stride) (a .n))) (c .before .loop .inv .1)
 

@@ -1,50 +1,33 @@
-use Rattle.held.proofs.Ladder.{on, off, last, is-no, is-yes}
-use borrow.Author.Tests.{eq-eqb, ne-eqb, le-leb, lt-leb, not-true, not-false}
-use Prim.Native.Nat.{ℕ, _+_, _*_, _-_, _^_, _≤_, _<_}
-use mathlib.Core.Path.{_≡_, refl, sym, ap, _∙_}
+use Rattle.held.proofs.Ladder.{on, off}
+use borrow.Author.Tests.{not-true, not-false}
+use Prim.Native.Nat.{_-_}
+use mathlib.Core.Path.{sym, _∙_}
 use native.Mathlib.Omega.{arith}
-use borrow.Author.Needs.{needs}
-use lib.ListN.{length, drop}
-use mathlib.Core.Bool.{_&&_}
-use Rattle.opening_tests.specs.Texts.{Laid, Short}
 use Rattle.opening_tests.proofs.Names.{short-ones, admitted}
-use borrow.Author.Needs.{needs}
 use Rattle.opening_tests.proofs.texts.names_admitted.Statement.{statement}
 use Rattle.opening_tests.proofs.texts.names_admitted.Tie as tie
-use Rattle.opening_tests.proofs.texts.names_admitted.Reads as reads
-use Rattle.opening_tests.proofs.texts.names_admitted.Lts as lts
-use Rattle.opening_tests.proofs.texts.all_unlike.Reads as all-unlike-reads
-use Rattle.opening_tests.proofs.texts.lengths_fit.Reads as lengths-fit-reads
 
--- src/texts.rt:97:9
 lengths-fit-requires : tie.Need-lengths-fit-requires
 lengths-fit-requires c κs = record { some = omega arith; room = omega (arith, c .before .pre .long, c .before .pre .types) }
 
--- src/texts.rt:98:9
 returns : tie.Need-returns
 returns c = admitted (c .before .before .before .args .names .now) (c .before .before .before .args .sizes) (off _ _ (sym (c .before .lengths-fit .ensures) ∙ not-true _ (c .if1 .taken)))
 
--- src/texts.rt:100:9
 lengths-fit-requires-2 : tie.Need-lengths-fit-requires-2
 lengths-fit-requires-2 c κs = record { some = omega arith; room = omega (arith, c .before .before .before .pre .long, c .before .before .before .pre .shards) }
 
--- src/texts.rt:101:9
 returns-2 : tie.Need-returns-2
 returns-2 c = admitted (c .before .before .before .before .before .args .names .now) (c .before .before .before .before .before .args .sizes) (on _ _ _ (sym (c .before .before .before .lengths-fit .ensures) ∙ not-false _ (c .before .before .if1 .left)) (off _ _ (sym (c .before .lengths-fit2 .ensures) ∙ not-true _ (c .if2 .taken))))
 
--- src/texts.rt:103:9
 all-unlike-requires : tie.Need-all-unlike-requires
 all-unlike-requires c κs = (record { some = omega arith; room = omega (arith, c .before .before .before .before .before .pre .long, c .before .before .before .before .before .pre .types) }, short-ones (c .before .before .before .before .before .args .names .now) _ _ _ _ (omega arith) (sym (c .before .before .before .lengths-fit .ensures) ∙ not-false _ (c .before .before .if1 .left)))
 
--- src/texts.rt:104:9
 returns-3 : tie.Need-returns-3
 returns-3 c = admitted (c .before .before .before .before .before .before .before .args .names .now) (c .before .before .before .before .before .before .before .args .sizes) (on _ _ _ (sym (c .before .before .before .before .before .lengths-fit .ensures) ∙ not-false _ (c .before .before .before .before .if1 .left)) (on _ _ _ (sym (c .before .before .before .lengths-fit2 .ensures) ∙ not-false _ (c .before .before .if2 .left)) (off _ _ (sym (c .before .all-unlike .ensures) ∙ not-true _ (c .if3 .taken)))))
 
--- src/texts.rt:106:5
 all-unlike-requires-2 : tie.Need-all-unlike-requires-2
 all-unlike-requires-2 c κs = (record { some = omega arith; room = omega (arith, c .before .before .before .before .before .before .before .pre .long, c .before .before .before .before .before .before .before .pre .shards) }, short-ones (c .before .before .before .before .before .before .before .args .names .now) _ _ _ _ (omega arith) (sym (c .before .before .before .lengths-fit2 .ensures) ∙ not-false _ (c .before .before .if2 .left)))
 
--- src/texts.rt:91:1
 returns-4 : tie.Need-returns-4
 returns-4 c = admitted (c .before .before .before .before .before .before .before .before .args .names .now) (c .before .before .before .before .before .before .before .before .args .sizes) (on _ _ _ (sym (c .before .before .before .before .before .before .lengths-fit .ensures) ∙ not-false _ (c .before .before .before .before .before .if1 .left)) (on _ _ _ (sym (c .before .before .before .before .lengths-fit2 .ensures) ∙ not-false _ (c .before .before .before .if2 .left)) (on _ _ _ (sym (c .before .before .all-unlike .ensures) ∙ not-false _ (c .before .if3 .left)) (c .all-unlike2 .ensures))))
 

@@ -1,17 +1,14 @@
-use Prim.Native.Nat.{ℕ, _+_, _*_, _-_, _^_, _≤_, _<_}
-use mathlib.Core.Path.{_≡_, refl, sym, ap, _∙_}
+use Prim.Native.Nat.{_-_, _≤_}
+use mathlib.Core.Path.{_≡_, refl, sym, _∙_}
 use native.Mathlib.Omega.{arith}
 use borrow.Author.Needs.{needs}
-use lib.ListN.{length, drop}
+use lib.ListN.{drop}
 use Rattle.network.specs.Lists.{same}
 use Rattle.network.specs.Tables.{cell, textAt}
 use Rattle.opening_tests.proofs.Scans.{same-lengths}
 use Rattle.opening_tests.proofs.Names.{text-length, text-next, text-stop, text-end}
 use Rattle.opening_tests.proofs.texts.same_text.Statement.{statement}
 use Rattle.opening_tests.proofs.texts.same_text.Tie as tie
-use Rattle.opening_tests.proofs.texts.same_text.Reads as reads
-use Rattle.opening_tests.proofs.texts.same_text.Lts as lts
-use Rattle.opening_tests.proofs.texts.wide.Reads as wide-reads
 
 abbrev Inv-loop : tie.InvT-loop
 Inv-loop names i j n k₀ k = (k ≤ n) × (n ≡ cell names i) × (n ≡ cell names j) × (same (textAt names i) (textAt names j) ≡ same (drop k (textAt names i)) (drop k (textAt names j)))
@@ -19,71 +16,54 @@ Inv-loop names i j n k₀ k = (k ≤ n) × (n ≡ cell names i) × (n ≡ cell n
 abbrev μ-loop : tie.MeasureT-loop
 μ-loop names i j n k₀ k = n - k
 
--- src/texts.rt:52:18
 shared-slice-read-wide : tie.Need-shared-slice-read-wide Inv-loop μ-loop
 shared-slice-read-wide c = omega (arith, c .before .before .pre .0 .inside)
 
--- src/texts.rt:52:9
 wide-requires : tie.Need-wide-requires Inv-loop μ-loop
 wide-requires c κs = search needs
 
--- src/texts.rt:53:13
 shared-slice-read-wide-2 : tie.Need-shared-slice-read-wide-2 Inv-loop μ-loop
 shared-slice-read-wide-2 c = omega (arith, c .before .before .before .before .pre .1 .inside)
 
--- src/texts.rt:53:8
 wide-requires-2 : tie.Need-wide-requires-2 Inv-loop μ-loop
 wide-requires-2 c κs = search needs
 
--- src/texts.rt:54:9
 returns : tie.Need-returns Inv-loop μ-loop
 returns c = let a = c .before .before .before .before .before .before .args in sym (same-lengths (textAt (a .names .now) (a .i)) (textAt (a .names .now) (a .j)) (λ e. c .if1 .taken (c .before .wide2 .ensures .0 ∙ sym (text-length (a .names .now) (a .j) (c .before .before .before .before .before .before .pre .1)) ∙ sym e ∙ text-length (a .names .now) (a .i) (c .before .before .before .before .before .before .pre .0) ∙ sym (c .before .before .before .wide .ensures .0))))
 
--- src/texts.rt:57:5
 loop-holds : tie.Need-loop-holds Inv-loop μ-loop
 loop-holds c = (omega arith, c .before .before .before .wide .ensures .0, sym (c .if1 .left) ∙ c .before .wide2 .ensures .0, refl)
 
--- src/texts.rt:58:18
 add-if2 : tie.Need-add-if2 Inv-loop μ-loop
 add-if2 c = omega (arith, c .before .before .before .before .before .before .before .before .pre .0 .inside)
 
--- src/texts.rt:58:18
 add-if2-2 : tie.Need-add-if2-2 Inv-loop μ-loop
 add-if2-2 c = omega (arith, c .before .before .before .before .before .before .before .before .pre .0 .inside)
 
--- src/texts.rt:58:12
 shared-slice-read-if2 : tie.Need-shared-slice-read-if2 Inv-loop μ-loop
 shared-slice-read-if2 c = omega (arith, c .before .before .before .before .before .before .before .before .before .pre .0 .inside)
 
--- src/texts.rt:58:38
 add-if2-3 : tie.Need-add-if2-3 Inv-loop μ-loop
 add-if2-3 c = omega (arith, c .before .before .before .before .before .before .before .before .before .pre .1 .inside)
 
--- src/texts.rt:58:38
 add-if2-4 : tie.Need-add-if2-4 Inv-loop μ-loop
 add-if2-4 c = omega (arith, c .before .before .before .before .before .before .before .before .before .pre .1 .inside)
 
--- src/texts.rt:58:32
 shared-slice-read-if2-2 : tie.Need-shared-slice-read-if2-2 Inv-loop μ-loop
 shared-slice-read-if2-2 c = omega (arith, c .before .before .before .before .before .before .before .before .before .before .pre .1 .inside)
 
--- src/texts.rt:59:13
 returns-2 : tie.Need-returns-2 Inv-loop μ-loop
 returns-2 c = let a = c .before .before .before .before .before .before .before .before .before .before .before .args in text-stop (a .names .now) (a .i) (a .j) (c .before .before .before .before .before .before .before .before .before .before .before .pre .0) (c .before .before .before .before .before .before .before .before .before .before .before .pre .1) (c .before .before .before .before .loop .k) (omega arith) (omega arith) (c .if2 .taken) (c .before .before .before .before .loop .inv .3)
 
--- src/texts.rt:61:9
 add-k : tie.Need-add-k Inv-loop μ-loop
 add-k c = search needs
 
--- src/texts.rt:57:5
 loop-less : tie.Need-loop-less Inv-loop μ-loop
 loop-less c = search needs
 
--- src/texts.rt:57:5
 loop-again : tie.Need-loop-again Inv-loop μ-loop
 loop-again c = let a = c .before .before .before .before .before .before .before .before .before .before .before .args in (omega arith, c .before .before .before .before .loop .inv .1, c .before .before .before .before .loop .inv .2, text-next (a .names .now) (a .i) (a .j) (c .before .before .before .before .before .before .before .before .before .before .before .pre .0) (c .before .before .before .before .before .before .before .before .before .before .before .pre .1) (c .before .before .before .before .loop .k) (omega arith) (omega arith) (c .if2 .left) (c .before .before .before .before .loop .inv .3))
 
--- src/texts.rt:48:1
 returns-3 : tie.Need-returns-3 Inv-loop μ-loop
 returns-3 c = let a = c .before .before .before .before .before .before .before .before .args in text-end (a .names .now) (a .i) (a .j) (c .before .before .before .before .before .before .before .before .pre .0) (c .before .before .before .before .before .before .before .before .pre .1) (c .before .loop .k) (omega arith) (omega arith) (c .before .loop .inv .3)
 
