@@ -93,10 +93,10 @@ module _ (k : Taken) where
 -- ---- A row's words
 
 pub row-made : (out l : List ℕ) (b : ℕ) (c : Copy) (k : Taken) → b + rowWidth ≤ length out → l ≡ putWords out b (waiting.words c)
-    → set (set l (b + 12) (k .gossip)) (b + 13) (k .host) ≡ putWords out b (rowWords (rowAs c k))
+    → set (set l (b + waiting.width) (k .gossip)) (b + (waiting.width + 1)) (k .host) ≡ putWords out b (rowWords (rowAs c k))
 row-made out l b c k h e =
     let two : List ℕ = k .gossip ∷ k .host ∷ [] in
-    ap (λ (x : List ℕ). stores x b 12 two) e ∙ put-stores out b 12 (waiting.words c) two refl (omega arith)
+    ap (λ (x : List ℕ). stores x b waiting.width two) e ∙ put-stores out b waiting.width (waiting.words c) two refl (omega arith)
 
 -- ---- The counts
 

@@ -73,6 +73,10 @@ module _ (z : Extents) (tills blocks : List ℕ) (c : Copy) (m : Moved) where
 
 -- ---- One copy more behind those that are done
 
+pub length-map : {A B : Type 0} (f : A → B) (l : List A) → length (map f l) ≡ length l
+length-map f [] = refl
+length-map f (x ∷ l) = ap suc (length-map f l)
+
 module _ (s : Live) (c : Copy) where
   keep-snoc : (q : Copy → Bool) (cs : List Copy) → keep q (cs ++ (c ∷ [])) ≡ keep q cs ++ keep q (c ∷ [])
   keep-snoc q [] = refl
@@ -108,10 +112,6 @@ module _ (s : Live) (c : Copy) where
   map-snoc : (r : Row) (f : Copy → Row) (cs : List Copy) → f c ≡ r → map f (cs ++ (c ∷ [])) ≡ map f cs ++ (r ∷ [])
   map-snoc r f [] e = ap (λ (x : Row). x ∷ []) e
   map-snoc r f (x ∷ cs) e = ap (λ (l : List Row). f x ∷ l) (map-snoc r f cs e)
-
-  length-map : (f : Copy → Row) (cs : List Copy) → length (map f cs) ≡ length cs
-  length-map f [] = refl
-  length-map f (x ∷ cs) = ap suc (length-map f cs)
 
   dropped-lands : (cs : List Copy) → stops s c ≡ true → lands s (cs ++ (c ∷ [])) ≡ lands s cs
   dropped-lands cs h = keep-snoc (λ x. not (stops s x)) cs ∙ ap (λ (b : Bool). lands s cs ++ pick (not b) (c ∷ []) []) h ∙ append-nil (lands s cs)

@@ -17,6 +17,11 @@ const TILL: usize = 4;
 
 pub const ROW: usize = waiting::WIDTH + 2;
 
+// Where a row has its handlers.
+const GOSSIP: usize = waiting::WIDTH;
+
+const HOST: usize = waiting::WIDTH + 1;
+
 // A scope that is no shard.
 const GLOBAL: u64 = 16;
 
@@ -94,8 +99,8 @@ fn put_row(out: &mut [u64], b: usize, c: Copy, k: Taken)
     ensures { λ r. ⌜ now (out .exit) ≡ putWords (now (out .entry)) b (rowWords (rowAs c k)) ⌝ }
 {
     waiting::put(out, b, c);
-    out[b + 12] = k.gossip;
-    out[b + 13] = k.host;
+    out[b + GOSSIP] = k.gossip;
+    out[b + HOST] = k.host;
 }
 
 // The mark (t, id) goes, and the till's count follows.

@@ -1,7 +1,7 @@
 -- The ways through flush: the ladder of its questions, what a passed ladder says, and the call by the network's definitions. Assumes nothing.
 use mathlib.Core.Path.{_≡_, refl, sym, ap, _∙_, subst}
 use mathlib.Core.Bool.{Bool, true, false, cond}
-use mathlib.Core.List.{List, [], _∷_, _++_, map}
+use mathlib.Core.List.{List, [], _∷_, _++_}
 use Prim.Native.Nat.{ℕ, zero, suc, _+_, _*_, _-_, _/_, _≤_, _<_}
 use native.Mathlib.Nat.{div-mul-le-self, mul-le-mul-right, suc-mul}
 use native.Mathlib.Omega.{arith}
@@ -19,7 +19,7 @@ use Rattle.waiting.specs.Waiting.{copies, onTime}
 use Rattle.network.specs.Lists.{count}
 use Rattle.network.specs.Opening.{latestNow}
 use Rattle.network.specs.Live.{Live}
-use Rattle.network.specs.Flush.{Row, stops, rowOf, lands, rowsOf, dropsOf, handled, due}
+use Rattle.network.specs.Flush.{stops, rowOf, lands, rowsOf, dropsOf, handled, due}
 use Rattle.network.specs.Calls.{flush, movedBy}
 use Rattle.network.specs.Tables.{Tables, cell, live, sizesAt, setupWidth, netWidth, waitingAt, blocksAt}
 use Rattle.network.specs.Writes.{Reply, rowWidth, rowWords, outputOf, callReply}
@@ -34,6 +34,7 @@ use Rattle.reply.proofs.Laws as reply
 use Rattle.flush.specs.declared.Extents.{Extents}
 use Rattle.flush.specs.declared.Moved.{Moved}
 use Rattle.flush.specs.Pass.{ground, clearedOne, clearedBy, cleared, recorded, written, movedOf, Near}
+use Rattle.flush.proofs.Passing.{length-map}
 use Rattle.flush_calls.specs.declared.Flushed.{Flushed}
 use Rattle.flush_calls.specs.Call.{lend, flushedOf, flushCall, DoesFlush, rowsLent, flushLent, flushNumber, dueCount, roomNumber, extentsAt, refusedBy, flushedBy, Ready, Worked}
 use Rattle.flush_calls.proofs.Tables.{due-within, due-first, written-front, flush-tables}
@@ -216,10 +217,6 @@ cleared-same tills slots g s h [] seen = refl
 cleared-same tills slots g s h (c ∷ cs) seen =
     cleared-same tills slots g s h cs (clearedBy tills slots g c seen)
     ∙ ap (λ (x : Bool). cleared tills slots s cs (cond x (clearedOne tills slots c seen) seen)) (h c)
-
-length-map : (f : Copy → Row) (cs : List Copy) → length (map f cs) ≡ length cs
-length-map f [] = refl
-length-map f (c ∷ cs) = ap suc (length-map f cs)
 
 module _ (T : Tables) (s n t e w b l : List ℕ) where
   abbrev T₀ : Tables

@@ -1,14 +1,14 @@
 -- The loops: copies counted by their till, words copied, and the first copy's time. Assumes nothing.
 use mathlib.Core.Path.{_≡_, refl, sym, ap, _∙_}
-use mathlib.Core.Bool.{Bool}
-use mathlib.Core.List.{List, [], _∷_, _++_}
-use Prim.Native.Nat.{ℕ, zero, suc, _+_, _*_, _<_}
+use mathlib.Core.List.{List, _++_}
+use Prim.Native.Nat.{ℕ, zero, suc, _+_, _*_, _-_, _≤_, _<_}
+use native.Mathlib.Nat.{zero-add, add-zero, add-assoc}
 use native.Mathlib.Omega.{arith}
 use lib.Dec.{eqb}
 use lib.ListN.{length, getD, set, take, drop}
 use lib.Seq.{take-suc, drop-cons, set-at, append-snoc, length-take-le}
 use borrow.Author.Tests.{eq-eqb, ne-eqb}
-use Rattle.rows.proofs.Rows.{rows-more}
+use Rattle.rows.proofs.Rows.{rows-first, rows-next, rows-end}
 use Rattle.delivery.specs.declared.Delivery.{Delivery}
 use Rattle.delivery.specs.Delivery as delivery
 use Rattle.waiting.specs.declared.Copy.{Copy}
@@ -23,25 +23,27 @@ same-yes a b e = ap bit (sym (eq-eqb a b e))
 pub same-no : (a b : ℕ) → (a ≡ b → ⊥) → 0 ≡ bit (eqb a b)
 same-no a b e = ap bit (sym (ne-eqb a b e))
 
--- ---- Copies to a till
+-- ---- Copies to a till: k of the first i, and those that are left
 
-count-snoc : (p : Copy → Bool) (l : List Copy) (c : Copy) → count p (l ++ (c ∷ [])) ≡ count p l + bit (p c)
-count-snoc p [] c = let e : bit (p c) + 0 ≡ 0 + bit (p c) = omega arith in e
-count-snoc p (x ∷ l) c = let h = count-snoc p l c in let e : bit (p x) + count p (l ++ (c ∷ [])) ≡ bit (p x) + count p l + bit (p c) = omega arith in e
+module _ (t : ℕ) (w : List ℕ) (n : ℕ) where
+  -- how many of those from copy i on
+  unfoldable pub left : ℕ → ℕ
+  left i = count (λ (c : Copy). eqb (c .delivery .to) t) (waiting.copies (drop (i * waiting.width) w) (n - i))
 
-module _ (t : ℕ) (w : List ℕ) where
-  pub transit-none : 0 ≡ transitOf t w 0
-  unfolding transitOf
-  transit-none = refl
+  pub transit-first : transitOf t w n ≡ 0 + left 0
+  unfolding transitOf left
+  transit-first = sym (zero-add (left 0) ∙ ap (count (λ (c : Copy). eqb (c .delivery .to) t)) (rows-first waiting.width waiting.read w n))
 
-  pub transit-more : (i k b : ℕ) (d : Delivery) → k ≡ transitOf t w i → d ≡ delivery.read (drop (i * waiting.width) w) → b ≡ bit (eqb (d .to) t) → k + b ≡ transitOf t w (i + 1)
-  unfolding transitOf
-  transit-more i k b d ek ed eb =
-      let to : Copy → Bool = λ (c : Copy). eqb (c .delivery .to) t in
-      let c : Copy = waiting.read (drop (i * waiting.width) w) in
-      (λ j. ek j + (eb ∙ ap (λ (x : Delivery). bit (eqb (x .to) t)) ed) j)
-      ∙ sym (count-snoc to (waiting.copies w i) c)
-      ∙ ap (count to) (sym (rows-more waiting.width waiting.read w i))
+  pub transit-more : (i k b : ℕ) (d : Delivery) → i < n → transitOf t w n ≡ k + left i → d ≡ delivery.read (drop (i * waiting.width) w) → b ≡ bit (eqb (d .to) t) → transitOf t w n ≡ (k + b) + left (i + 1)
+  unfolding left
+  transit-more i k b d h e ed eb =
+      let next : left i ≡ bit (eqb (delivery.read (drop (i * waiting.width) w) .to) t) + left (i + 1) = ap (count (λ (c : Copy). eqb (c .delivery .to) t)) (rows-next waiting.width waiting.read w n i h) in
+      let hit : b ≡ bit (eqb (delivery.read (drop (i * waiting.width) w) .to) t) = eb ∙ ap (λ (x : Delivery). bit (eqb (x .to) t)) ed in
+      e ∙ ap (λ (x : ℕ). k + x) (next ∙ ap (λ (x : ℕ). x + left (i + 1)) (sym hit)) ∙ sym (add-assoc k b (left (i + 1)))
+
+  pub transit-end : (i k : ℕ) → n ≤ i → transitOf t w n ≡ k + left i → k ≡ transitOf t w n
+  unfolding left
+  transit-end i k h e = sym (e ∙ ap (λ (l : List Copy). k + count (λ (c : Copy). eqb (c .delivery .to) t) l) (rows-end waiting.width waiting.read w n i h) ∙ add-zero k)
 
 -- ---- Words
 

@@ -1,3 +1,4 @@
+use Rattle.waiting.specs.Waiting as waiting
 use Prim.Native.Nat.{_+_}
 use native.Mathlib.Omega.{arith}
 use lib.ListN.{length-set}
@@ -25,7 +26,7 @@ mul-out-2 : tie.Need-mul-out-2
 mul-out-2 c = search needs
 
 slice-write-out-2 : tie.Need-slice-write-out-2
-slice-write-out-2 c = omega (arith, c .before .before .put .kept .0, c .before .before .before .before .before .pre, length-set (c .before .before .put .last .0) (c .before .before .before .before .before .args .b + 12) (c .before .before .before .before .before .args .k .gossip))
+slice-write-out-2 c = omega (arith, c .before .before .put .kept .0, c .before .before .before .before .before .pre, length-set (c .before .before .put .last .0) (c .before .before .before .before .before .args .b + waiting.width) (c .before .before .before .before .before .args .k .gossip))
 
 same-length : tie.Need-same-length
 same-length c = search needs

@@ -1,19 +1,19 @@
-use Prim.Native.Nat.{ℕ, _-_, _≤_}
-use mathlib.Core.Path.{_≡_, ap, _∙_}
+use Prim.Native.Nat.{_+_, _-_, _≤_}
+use mathlib.Core.Path.{_≡_}
 use native.Mathlib.Omega.{arith}
 use Rattle.waiting_calls.specs.Call.{transitOf}
-use Rattle.waiting_calls.proofs.Work.{transit-none, transit-more}
+use Rattle.waiting_calls.proofs.Work.{left, transit-first, transit-more, transit-end}
 use Rattle.waiting_calls.proofs.count_to.Statement.{statement}
 use Rattle.waiting_calls.proofs.count_to.Tie as tie
 
 abbrev Inv-loop : tie.InvT-loop
-Inv-loop waiting n t k₀ i₀ k i = (i ≤ n) × (k ≤ i) × (k ≡ transitOf t waiting i)
+Inv-loop waiting n t k₀ i₀ k i = (i ≤ n) × (k ≤ i) × (transitOf t waiting n ≡ k + left t waiting n i)
 
 abbrev μ-loop : tie.MeasureT-loop
 μ-loop waiting n t k₀ i₀ k i = n - i
 
 loop-holds : tie.Need-loop-holds Inv-loop μ-loop
-loop-holds c = (omega arith, omega arith, transit-none (c .before .args .t) (c .before .args .waiting .now))
+loop-holds c = (omega arith, omega arith, transit-first (c .before .args .t) (c .before .args .waiting .now) (c .before .args .n))
 
 mul-get : tie.Need-mul-get Inv-loop μ-loop
 mul-get c = omega arith
@@ -34,10 +34,10 @@ loop-less : tie.Need-loop-less Inv-loop μ-loop
 loop-less c = omega arith
 
 loop-again : tie.Need-loop-again Inv-loop μ-loop
-loop-again c = let a = c .before .before .before .before .before .args in let l = c .before .before .before .loop in (omega arith, omega (arith, l .inv .1, c .same .ensures .1), transit-more (a .t) (a .waiting .now) (l .i) (l .k) (c .same .result) (c .before .get .result) (l .inv .2) (c .before .get .ensures) (c .same .ensures .0))
+loop-again c = let a = c .before .before .before .before .before .args in let l = c .before .before .before .loop in (omega arith, omega (arith, l .inv .1, c .same .ensures .1), transit-more (a .t) (a .waiting .now) (a .n) (l .i) (l .k) (c .same .result) (c .before .get .result) (c .before .before .loop-test .taken) (l .inv .2) (c .before .get .ensures) (c .same .ensures .0))
 
 returns : tie.Need-returns Inv-loop μ-loop
-returns c = let l = c .before .loop in c .before .loop .inv .2 ∙ ap (λ (i : ℕ). transitOf (c .before .before .before .args .t) (c .before .before .before .args .waiting .now) i) (let e : l .i ≡ c .before .before .before .args .n = omega arith in e)
+returns c = let a = c .before .before .before .args in transit-end (a .t) (a .waiting .now) (a .n) (c .before .loop .i) (c .before .loop .k) (c .loop-test .left) (c .before .loop .inv .2)
 
 pub count-to-spec : {M : Type 1} → statement M
 count-to-spec =
