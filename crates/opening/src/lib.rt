@@ -66,7 +66,7 @@ fn write_begun(
     fill::clear(log, log::RECORDS);
 }
 
-// How many elements the lent tables have is asked before anything is written.
+// An opening: refused with nothing changed, or every table written. `key` is the fault stream's, 32 bytes; `masks` has the shards of each till.
 pub fn open_network(
     config: NetworkConfig,
     sizes: NetworkSizes,
