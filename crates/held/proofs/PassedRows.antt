@@ -1,10 +1,10 @@
 -- What question 1, answered "yes", says of words, rules, keys, tills, blocks and seen. Assumes nothing.
 use mathlib.Core.Path.{_≡_}
-use mathlib.Core.Bool.{true, _&&_}
+use mathlib.Core.Bool.{true}
 use mathlib.Core.List.{List}
 use Prim.Native.Nat.{ℕ, _+_, _*_, _^_, _≤_, _<_}
 use native.Mathlib.Omega.{arith}
-use lib.Dec.{ltb, leb}
+use lib.Dec.{leb}
 use lib.ListN.{length, getD}
 use borrow.Author.Tests.{eqb-true, leb-true, ltb-true}
 use Rattle.rows.specs.Table.{rowsOf}

@@ -1,7 +1,7 @@
 -- Tests of rows and columns: the turns of a scan over a table's rows, and tests that say the same. Assumes nothing.
 use mathlib.Core.Path.{_≡_, refl, sym, ap, _∙_}
 use mathlib.Core.Bool.{Bool, true, false, not, _&&_}
-use mathlib.Core.List.{List, [], _∷_}
+use mathlib.Core.List.{List}
 use Prim.Native.Nat.{ℕ, zero, suc, _+_, _*_, _^_, _%_, _≤_, _<_}
 use native.Mathlib.Nat.{add-zero, one-mul, mul-le-mul}
 use native.Mathlib.Omega.{arith}

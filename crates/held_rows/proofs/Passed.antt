@@ -24,7 +24,7 @@ use Rattle.network.specs.Lists.{below}
 use Rattle.network.specs.Opening.{longestName, longestKey, longestWire}
 use Rattle.network.specs.Live.{ringsOf}
 use Rattle.network.specs.Tables.{cell, sizesAt, settingsAt, waitingAt, namesWidth, nameAt, shardAt}
-use Rattle.network.specs.Real.{pricesWidth, pairCells, regionAt}
+use Rattle.network.specs.Real.{pairCells, regionAt}
 use Rattle.held.specs.Held.{waitingHeld, logHeld, ringsHeld, namesHeld, pricesHeld}
 use Rattle.held.proofs.Ladder.{both, only}
 use Rattle.held.proofs.Rows.{below-at}

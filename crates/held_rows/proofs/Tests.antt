@@ -2,14 +2,13 @@
 use mathlib.Core.Path.{_≡_, refl, sym, ap, _∙_}
 use mathlib.Core.Bool.{Bool, true, false, not, cond, _&&_}
 use mathlib.Core.List.{List, [], _∷_}
-use Prim.Native.Nat.{ℕ, zero, suc, _+_, _*_, _-_, _≤_, _<_}
+use Prim.Native.Nat.{ℕ, _+_, _*_, _-_, _≤_, _<_}
 use native.Mathlib.Nat.{mul-le-mul}
 use native.Mathlib.Omega.{arith}
 use lib.Dec.{eqb, ltb, leb}
 use lib.ListN.{length, getD, take}
 use borrow.Author.Tests.{eq-eqb, ne-eqb, ltb-true, ltb-false, le-leb, lt-leb, not-true, not-false}
 use Rattle.rows.specs.Rows.{allOf}
-use Rattle.rows.specs.Lists.{upTo}
 use Rattle.rows.specs.Table.{rowsOf}
 use Rattle.delivery.specs.declared.Delivery.{Delivery}
 use Rattle.waiting.specs.Waiting as waiting
@@ -22,7 +21,6 @@ use Rattle.scan.specs.Scan.{near, nearEntry, copiesNear, logNear, ringNear, rin
 use Rattle.scan.proofs.Laws.{goes-on, stops, ends, number-row, numbers-long, column-long, column-row}
 use Rattle.network.specs.Lists.{below}
 use Rattle.network.specs.Opening.{Sizes, Plan, longestName, longestKey}
-use Rattle.network.specs.Live.{Carried}
 use Rattle.network.specs.Tables.{cell, sizesAt, settingsAt, nameAt, shardAt}
 use Rattle.network.specs.Real.{pairCells, regionAt}
 use Rattle.network.specs.Lent.{nearDelivery, nearCopy, nearCarried}

@@ -30,6 +30,10 @@ keyWidth = 8
 unfoldable pub keysOf : Settings → List ℕ
 keysOf x = let n = x .sizes .tills in flat (λ i. linkKey (x .seed) (i / n) (i % n)) (upTo (n * n) (λ i. i))
 
+-- the fault stream's key as the settings have it: of each word the low 32 bits
+unfoldable pub faultKeyOf : List ℕ → List ℕ
+faultKeyOf key = upTo keyWidth (λ i. cell key i % 2 ^ 32)
+
 abbrev pub keyOf : (tills : ℕ) → List ℕ → (from to : ℕ) → List ℕ
 keyOf tills keys from to = take keyWidth (drop ((from * tills + to) * keyWidth) keys)
 
@@ -89,7 +93,7 @@ drawsOf x names keys prices =
             words = words + latencyWords (key from to) words (k .base .ns) (rateOf (c .jitter)) (rateOf (c .spike));
           };
       index = λ from to n words. record { value = whole32At (key from to) words n; words = words + words32At (key from to) words n };
-      decide = λ m rules words. decideOf (x .faultKey) m rules words;
+      decide = λ m rules words. decideOf (faultKeyOf (x .faultKey)) m rules words;
       id = idOf names;
     }
 
