@@ -20,7 +20,7 @@ use Rattle.network.specs.Real.{keyWidth, pairCells, pricesWidth}
 use Rattle.network.specs.Open.{openNumber, openCall}
 use Rattle.opening_tests.specs.declared.NetworkSizes.{NetworkSizes}
 use Rattle.opening_tests.specs.Given.{sizesOf, keyBytes}
-use Rattle.opening.specs.declared.Opened.{Opened}
+use Rattle.reply.specs.declared.Done.{Done}
 
 abbrev pub tables : (setup net names tills words keys prices seen waiting rings rules blocks log : List ℕ) → Tables
 tables setup net names tills words keys prices seen waiting rings rules blocks log = record {
@@ -41,11 +41,11 @@ tables setup net names tills words keys prices seen waiting rings rules blocks l
 
 -- ---- The contract
 
-abbrev pub openedOf : ℕ → Opened
+abbrev pub openedOf : ℕ → Done
 openedOf n = record { number = n }
 
 -- the number of the first question whose answer is "no", or 0; and every lent table at exit
-unfoldable pub Does : Settings → (masks : List ℕ) → (T T′ : Tables) → Opened → Type 0
+unfoldable pub Does : Settings → (masks : List ℕ) → (T T′ : Tables) → Done → Type 0
 Does x masks T T′ r = (r ≡ openedOf (openNumber x masks T)) × (T′ ≡ openCall x masks T)
 
 -- ---- What the parts write

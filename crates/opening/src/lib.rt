@@ -10,17 +10,12 @@ use opening_tests::NetworkConfig;
 use opening_tests::NetworkSizes;
 use opening_tests::RegionPlan;
 use opening_tests::TableSizes;
+use reply::Done;
 
 mod fill;
 mod links;
 mod prices;
 mod settings;
-
-// 0, or the number of the question that refused the opening.
-#[repr(C)]
-pub struct Opened {
-    pub number: u64,
-}
 
 // Cells of a ring's head.
 const HEAD: usize = 2;
@@ -66,7 +61,7 @@ fn write_begun(
     fill::clear(log, log::RECORDS);
 }
 
-// How many elements the lent tables have is asked before anything is written.
+// An opening: refused with nothing changed, or every table written. `key` is the fault stream's, 32 bytes; `masks` has the shards of each till.
 pub fn open_network(
     config: NetworkConfig,
     sizes: NetworkSizes,
@@ -87,7 +82,7 @@ pub fn open_network(
     rules: &[u64],
     blocks: &[u64],
     log: &mut [u64],
-) -> Opened
+) -> Done
     ensures { λ r. ⌜ Does (settingsOf config sizes plan seed (now (key .entry))) (now (masks .entry))
         (tables (now (setup .entry)) (now (net .entry)) (now (names .entry)) (now (tills .entry)) (now (words .entry)) (now (keys .entry)) (now (prices .entry)) (now (seen .entry)) (now (waiting .entry)) (now (rings .entry)) (now (rules .entry)) (now (blocks .entry)) (now (log .entry)))
         (tables (now (setup .exit)) (now (net .exit)) (now (names .entry)) (now (tills .exit)) (now (words .exit)) (now (keys .exit)) (now (prices .exit)) (now (seen .exit)) (now (waiting .entry)) (now (rings .exit)) (now (rules .entry)) (now (blocks .entry)) (now (log .exit)))
@@ -110,9 +105,9 @@ pub fn open_network(
     };
     let number = opening_tests::refusal(config, sizes, plan, lengths, key, masks, names);
     if number != 0 {
-        return Opened { number };
+        return Done { number };
     }
     write_settled(config, sizes, plan, seed, key, setup, words, keys, prices);
     write_begun(sizes, masks, net, tills, seen, rings, log);
-    Opened { number }
+    Done { number }
 }

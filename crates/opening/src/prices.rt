@@ -6,7 +6,7 @@ ghost use lib.ListN.{length, take, drop, replicate};
 ghost use Rattle.rows.specs.Lists.{upTo};
 ghost use Rattle.geography.specs.Geography.{mostRegions, regionOf, pricesOf};
 ghost use Rattle.network.specs.Opening.{mostTills};
-ghost use Rattle.network.specs.Real.{pricesWidth, pairCells};
+ghost use Rattle.network.specs.Real.{pricesWidth};
 ghost use Rattle.opening_tests.specs.Given.{planOf};
 ghost use Rattle.opening.specs.Opens.{pricesFor};
 use crate::fill;

@@ -1,12 +1,12 @@
 -- The opening's questions 1, 2, 3 and 5, of the lengths of the lent tables: `Open.openNumber` by what it reads of them (`Number.number-is`).
-use Prim.Native.Nat.{ℕ, _+_, _*_}
-use mathlib.Core.Bool.{Bool, cond}
+use Prim.Native.Nat.{ℕ, _+_}
+use mathlib.Core.Bool.{Bool}
 use mathlib.Core.List.{List, [], _∷_, _++_}
 use lib.Dec.{eqb}
 use lib.ListN.{length}
 use Rattle.rows.specs.Rows.{allOf}
 use Rattle.network.specs.Lists.{every, within}
-use Rattle.network.specs.Opening.{Sizes, Settings}
+use Rattle.network.specs.Opening.{Settings}
 use Rattle.network.specs.Questions.{ask, firstNo}
 use Rattle.network.specs.Limits.{sizeTests, textTests, unlikeTests, rangeTests}
 use Rattle.network.specs.Real.{keyWidth, pricesWidth}

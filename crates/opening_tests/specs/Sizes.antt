@@ -1,6 +1,5 @@
 -- How long the tables of an opening are, for a caller that lends them: zeros where the sizes are not within limits.
-use Prim.Native.Nat.{ℕ}
-use mathlib.Core.Bool.{Bool, cond}
+use mathlib.Core.Bool.{cond}
 use Rattle.network.specs.Lists.{every}
 use Rattle.network.specs.Opening.{Settings}
 use Rattle.network.specs.Limits.{sizeTests}

@@ -2,7 +2,6 @@
 ghost use mathlib.Core.Path.{_≡_};
 ghost use Prim.Native.Nat.{_+_, _*_, _<_};
 ghost use lib.Dec.{eqb};
-ghost use lib.ListN.{length};
 ghost use Rattle.network.specs.Lists.{every};
 ghost use Rattle.network.specs.Open.{lengthsOf};
 ghost use Rattle.opening_tests.specs.Given.{sized, keyWords};

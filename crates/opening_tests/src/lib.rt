@@ -115,7 +115,7 @@ pub fn masks_admitted(masks: &[u64], shards: u64) -> bool
     requires { ⌜ shards ≤ mostShards ⌝ }
     ensures { λ r. ⌜ r ≡ allOf (λ m. within m shards) (now (masks .entry)) ⌝ }
 {
-    let limit = 1u64 << shards;
+    let limit = held::power(shards);
     let mut i: usize = 0;
     while i < masks.len() {
         if limit <= masks[i] {

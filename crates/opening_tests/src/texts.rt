@@ -1,9 +1,9 @@
 // Question 2, of the names: type names and shard keys within their lengths, and no two alike. A text is a length and so many bytes; the texts of a list start `stride` bytes apart.
 ghost use mathlib.Core.Path.{_≡_};
 ghost use mathlib.Core.List.{[], _∷_};
-ghost use Prim.Native.Nat.{_+_, _*_, _≤_, _<_};
+ghost use Prim.Native.Nat.{_+_, _*_, _<_};
 ghost use lib.Dec.{leb};
-ghost use lib.ListN.{length, drop};
+ghost use lib.ListN.{drop};
 ghost use Rattle.rows.specs.Rows.{allOf};
 ghost use Rattle.network.specs.Lists.{every, below, same, some-of, unlike};
 ghost use Rattle.network.specs.Tables.{cell, textAt};

@@ -6,7 +6,7 @@ use lib.ListN.{length, drop}
 use Rattle.rows.specs.Rows.{allOf}
 use Rattle.network.specs.Lists.{within}
 use Rattle.opening_tests.proofs.Scans.{all-next, all-stop, all-end}
-use Rattle.opening_tests.proofs.Masks.{beyond, inside, power}
+use Rattle.opening_tests.proofs.Masks.{beyond, inside}
 use Rattle.opening_tests.proofs.masks_admitted.Statement.{statement}
 use Rattle.opening_tests.proofs.masks_admitted.Tie as tie
 
@@ -16,11 +16,11 @@ Inv-loop masks shards limit i₀ i = (i ≤ length masks) × (limit ≡ 2 ^ shar
 abbrev μ-loop : tie.MeasureT-loop
 μ-loop masks shards limit i₀ i = length masks - i
 
-shl-limit : tie.Need-shl-limit Inv-loop μ-loop
-shl-limit c = search needs
+power-requires : tie.Need-power-requires Inv-loop μ-loop
+power-requires c κs = search needs
 
 loop-holds : tie.Need-loop-holds Inv-loop μ-loop
-loop-holds c = (omega arith, power _ (c .pre), refl)
+loop-holds c = (omega arith, c .power .ensures, refl)
 
 mul-if1 : tie.Need-mul-if1 Inv-loop μ-loop
 mul-if1 c = search needs
@@ -29,7 +29,7 @@ shared-slice-read-if1 : tie.Need-shared-slice-read-if1 Inv-loop μ-loop
 shared-slice-read-if1 c = search needs
 
 returns : tie.Need-returns Inv-loop μ-loop
-returns c = all-stop (λ m. within m (c .before .before .before .before .args .shards)) (c .before .before .before .before .args .masks .now) (c .before .before .before .loop .i) 0 (omega arith) (beyond _ _ _ (c .before .before .before .loop .inv .1) (c .if1 .taken)) (c .before .before .before .loop .inv .2)
+returns c = all-stop (λ m. within m (c .before .before .before .before .before .before .args .shards)) (c .before .before .before .before .before .before .args .masks .now) (c .before .before .before .loop .i) 0 (omega arith) (beyond _ _ _ (c .before .before .before .loop .inv .1) (c .if1 .taken)) (c .before .before .before .loop .inv .2)
 
 add-i : tie.Need-add-i Inv-loop μ-loop
 add-i c = search needs
@@ -38,10 +38,10 @@ loop-less : tie.Need-loop-less Inv-loop μ-loop
 loop-less c = search needs
 
 loop-again : tie.Need-loop-again Inv-loop μ-loop
-loop-again c = (omega arith, c .before .before .before .loop .inv .1, all-next (λ m. within m (c .before .before .before .before .args .shards)) (c .before .before .before .before .args .masks .now) (c .before .before .before .loop .i) 0 (omega arith) (inside _ _ _ (c .before .before .before .loop .inv .1) (c .if1 .left)) (c .before .before .before .loop .inv .2))
+loop-again c = (omega arith, c .before .before .before .loop .inv .1, all-next (λ m. within m (c .before .before .before .before .before .before .args .shards)) (c .before .before .before .before .before .before .args .masks .now) (c .before .before .before .loop .i) 0 (omega arith) (inside _ _ _ (c .before .before .before .loop .inv .1) (c .if1 .left)) (c .before .before .before .loop .inv .2))
 
 returns-2 : tie.Need-returns-2 Inv-loop μ-loop
-returns-2 c = all-end (λ m. within m (c .before .before .args .shards)) (c .before .before .args .masks .now) (c .before .loop .i) 0 (omega arith) (c .before .loop .inv .2)
+returns-2 c = all-end (λ m. within m (c .before .before .before .before .args .shards)) (c .before .before .before .before .args .masks .now) (c .before .loop .i) 0 (omega arith) (c .before .loop .inv .2)
 
 pub masks-admitted-spec : {M : Type 1} → statement M
 masks-admitted-spec =
@@ -49,7 +49,7 @@ masks-admitted-spec =
     (tie.spec
     Inv-loop
     μ-loop
-    shl-limit
+    power-requires
     loop-holds
     mul-if1
     shared-slice-read-if1
