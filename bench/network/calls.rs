@@ -65,6 +65,14 @@ pub struct Value {
     pub value: u64,
 }
 
+/// How many marks, or copies, stand in the output.
+#[repr(C)]
+#[derive(Clone, Copy, Debug)]
+pub struct Counted {
+    pub number: u64,
+    pub count: u64,
+}
+
 #[repr(C)]
 #[derive(Clone, Copy, Debug)]
 pub struct Accepted {
@@ -120,7 +128,7 @@ type M = *mut u64;
 declare! {
     gossip_table_sizes(sizes: NetworkSizes, plan: RegionPlan) -> TableSizes;
     gossip_open(config: NetworkConfig, sizes: NetworkSizes, plan: RegionPlan, seed: u64, key: *const u8, key_n: usize, masks: P, masks_n: usize,
-        setup: M, setup_n: usize, net: M, net_n: usize, names: *const u8, names_n: usize, tills: M, tills_n: usize, words: M, words_n: usize,
+        names: *const u8, names_n: usize, setup: M, setup_n: usize, net: M, net_n: usize, tills: M, tills_n: usize, words: M, words_n: usize,
         keys: *mut u32, keys_n: usize, prices: M, prices_n: usize, seen: M, seen_n: usize, waiting: P, waiting_n: usize, rings: M, rings_n: usize,
         rules: P, rules_n: usize, blocks: P, blocks_n: usize, log: M, log_n: usize) -> Done;
     gossip_accept(setup: P, setup_n: usize, net: M, net_n: usize, names: *const u8, names_n: usize, tills: P, tills_n: usize, words: M, words_n: usize,
@@ -133,7 +141,7 @@ declare! {
     gossip_bring_up(setup: P, setup_n: usize, tills: M, tills_n: usize, t: u64, shards: u64) -> Done;
     gossip_set_handlers(setup: P, setup_n: usize, tills: M, tills_n: usize, t: u64, gossip: u64, host: u64) -> Done;
     gossip_is_down(setup: P, setup_n: usize, tills: P, tills_n: usize, t: u64) -> Value;
-    gossip_marks(setup: P, setup_n: usize, seen: P, seen_n: usize, out: M, out_n: usize, t: u64) -> Value;
+    gossip_marks(setup: P, setup_n: usize, seen: P, seen_n: usize, t: u64, out: M, out_n: usize) -> Counted;
     gossip_block(setup: P, setup_n: usize, net: M, net_n: usize, blocks: M, blocks_n: usize, from: u64, to: u64) -> Done;
     gossip_block_during(setup: P, setup_n: usize, net: M, net_n: usize, blocks: M, blocks_n: usize, from: u64, to: u64, start: u64, end: u64) -> Done;
     gossip_unblock(setup: P, setup_n: usize, net: M, net_n: usize, blocks: M, blocks_n: usize, from: u64, to: u64) -> Done;
@@ -144,7 +152,7 @@ declare! {
     gossip_decide(setup: P, setup_n: usize, net: M, net_n: usize, rules: M, rules_n: usize, from: u64, to: u64, kind: u64, tier: u64, now: u64) -> Value;
     gossip_in_transit(setup: P, setup_n: usize, net: P, net_n: usize, waiting: P, waiting_n: usize, t: u64) -> Value;
     gossip_next_time(setup: P, setup_n: usize, net: P, net_n: usize, waiting: P, waiting_n: usize) -> Value;
-    gossip_waiting(setup: P, setup_n: usize, net: P, net_n: usize, waiting: P, waiting_n: usize, out: M, out_n: usize) -> Value;
+    gossip_waiting(setup: P, setup_n: usize, net: P, net_n: usize, waiting: P, waiting_n: usize, out: M, out_n: usize) -> Counted;
     gossip_drain(setup: P, setup_n: usize, log: M, log_n: usize, out: M, out_n: usize) -> Drained;
     gossip_tally(setup: P, setup_n: usize, log: P, log_n: usize, class: u64) -> Tallied;
     gossip_digest(input: *const u8, input_n: usize) -> Hashed;
@@ -187,13 +195,6 @@ pub struct Network {
     pub blocks: Vec<u64>,
     pub log: Vec<u64>,
     pub out: Vec<u64>,
-}
-
-/// Pointer and length of a slice.
-macro_rules! s {
-    ($e:expr) => {
-        ($e.as_ptr(), $e.len())
-    };
 }
 
 pub fn digest(input: &[u8]) -> Hashed {
@@ -240,7 +241,7 @@ impl Network {
         let d = unsafe {
             gossip_open(
                 o.config, sizes, o.plan, o.seed, o.key.as_ptr(), o.key.len(), o.masks.as_ptr(), o.masks.len(),
-                w.setup.as_mut_ptr(), w.setup.len(), w.net.as_mut_ptr(), w.net.len(), w.names.as_ptr(), w.names.len(),
+                w.names.as_ptr(), w.names.len(), w.setup.as_mut_ptr(), w.setup.len(), w.net.as_mut_ptr(), w.net.len(),
                 w.tills.as_mut_ptr(), w.tills.len(), w.words.as_mut_ptr(), w.words.len(), w.keys.as_mut_ptr(), w.keys.len(),
                 w.prices.as_mut_ptr(), w.prices.len(), w.seen.as_mut_ptr(), w.seen.len(), w.waiting.as_ptr(), w.waiting.len(),
                 w.rings.as_mut_ptr(), w.rings.len(), w.rules.as_ptr(), w.rules.len(), w.blocks.as_ptr(), w.blocks.len(),
@@ -293,9 +294,9 @@ impl Network {
         unsafe { gossip_is_down(self.setup.as_ptr(), self.setup.len(), self.tills.as_ptr(), self.tills.len(), t) }
     }
 
-    pub fn marks(&mut self, t: u64) -> Value {
-        let out = s!(self.seen);
-        unsafe { gossip_marks(self.setup.as_ptr(), self.setup.len(), out.0, out.1, self.out.as_mut_ptr(), self.out.len(), t) }
+    /// The ids stand at the front of `self.out`.
+    pub fn marks(&mut self, t: u64) -> Counted {
+        unsafe { gossip_marks(self.setup.as_ptr(), self.setup.len(), self.seen.as_ptr(), self.seen.len(), t, self.out.as_mut_ptr(), self.out.len()) }
     }
 
     pub fn block(&mut self, from: u64, to: u64) -> Done {
@@ -338,8 +339,8 @@ impl Network {
         unsafe { gossip_next_time(self.setup.as_ptr(), self.setup.len(), self.net.as_ptr(), self.net.len(), self.waiting.as_ptr(), self.waiting.len()) }
     }
 
-    /// The copies stand at the front of `self.out`; the answer's value is their number.
-    pub fn waiting(&mut self) -> Value {
+    /// The copies stand at the front of `self.out`.
+    pub fn waiting(&mut self) -> Counted {
         unsafe { gossip_waiting(self.setup.as_ptr(), self.setup.len(), self.net.as_ptr(), self.net.len(), self.waiting.as_ptr(), self.waiting.len(), self.out.as_mut_ptr(), self.out.len()) }
     }
 

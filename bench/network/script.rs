@@ -223,8 +223,8 @@ fn seen(n: &mut Network, t: u64, o: &mut String) {
     if v.number != 0 {
         return done(o, "seen", v.number);
     }
-    let _ = write!(o, "seen {t} {}", v.value);
-    for id in &n.out[..v.value as usize] {
+    let _ = write!(o, "seen {t} {}", v.count);
+    for id in &n.out[..v.count as usize] {
         let _ = write!(o, " {id:016x}");
     }
     o.push('\n');
@@ -235,8 +235,8 @@ fn waiting(n: &mut Network, o: &mut String) {
     if v.number != 0 {
         return done(o, "waiting", v.number);
     }
-    let _ = writeln!(o, "waiting {}", v.value);
-    for c in n.out[..v.value as usize * COPY].chunks(COPY) {
+    let _ = writeln!(o, "waiting {}", v.count);
+    for c in n.out[..v.count as usize * COPY].chunks(COPY) {
         let _ = writeln!(o, "copy {}", copy(c));
     }
 }
