@@ -1,20 +1,18 @@
 -- What question 1, answered "yes", says of words, rules, keys, tills, blocks and seen. Assumes nothing.
-use mathlib.Core.Path.{_≡_, sym, ap, _∙_}
-use mathlib.Core.Bool.{true, _&&_}
+use mathlib.Core.Path.{_≡_}
+use mathlib.Core.Bool.{true}
 use mathlib.Core.List.{List}
 use Prim.Native.Nat.{ℕ, _+_, _*_, _^_, _≤_, _<_}
 use native.Mathlib.Omega.{arith}
-use lib.Dec.{ltb, leb}
+use lib.Dec.{leb}
 use lib.ListN.{length, getD}
 use borrow.Author.Tests.{eqb-true, leb-true, ltb-true}
 use Rattle.rows.specs.Table.{rowsOf}
 use Rattle.rows.proofs.Rows.{length-rows}
-use Rattle.rows.proofs.Lists.{length-upTo, getD-upTo}
 use Rattle.rows.proofs.Scans.{pass-at}
 use Rattle.rules.specs.Rules.{ruleSlots}
 use Rattle.blocks.specs.Blocks.{blockSlots}
 use Rattle.blocks.specs.declared.BlockWindow.{BlockWindow}
-use Rattle.network.specs.Lists.{below}
 use Rattle.network.specs.Opening.{Sizes, links}
 use Rattle.network.specs.Live.{Till}
 use Rattle.network.specs.Tables.{cell, sizesAt, tillForm, ruleForm, blockForm, blocksAt}
@@ -22,6 +20,7 @@ use Rattle.network.specs.Real.{keyWidth}
 use Rattle.network.specs.Lent.{nearTill, nearBlock}
 use Rattle.held.specs.Held.{wordsHeld, rulesHeld, keysHeld, tillsHeld, blocksHeld, seenHeld}
 use Rattle.held.proofs.Ladder.{both, only}
+use Rattle.held.proofs.Rows.{below-at}
 
 pub words-say : (words : List ℕ) → wordsHeld words ≡ true → length words ≡ links
 unfolding wordsHeld
@@ -102,9 +101,5 @@ seen-says setup seen h =
     let limit = sizesAt setup .seenSlots in
     record {
       size = eqb-true _ _ (a .0);
-      counts = λ t l.
-          let k = length-upTo n (λ (i : ℕ). i) in
-          let at : getD (below n) t t ≡ t = getD-upTo n (λ (i : ℕ). i) t t l in
-          leb-true (cell seen t) limit
-          (ap (λ (i : ℕ). leb (cell seen i) limit) (sym at) ∙ pass-at (λ (i : ℕ). leb (cell seen i) limit) t (below n) t (omega arith) (only _ (a .1)));
+      counts = λ t l. leb-true (cell seen t) limit (below-at (λ (i : ℕ). leb (cell seen i) limit) n t (only _ (a .1)) l);
     }

@@ -1,7 +1,7 @@
 -- Tests of rows and columns: the turns of a scan over a table's rows, and tests that say the same. Assumes nothing.
 use mathlib.Core.Path.{_≡_, refl, sym, ap, _∙_}
 use mathlib.Core.Bool.{Bool, true, false, not, _&&_}
-use mathlib.Core.List.{List, [], _∷_}
+use mathlib.Core.List.{List}
 use Prim.Native.Nat.{ℕ, zero, suc, _+_, _*_, _^_, _%_, _≤_, _<_}
 use native.Mathlib.Nat.{add-zero, one-mul, mul-le-mul}
 use native.Mathlib.Omega.{arith}
@@ -15,6 +15,8 @@ use Rattle.rows.specs.Lists.{upTo}
 use Rattle.rows.specs.Table.{Form, rowsOf}
 use Rattle.rows.proofs.Rows.{length-rows}
 use Rattle.rows.proofs.Table.{row-at}
+use Rattle.rows.proofs.Lists.{length-upTo, getD-upTo}
+use Rattle.rows.proofs.Scans.{pass-at}
 use Rattle.scan.specs.Scan.{columnWithin}
 use Rattle.scan.proofs.Laws.{goes-on, stops, ends}
 use Rattle.network.specs.Lists.{below}
@@ -74,6 +76,13 @@ unfolding columnWithin
 counts-column ws n limit =
     alike n (λ (c : ℕ). leb c limit) (λ i. getD ws (0 + i * 1) 0) (λ (t : ℕ). leb (cell ws t) limit) (λ i. i)
     (λ i h. let e : 0 + i * 1 ≡ i = omega arith in ap (λ (k : ℕ). leb (getD ws k 0) limit) e)
+
+-- a test of every number below n, at one of them
+pub below-at : (p : ℕ → Bool) (n k : ℕ) → allOf p (below n) ≡ true → k < n → p k ≡ true
+below-at p n k e h =
+    let long = length-upTo n (λ (i : ℕ). i) in
+    let at : getD (below n) k k ≡ k = getD-upTo n (λ (i : ℕ). i) k k h in
+    ap p (sym at) ∙ pass-at p k (below n) k (omega arith) e
 
 -- ---- Numbers
 

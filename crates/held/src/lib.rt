@@ -226,8 +226,8 @@ pub fn keys_held(setup: &[u64], keys: &[u32]) -> bool
     keys.len() as u64 == n * n * KEY_WIDTH
 }
 
-// 2^n
-fn power(n: u64) -> u64
+// 2^n: a mask of n types or shards is below it.
+pub fn power(n: u64) -> u64
     requires { ⌜ n ≤ 16 ⌝ }
     ensures { λ r. ⌜ r ≡ 2 ^ n ⌝ }
 {

@@ -1,18 +1,15 @@
-use Rattle.held.proofs.Rows.{row-on, row-off, rows-done, till-row, block-row, counts-column, power-is, product}
-use Rattle.held.specs.Held.{setupHeld, netHeld, wordsHeld, rulesHeld, keysHeld, masksBelow, tillsHeld, endsBelow, blocksHeld, seenHeld}
-use Rattle.network.specs.Tables.{sizesAt, tillForm, blockForm}
+use Rattle.held.proofs.Rows.{row-on, row-off, rows-done}
+use Rattle.held.specs.Held.{masksBelow}
+use Rattle.network.specs.Tables.{tillForm}
 use Rattle.rows.specs.Table.{rowsOf}
 use Rattle.rows.specs.Rows.{allOf}
-use lib.ListN.{length, getD, take, drop}
+use lib.ListN.{take}
 use mathlib.Core.Bool.{true}
 use native.Mathlib.Omega.{arith}
-use Prim.Native.Nat.{ℕ, zero, suc, _+_, _*_, _-_, _≤_, _<_}
-use mathlib.Core.Path.{_≡_, refl, sym, ap, _∙_}
+use Prim.Native.Nat.{_-_, _≤_}
+use mathlib.Core.Path.{_≡_, refl}
 use Rattle.held.proofs.all_masks_below.Statement.{statement}
 use Rattle.held.proofs.all_masks_below.Tie as tie
-use Rattle.held.proofs.all_masks_below.Reads as reads
-use Rattle.held.proofs.all_masks_below.Lts as lts
-use Rattle.held.proofs.masks_below.Reads as masks-below-reads
 
 abbrev Inv-loop : tie.InvT-loop
 Inv-loop tills n types shards i₀ i = (i ≤ n) × (allOf (masksBelow types shards) (take i (rowsOf tillForm tills n)) ≡ true)
@@ -20,35 +17,27 @@ Inv-loop tills n types shards i₀ i = (i ≤ n) × (allOf (masksBelow types sha
 abbrev μ-loop : tie.MeasureT-loop
 μ-loop tills n types shards i₀ i = n - i
 
--- src/lib.rt:257:5
 loop-holds : tie.Need-loop-holds Inv-loop μ-loop
 loop-holds c = (omega arith, refl)
 
--- src/lib.rt:258:32
 mul-masks-below : tie.Need-mul-masks-below Inv-loop μ-loop
 mul-masks-below c = omega arith
 
--- src/lib.rt:258:13
 masks-below-requires : tie.Need-masks-below-requires Inv-loop μ-loop
 masks-below-requires c κs = omega arith
 
--- src/lib.rt:259:13
 returns : tie.Need-returns Inv-loop μ-loop
 returns c = row-off tillForm (masksBelow (c .before .before .before .before .before .args .types) (c .before .before .before .before .before .args .shards)) (c .before .before .before .before .before .args .tills .now) (c .before .before .before .before .before .args .n) (c .before .before .before .loop .i) (c .before .masks-below .result) (omega arith) (c .before .masks-below .ensures) (c .if1 .taken)
 
--- src/lib.rt:261:9
 add-i : tie.Need-add-i Inv-loop μ-loop
 add-i c = omega arith
 
--- src/lib.rt:257:5
 loop-less : tie.Need-loop-less Inv-loop μ-loop
 loop-less c = omega arith
 
--- src/lib.rt:257:5
 loop-again : tie.Need-loop-again Inv-loop μ-loop
 loop-again c = (omega arith, row-on tillForm (masksBelow (c .before .before .before .before .before .args .types) (c .before .before .before .before .before .args .shards)) (c .before .before .before .before .before .args .tills .now) (c .before .before .before .before .before .args .n) (c .before .before .before .loop .i) (c .before .masks-below .result) (omega arith) (c .before .masks-below .ensures) (c .if1 .left) (c .before .before .before .loop .inv .1))
 
--- src/lib.rt:252:1
 returns-2 : tie.Need-returns-2 Inv-loop μ-loop
 returns-2 c = rows-done tillForm (masksBelow (c .before .before .before .args .types) (c .before .before .before .args .shards)) (c .before .before .before .args .tills .now) (c .before .before .before .args .n) (c .before .loop .i) (omega arith) (c .before .loop .inv .1)
 

@@ -1,40 +1,28 @@
-use Rattle.network.specs.Tables.{sizesAt, tillForm, blockForm}
-use Rattle.network.specs.Opening.{mostTills, mostSlots}
 use Rattle.held.proofs.Passed.{setup-says, net-says}
-use Rattle.held.specs.Held.{setupHeld, netHeld, wordsHeld, rulesHeld, keysHeld, masksBelow, tillsHeld, endsBelow, blocksHeld, seenHeld}
-use Rattle.held.proofs.Ladder.{on, off, last, is-no, is-yes, over, up-to}
-use borrow.Author.Tests.{eq-eqb, ne-eqb, le-leb, lt-leb, lt-ltb, le-ltb, not-true, not-false}
+use Rattle.held.specs.Held.{endsBelow, blocksHeld}
+use Rattle.held.proofs.Ladder.{on, off, last}
+use borrow.Author.Tests.{eq-eqb, ne-eqb}
 use native.Mathlib.Omega.{arith}
-use mathlib.Core.Path.{_≡_, refl, sym, ap, _∙_}
 use borrow.Author.Needs.{needs}
 use Rattle.held.proofs.blocks_held.Statement.{statement}
 use Rattle.held.proofs.blocks_held.Tie as tie
-use Rattle.held.proofs.blocks_held.Reads as reads
-use Rattle.held.proofs.blocks_held.Lts as lts
-use Rattle.held.proofs.all_ends_below.Reads as all-ends-below-reads
 
--- src/lib.rt:307:24
 mul-if1 : tie.Need-mul-if1
 mul-if1 c = search needs
 
--- src/lib.rt:308:9
 returns : tie.Need-returns
 unfolding blocksHeld
 returns c = off _ _ (ne-eqb _ _ (c .if1 .taken))
 
--- src/lib.rt:310:28
 shared-slice-read-all-ends-below : tie.Need-shared-slice-read-all-ends-below
 shared-slice-read-all-ends-below c = let p = setup-says (c .before .before .before .before .before .args .setup .now) (c .before .before .before .before .before .pre .0) in let n = net-says (c .before .before .before .before .before .args .setup .now) (c .before .before .before .before .before .args .net .now) (c .before .before .before .before .before .pre .1) in omega (arith, p, n)
 
--- src/lib.rt:310:50
 shared-slice-read-all-ends-below-2 : tie.Need-shared-slice-read-all-ends-below-2
 shared-slice-read-all-ends-below-2 c = let p = setup-says (c .before .before .before .before .before .before .args .setup .now) (c .before .before .before .before .before .before .pre .0) in let n = net-says (c .before .before .before .before .before .before .args .setup .now) (c .before .before .before .before .before .before .args .net .now) (c .before .before .before .before .before .before .pre .1) in omega (arith, p, n)
 
--- src/lib.rt:310:5
 all-ends-below-requires : tie.Need-all-ends-below-requires
 all-ends-below-requires c κs = let p = setup-says (c .before .before .before .before .before .before .args .setup .now) (c .before .before .before .before .before .before .pre .0) in let n = net-says (c .before .before .before .before .before .before .args .setup .now) (c .before .before .before .before .before .before .args .net .now) (c .before .before .before .before .before .before .pre .1) in omega (arith, p, n)
 
--- src/lib.rt:303:1
 returns-2 : tie.Need-returns-2
 unfolding blocksHeld endsBelow
 returns-2 c = on _ _ _ (eq-eqb _ _ (c .before .before .before .if1 .left)) (last _ _ (c .all-ends-below .ensures))

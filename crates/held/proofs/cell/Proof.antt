@@ -3,22 +3,16 @@ use mathlib.Core.Path.{sym}
 use borrow.Author.Needs.{needs}
 use Rattle.held.proofs.cell.Statement.{statement}
 use Rattle.held.proofs.cell.Tie as tie
-use Rattle.held.proofs.cell.Reads as reads
-use Rattle.held.proofs.cell.Lts as lts
 
--- src/lib.rt:81:22
 mul-result : tie.Need-mul-result
 mul-result c = search needs
 
--- src/lib.rt:81:22
 shared-slice-read-result : tie.Need-shared-slice-read-result
 shared-slice-read-result c = search needs
 
--- src/lib.rt:78:1
 returns : tie.Need-returns
 returns c = search needs
 
--- src/lib.rt:78:1
 returns-2 : tie.Need-returns-2
 returns-2 c = sym (List·getD-eq-default (c .before .args .s .now) 0 (c .if1 .left))
 

@@ -1,46 +1,35 @@
-use Rattle.held.specs.Held.{sizesHeld, rangesHeld, setupHeld, netHeld}
-use Rattle.held.proofs.Ladder.{on, off, last, is-no, is-yes, over, up-to}
-use borrow.Author.Tests.{eq-eqb, ne-eqb, le-leb, lt-leb, lt-ltb, le-ltb, not-true, not-false}
-use mathlib.Core.Path.{_≡_, refl, sym, ap, _∙_}
+use Rattle.held.specs.Held.{netHeld}
+use Rattle.held.proofs.Ladder.{on, off, last, over, up-to}
+use borrow.Author.Tests.{eq-eqb, ne-eqb, le-leb, lt-leb}
+use mathlib.Core.Path.{refl}
 use borrow.Author.Needs.{needs}
 use Rattle.held.proofs.net_held.Statement.{statement}
 use Rattle.held.proofs.net_held.Tie as tie
-use Rattle.held.proofs.net_held.Reads as reads
-use Rattle.held.proofs.net_held.Lts as lts
-use Rattle.held.proofs.cell.Reads as cell-reads
 
--- src/lib.rt:167:9
 returns : tie.Need-returns
 unfolding netHeld
 returns c = off _ _ (ne-eqb _ _ (c .if1 .taken))
 
--- src/lib.rt:169:8
 shared-slice-read-if2 : tie.Need-shared-slice-read-if2
 shared-slice-read-if2 c = search needs
 
--- src/lib.rt:169:23
 cell-requires : tie.Need-cell-requires
 cell-requires c κs = search needs
 
--- src/lib.rt:170:9
 returns-2 : tie.Need-returns-2
 unfolding netHeld
 returns-2 c = on _ _ _ (eq-eqb _ _ (c .before .before .before .if1 .left)) (off _ _ (over _ _ _ (c .before .cell .ensures) (c .if2 .taken)))
 
--- src/lib.rt:172:8
 shared-slice-read-if3 : tie.Need-shared-slice-read-if3
 shared-slice-read-if3 c = search needs
 
--- src/lib.rt:173:9
 returns-3 : tie.Need-returns-3
 unfolding netHeld
 returns-3 c = on _ _ _ (eq-eqb _ _ (c .before .before .before .before .before .if1 .left)) (on _ _ _ (up-to _ _ _ (c .before .before .before .cell .ensures) (c .before .before .if2 .left)) (off _ _ (lt-leb _ _ (c .if3 .taken))))
 
--- src/lib.rt:175:5
 shared-slice-read-result : tie.Need-shared-slice-read-result
 shared-slice-read-result c = search needs
 
--- src/lib.rt:163:1
 returns-4 : tie.Need-returns-4
 unfolding netHeld
 returns-4 c = on _ _ _ (eq-eqb _ _ (c .before .before .before .before .before .before .if1 .left)) (on _ _ _ (up-to _ _ _ (c .before .before .before .before .cell .ensures) (c .before .before .before .if2 .left)) (on _ _ _ (le-leb _ _ (c .before .if3 .left)) (last _ _ (refl))))

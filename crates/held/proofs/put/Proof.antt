@@ -3,26 +3,19 @@ use mathlib.Core.Path.{sym}
 use borrow.Author.Needs.{needs}
 use Rattle.held.proofs.put.Statement.{statement}
 use Rattle.held.proofs.put.Tie as tie
-use Rattle.held.proofs.put.Reads as reads
-use Rattle.held.proofs.put.Lts as lts
 
--- src/lib.rt:89:9
 mul-s : tie.Need-mul-s
 mul-s c = search needs
 
--- src/lib.rt:89:9
 slice-write-s : tie.Need-slice-write-s
 slice-write-s c = search needs
 
--- src/lib.rt:85:1
 same-length : tie.Need-same-length
 same-length c = search needs
 
--- src/lib.rt:85:1
 returns : tie.Need-returns
 returns c = search needs
 
--- src/lib.rt:85:1
 returns-2 : tie.Need-returns-2
 returns-2 c = sym (set-out _ _ _ (c .if1 .left))
 

@@ -1,90 +1,65 @@
-use Rattle.held.specs.Held.{sizesHeld, rangesHeld, setupHeld, netHeld}
-use Rattle.held.proofs.Ladder.{on, off, last, is-no, is-yes, over, up-to}
-use borrow.Author.Tests.{eq-eqb, ne-eqb, le-leb, lt-leb, lt-ltb, le-ltb, not-true, not-false}
-use mathlib.Core.Path.{_≡_, refl, sym, ap, _∙_}
+use Rattle.held.specs.Held.{rangesHeld}
+use Rattle.held.proofs.Ladder.{on, off, last, is-no, is-yes}
 use borrow.Author.Needs.{needs}
 use Rattle.held.proofs.ranges_held.Statement.{statement}
 use Rattle.held.proofs.ranges_held.Tie as tie
-use Rattle.held.proofs.ranges_held.Reads as reads
-use Rattle.held.proofs.ranges_held.Lts as lts
-use Rattle.held.proofs.fraction_held.Reads as fraction-held-reads
-use Rattle.held.proofs.latency_held.Reads as latency-held-reads
-use Rattle.held.proofs.rate_held.Reads as rate-held-reads
 
--- src/lib.rt:153:22
 shared-slice-read-latency-held : tie.Need-shared-slice-read-latency-held
 shared-slice-read-latency-held c = search needs
 
--- src/lib.rt:153:9
 latency-held-requires : tie.Need-latency-held-requires
 latency-held-requires c κs = search needs
 
--- src/lib.rt:154:9
 returns : tie.Need-returns
 unfolding rangesHeld
 returns c = off _ _ (is-no _ _ (c .before .latency-held .ensures) (c .if1 .taken))
 
--- src/lib.rt:156:23
 shared-slice-read-fraction-held : tie.Need-shared-slice-read-fraction-held
 shared-slice-read-fraction-held c = search needs
 
--- src/lib.rt:156:9
 fraction-held-requires : tie.Need-fraction-held-requires
 fraction-held-requires c κs = search needs
 
--- src/lib.rt:157:9
 returns-2 : tie.Need-returns-2
 unfolding rangesHeld
 returns-2 c = on _ _ _ (is-yes _ _ (c .before .before .before .before .latency-held .ensures) (c .before .before .before .if1 .left)) (off _ _ (is-no _ _ (c .before .fraction-held .ensures) (c .if2 .taken)))
 
--- src/lib.rt:159:19
 shared-slice-read-rate-held : tie.Need-shared-slice-read-rate-held
 shared-slice-read-rate-held c = search needs
 
--- src/lib.rt:159:9
 rate-held-requires : tie.Need-rate-held-requires
 rate-held-requires c κs = search needs
 
--- src/lib.rt:160:9
 returns-3 : tie.Need-returns-3
 unfolding rangesHeld
 returns-3 c = on _ _ _ (is-yes _ _ (c .before .before .before .before .before .before .before .latency-held .ensures) (c .before .before .before .before .before .before .if1 .left)) (on _ _ _ (is-yes _ _ (c .before .before .before .before .fraction-held .ensures) (c .before .before .before .if2 .left)) (off _ _ (is-no _ _ (c .before .rate-held .ensures) (c .if3 .taken))))
 
--- src/lib.rt:162:19
 shared-slice-read-rate-held-2 : tie.Need-shared-slice-read-rate-held-2
 shared-slice-read-rate-held-2 c = search needs
 
--- src/lib.rt:162:9
 rate-held-requires-2 : tie.Need-rate-held-requires-2
 rate-held-requires-2 c κs = search needs
 
--- src/lib.rt:163:9
 returns-4 : tie.Need-returns-4
 unfolding rangesHeld
 returns-4 c = on _ _ _ (is-yes _ _ (c .before .before .before .before .before .before .before .before .before .before .latency-held .ensures) (c .before .before .before .before .before .before .before .before .before .if1 .left)) (on _ _ _ (is-yes _ _ (c .before .before .before .before .before .before .before .fraction-held .ensures) (c .before .before .before .before .before .before .if2 .left)) (on _ _ _ (is-yes _ _ (c .before .before .before .before .rate-held .ensures) (c .before .before .before .if3 .left)) (off _ _ (is-no _ _ (c .before .rate-held2 .ensures) (c .if4 .taken)))))
 
--- src/lib.rt:165:19
 shared-slice-read-rate-held-3 : tie.Need-shared-slice-read-rate-held-3
 shared-slice-read-rate-held-3 c = search needs
 
--- src/lib.rt:165:9
 rate-held-requires-3 : tie.Need-rate-held-requires-3
 rate-held-requires-3 c κs = search needs
 
--- src/lib.rt:166:9
 returns-5 : tie.Need-returns-5
 unfolding rangesHeld
 returns-5 c = on _ _ _ (is-yes _ _ (c .before .before .before .before .before .before .before .before .before .before .before .before .before .latency-held .ensures) (c .before .before .before .before .before .before .before .before .before .before .before .before .if1 .left)) (on _ _ _ (is-yes _ _ (c .before .before .before .before .before .before .before .before .before .before .fraction-held .ensures) (c .before .before .before .before .before .before .before .before .before .if2 .left)) (on _ _ _ (is-yes _ _ (c .before .before .before .before .before .before .before .rate-held .ensures) (c .before .before .before .before .before .before .if3 .left)) (on _ _ _ (is-yes _ _ (c .before .before .before .before .rate-held2 .ensures) (c .before .before .before .if4 .left)) (off _ _ (is-no _ _ (c .before .rate-held3 .ensures) (c .if5 .taken))))))
 
--- src/lib.rt:168:15
 shared-slice-read-rate-held-4 : tie.Need-shared-slice-read-rate-held-4
 shared-slice-read-rate-held-4 c = search needs
 
--- src/lib.rt:168:5
 rate-held-requires-4 : tie.Need-rate-held-requires-4
 rate-held-requires-4 c κs = search needs
 
--- src/lib.rt:149:1
 returns-6 : tie.Need-returns-6
 unfolding rangesHeld
 returns-6 c = on _ _ _ (is-yes _ _ (c .before .before .before .before .before .before .before .before .before .before .before .before .before .before .before .latency-held .ensures) (c .before .before .before .before .before .before .before .before .before .before .before .before .before .before .if1 .left)) (on _ _ _ (is-yes _ _ (c .before .before .before .before .before .before .before .before .before .before .before .before .fraction-held .ensures) (c .before .before .before .before .before .before .before .before .before .before .before .if2 .left)) (on _ _ _ (is-yes _ _ (c .before .before .before .before .before .before .before .before .before .rate-held .ensures) (c .before .before .before .before .before .before .before .before .if3 .left)) (on _ _ _ (is-yes _ _ (c .before .before .before .before .before .before .rate-held2 .ensures) (c .before .before .before .before .before .if4 .left)) (on _ _ _ (is-yes _ _ (c .before .before .before .rate-held3 .ensures) (c .before .before .if5 .left)) (last _ _ (c .rate-held4 .ensures))))))

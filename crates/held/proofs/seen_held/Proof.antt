@@ -1,45 +1,35 @@
-use Rattle.network.specs.Tables.{sizesAt, tillForm, blockForm}
+use Rattle.network.specs.Tables.{sizesAt}
 use Rattle.network.specs.Opening.{mostTills, mostSlots}
-use Rattle.held.proofs.Rows.{row-on, row-off, rows-done, till-row, block-row, counts-column, power-is, product}
-use Rattle.held.proofs.Passed.{setup-says, net-says}
-use Rattle.held.specs.Held.{setupHeld, netHeld, wordsHeld, rulesHeld, keysHeld, masksBelow, tillsHeld, endsBelow, blocksHeld, seenHeld}
-use Rattle.held.proofs.Ladder.{on, off, last, is-no, is-yes, over, up-to}
-use borrow.Author.Tests.{eq-eqb, ne-eqb, le-leb, lt-leb, lt-ltb, le-ltb, not-true, not-false}
+use Rattle.held.proofs.Rows.{counts-column, product}
+use Rattle.held.proofs.Passed.{setup-says}
+use Rattle.held.specs.Held.{seenHeld}
+use Rattle.held.proofs.Ladder.{on, off, last}
+use borrow.Author.Tests.{eq-eqb, ne-eqb}
 use native.Mathlib.Omega.{arith}
-use mathlib.Core.Path.{_≡_, refl, sym, ap, _∙_}
+use mathlib.Core.Path.{_∙_}
 use borrow.Author.Needs.{needs}
 use Rattle.held.proofs.seen_held.Statement.{statement}
 use Rattle.held.proofs.seen_held.Tie as tie
-use Rattle.held.proofs.seen_held.Reads as reads
-use Rattle.held.proofs.seen_held.Lts as lts
-use Rattle.scan.proofs.column_within.Reads as column-within-reads
 
--- src/lib.rt:317:13
 shared-slice-read-n : tie.Need-shared-slice-read-n
 shared-slice-read-n c = let p = setup-says (c .before .before .before .args .setup .now) (c .before .before .before .pre) in omega (arith, p)
 
--- src/lib.rt:318:17
 shared-slice-read-slots : tie.Need-shared-slice-read-slots
 shared-slice-read-slots c = let p = setup-says (c .before .before .before .before .args .setup .now) (c .before .before .before .before .pre) in omega (arith, p)
 
--- src/lib.rt:319:26
 mul-if1 : tie.Need-mul-if1
 mul-if1 c = let p = setup-says (c .before .before .before .before .args .setup .now) (c .before .before .before .before .pre) in let q = product (sizesAt (c .before .before .before .before .args .setup .now) .tills) (sizesAt (c .before .before .before .before .args .setup .now) .seenSlots) mostTills mostSlots (p .sizes .tills) (p .sizes .seenSlots) in omega (arith, p, q)
 
--- src/lib.rt:319:22
 add-if1 : tie.Need-add-if1
 add-if1 c = let p = setup-says (c .before .before .before .before .args .setup .now) (c .before .before .before .before .pre) in let q = product (sizesAt (c .before .before .before .before .args .setup .now) .tills) (sizesAt (c .before .before .before .before .args .setup .now) .seenSlots) mostTills mostSlots (p .sizes .tills) (p .sizes .seenSlots) in omega (arith, p, q)
 
--- src/lib.rt:320:9
 returns : tie.Need-returns
 unfolding seenHeld
 returns c = off _ _ (ne-eqb _ _ (c .if1 .taken))
 
--- src/lib.rt:322:5
 column-within-requires : tie.Need-column-within-requires
 column-within-requires c κs = search needs
 
--- src/lib.rt:313:1
 returns-2 : tie.Need-returns-2
 unfolding seenHeld
 returns-2 c = on _ _ _ (eq-eqb _ _ (c .before .if1 .left)) (last _ _ (c .column-within .ensures ∙ counts-column (c .before .before .before .before .before .before .args .seen .now) (sizesAt (c .before .before .before .before .before .before .args .setup .now) .tills) (sizesAt (c .before .before .before .before .before .before .args .setup .now) .seenSlots)))

@@ -1,34 +1,24 @@
-use Rattle.held.specs.Held.{sizesHeld, rangesHeld, setupHeld, netHeld}
-use Rattle.held.proofs.Ladder.{on, off, last, is-no, is-yes, over, up-to}
-use borrow.Author.Tests.{eq-eqb, ne-eqb, le-leb, lt-leb, lt-ltb, le-ltb, not-true, not-false}
-use mathlib.Core.Path.{_≡_, refl, sym, ap, _∙_}
+use Rattle.held.specs.Held.{sizesHeld, rangesHeld, setupHeld}
+use Rattle.held.proofs.Ladder.{on, off, last, is-no, is-yes}
+use borrow.Author.Tests.{eq-eqb, ne-eqb}
 use borrow.Author.Needs.{needs}
 use Rattle.held.proofs.setup_held.Statement.{statement}
 use Rattle.held.proofs.setup_held.Tie as tie
-use Rattle.held.proofs.setup_held.Reads as reads
-use Rattle.held.proofs.setup_held.Lts as lts
-use Rattle.held.proofs.ranges_held.Reads as ranges-held-reads
-use Rattle.held.proofs.sizes_held.Reads as sizes-held-reads
 
--- src/lib.rt:155:9
 returns : tie.Need-returns
 unfolding setupHeld sizesHeld rangesHeld
 returns c = off _ _ (ne-eqb _ _ (c .if1 .taken))
 
--- src/lib.rt:157:9
 sizes-held-requires : tie.Need-sizes-held-requires
 sizes-held-requires c κs = search needs
 
--- src/lib.rt:158:9
 returns-2 : tie.Need-returns-2
 unfolding setupHeld sizesHeld rangesHeld
 returns-2 c = on _ _ _ (eq-eqb _ _ (c .before .before .if1 .left)) (off _ _ (is-no _ _ (c .before .sizes-held .ensures) (c .if2 .taken)))
 
--- src/lib.rt:160:5
 ranges-held-requires : tie.Need-ranges-held-requires
 ranges-held-requires c κs = search needs
 
--- src/lib.rt:151:1
 returns-3 : tie.Need-returns-3
 unfolding setupHeld sizesHeld rangesHeld
 returns-3 c = on _ _ _ (eq-eqb _ _ (c .before .before .before .if1 .left)) (on _ _ _ (is-yes _ _ (c .before .before .sizes-held .ensures) (c .before .if2 .left)) (last _ _ (c .ranges-held .ensures)))

@@ -1,55 +1,41 @@
 use Rattle.rows.specs.Table.{rowsOf}
-use Rattle.network.specs.Tables.{sizesAt, tillForm, blockForm}
-use Rattle.network.specs.Opening.{mostTills, mostSlots}
+use Rattle.network.specs.Tables.{sizesAt, tillForm}
 use Rattle.held.proofs.Rows.{powers}
-use Rattle.held.proofs.Passed.{setup-says, net-says}
-use Rattle.held.specs.Held.{setupHeld, netHeld, wordsHeld, rulesHeld, keysHeld, masksBelow, tillsHeld, endsBelow, blocksHeld, seenHeld}
-use Rattle.held.proofs.Ladder.{on, off, last, is-no, is-yes, over, up-to}
-use borrow.Author.Tests.{eq-eqb, ne-eqb, le-leb, lt-leb, lt-ltb, le-ltb, not-true, not-false}
+use Rattle.held.proofs.Passed.{setup-says}
+use Rattle.held.specs.Held.{masksBelow, tillsHeld}
+use Rattle.held.proofs.Ladder.{on, off, last}
+use borrow.Author.Tests.{eq-eqb, ne-eqb}
 use native.Mathlib.Omega.{arith}
-use mathlib.Core.Path.{_≡_, refl, sym, ap, _∙_}
+use mathlib.Core.Path.{_∙_}
 use borrow.Author.Needs.{needs}
 use Rattle.held.proofs.tills_held.Statement.{statement}
 use Rattle.held.proofs.tills_held.Tie as tie
-use Rattle.held.proofs.tills_held.Reads as reads
-use Rattle.held.proofs.tills_held.Lts as lts
-use Rattle.held.proofs.all_masks_below.Reads as all-masks-below-reads
-use Rattle.held.proofs.power.Reads as power-reads
 
--- src/lib.rt:270:13
 shared-slice-read-n : tie.Need-shared-slice-read-n
 shared-slice-read-n c = let p = setup-says (c .before .before .before .args .setup .now) (c .before .before .before .pre) in omega (arith, p)
 
--- src/lib.rt:271:23
 mul-if1 : tie.Need-mul-if1
 mul-if1 c = let p = setup-says (c .before .before .before .args .setup .now) (c .before .before .before .pre) in omega (arith, p)
 
--- src/lib.rt:272:9
 returns : tie.Need-returns
 unfolding tillsHeld
 returns c = off _ _ (ne-eqb _ _ (c .if1 .taken))
 
--- src/lib.rt:274:37
 shared-slice-read-power : tie.Need-shared-slice-read-power
 shared-slice-read-power c = let p = setup-says (c .before .before .before .before .before .args .setup .now) (c .before .before .before .before .before .pre) in omega (arith, p)
 
--- src/lib.rt:274:31
 power-requires : tie.Need-power-requires
 power-requires c κs = let p = setup-says (c .before .before .before .before .before .args .setup .now) (c .before .before .before .before .before .pre) in omega (arith, p)
 
--- src/lib.rt:274:58
 shared-slice-read-power-2 : tie.Need-shared-slice-read-power-2
 shared-slice-read-power-2 c = let p = setup-says (c .before .before .before .before .before .before .before .args .setup .now) (c .before .before .before .before .before .before .before .pre) in omega (arith, p)
 
--- src/lib.rt:274:52
 power-requires-2 : tie.Need-power-requires-2
 power-requires-2 c κs = let p = setup-says (c .before .before .before .before .before .before .before .args .setup .now) (c .before .before .before .before .before .before .before .pre) in omega (arith, p)
 
--- src/lib.rt:274:5
 all-masks-below-requires : tie.Need-all-masks-below-requires
 all-masks-below-requires c κs = search needs
 
--- src/lib.rt:266:1
 returns-2 : tie.Need-returns-2
 unfolding tillsHeld masksBelow
 returns-2 c = on _ _ _ (eq-eqb _ _ (c .before .before .before .before .before .if1 .left)) (last _ _ (c .all-masks-below .ensures ∙ powers (sizesAt (c .before .before .before .before .before .before .before .before .before .args .setup .now) .types) (sizesAt (c .before .before .before .before .before .before .before .before .before .args .setup .now) .shards) _ _ (rowsOf tillForm (c .before .before .before .before .before .before .before .before .before .args .tills .now) (sizesAt (c .before .before .before .before .before .before .before .before .before .args .setup .now) .tills)) (c .before .before .before .power .ensures) (c .before .power2 .ensures)))

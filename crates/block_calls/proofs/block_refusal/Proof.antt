@@ -1,0 +1,33 @@
+use mathlib.Core.Path.{_∙_}
+use Rattle.block_calls.proofs.Laws.{refused-first, passed-first, full, free}
+use borrow.Author.Needs.{needs}
+use Rattle.block_calls.proofs.block_refusal.Statement.{statement}
+use Rattle.block_calls.proofs.block_refusal.Tie as tie
+use Rattle.block_calls.proofs.block_refusal.Reads as reads
+use Rattle.block_calls.proofs.block_refusal.Lts as lts
+use Rattle.block_calls.proofs.pair_refusal.Reads as pair-refusal-reads
+use Rattle.held.proofs.cell.Reads as cell-reads
+
+-- src/lib.rt:51:9
+pair-refusal-requires : tie.Need-pair-refusal-requires
+pair-refusal-requires c κs = search needs
+
+-- src/lib.rt:53:9
+returns : tie.Need-returns
+returns c = refused-first _ _ _ _ _ _ _ (c .before .pair-refusal .ensures) (c .if1 .taken)
+
+-- src/lib.rt:55:32
+cell-requires : tie.Need-cell-requires
+cell-requires c κs = search needs
+
+-- src/lib.rt:56:9
+returns-2 : tie.Need-returns-2
+returns-2 c = full (c .before .before .before .before .before .before .before .args .net .now) _ (c .before .cell .ensures) (c .if2 .taken) ∙ passed-first _ _ _ _ _ _ _ (c .before .before .before .pair-refusal .ensures) (c .before .before .if1 .left)
+
+-- src/lib.rt:48:1
+returns-3 : tie.Need-returns-3
+returns-3 c = free (c .before .before .before .before .before .before .before .args .net .now) _ (c .before .cell .ensures) (c .if2 .left) ∙ passed-first _ _ _ _ _ _ _ (c .before .before .before .pair-refusal .ensures) (c .before .before .if1 .left)
+
+pub block-refusal-spec : {M : Type 1} → statement M
+block-refusal-spec =
+    tie.close (tie.spec pair-refusal-requires returns cell-requires returns-2 returns-3)

@@ -1,0 +1,38 @@
+use Rattle.held.proofs.Ladder.{is-no, is-yes}
+use native.Mathlib.Omega.{arith}
+use Rattle.block_calls.proofs.Laws.{not-lent, not-near, near}
+use borrow.Author.Needs.{needs}
+use Rattle.block_calls.proofs.pair_refusal.Statement.{statement}
+use Rattle.block_calls.proofs.pair_refusal.Tie as tie
+use Rattle.block_calls.proofs.pair_refusal.Reads as reads
+use Rattle.block_calls.proofs.pair_refusal.Lts as lts
+use Rattle.block_calls.proofs.lent.Reads as lent-reads
+use Rattle.held.proofs.cell.Reads as cell-reads
+
+-- src/lib.rt:34:9
+lent-requires : tie.Need-lent-requires
+lent-requires c κs = search needs
+
+-- src/lib.rt:35:9
+returns : tie.Need-returns
+returns c = not-lent _ _ _ _ _ _ (is-no _ _ (c .before .lent .ensures) (c .if1 .taken))
+
+-- src/lib.rt:37:9
+cell-requires : tie.Need-cell-requires
+cell-requires c κs = search needs
+
+-- src/lib.rt:39:9
+returns-2 : tie.Need-returns-2
+returns-2 c = not-near _ _ _ _ _ _ (is-yes _ _ (c .before .before .before .lent .ensures) (c .before .before .if1 .left)) _ (c .before .cell .ensures) (omega (arith, c .if2 .taken))
+
+-- src/lib.rt:42:9
+returns-3 : tie.Need-returns-3
+returns-3 c = not-near _ _ _ _ _ _ (is-yes _ _ (c .before .before .before .before .lent .ensures) (c .before .before .before .if1 .left)) _ (c .before .before .cell .ensures) (omega (arith, c .if3 .taken))
+
+-- src/lib.rt:31:1
+returns-4 : tie.Need-returns-4
+returns-4 c = near _ _ _ _ _ _ (is-yes _ _ (c .before .before .before .before .lent .ensures) (c .before .before .before .if1 .left)) _ (c .before .before .cell .ensures) (c .before .if2 .left) (c .if3 .left)
+
+pub pair-refusal-spec : {M : Type 1} → statement M
+pair-refusal-spec =
+    tie.close (tie.spec lent-requires returns cell-requires returns-2 returns-3 returns-4)

@@ -1,0 +1,53 @@
+-- THE CONTRACTS of the block calls. Of the tables `setup`, `net` and `blocks` are lent; the others hold whatever they hold, and stay.
+use mathlib.Core.Path.{_≡_}
+use mathlib.Core.Bool.{Bool, true, cond, _&&_}
+use mathlib.Core.List.{List}
+use Prim.Native.Nat.{ℕ, max}
+use lib.Dec.{leb, ltb}
+use Rattle.blocks.specs.Blocks.{blockNumber}
+use Rattle.network.specs.Opening.{latestNow}
+use Rattle.network.specs.Calls.{Call, block, blockDuring, unblock, reading, isBlocked}
+use Rattle.network.specs.Tables.{Tables, cell, sizesAt, blocksAt}
+use Rattle.network.specs.Writes.{callTables, callReply}
+use Rattle.held.specs.Held.{setupHeld, netHeld, blocksHeld}
+use Rattle.reply.specs.declared.Done.{Done}
+use Rattle.reply.specs.declared.Value.{Value}
+use Rattle.reply.specs.Reply.{doneOf, valueOf}
+
+abbrev pub lend : Tables → (setup net blocks : List ℕ) → Tables
+lend T s n b = record { setup = s; net = n; names = T .names; tills = T .tills; words = T .words; keys = T .keys; prices = T .prices; seen = T .seen; waiting = T .waiting; rings = T .rings; rules = T .rules; blocks = b; log = T .log }
+
+-- a call that writes: its reply, and the tables at exit
+unfoldable pub Changes : Call → (setup net blocks net′ blocks′ : List ℕ) → Done → Type 0
+Changes c s n b n′ b′ r = (T : Tables) → (r ≡ doneOf (callReply (lend T s n b) c)) × (callTables (lend T s n b) c ≡ lend T s n′ b′)
+
+abbrev pub DoesBlock : (setup net blocks net′ blocks′ : List ℕ) (from to : ℕ) → Done → Type 0
+DoesBlock s n b n′ b′ from to r = Changes (block from to) s n b n′ b′ r
+
+abbrev pub DoesBlockDuring : (setup net blocks net′ blocks′ : List ℕ) (from to start end : ℕ) → Done → Type 0
+DoesBlockDuring s n b n′ b′ from to start end r = Changes (blockDuring from to start end) s n b n′ b′ r
+
+abbrev pub DoesUnblock : (setup net blocks net′ blocks′ : List ℕ) (from to : ℕ) → Done → Type 0
+DoesUnblock s n b n′ b′ from to r = Changes (unblock from to) s n b n′ b′ r
+
+-- the call that only reads
+unfoldable pub DoesIsBlocked : (setup net blocks : List ℕ) (from to now : ℕ) → Value → Type 0
+DoesIsBlocked s n b from to now r =
+    (T : Tables) → let c : Call = reading (isBlocked from to now) in (r ≡ valueOf (callReply (lend T s n b) c)) × (callTables (lend T s n b) c ≡ lend T s n b)
+
+-- ---- The questions as the code asks them
+
+-- 1
+unfoldable pub blocksLent : (setup net blocks : List ℕ) → Bool
+blocksLent s n b = setupHeld s && (netHeld s n && (blocksHeld s n b && true))
+
+-- 1 and 4, then the rest
+unfoldable pub pairNumber : (setup net blocks : List ℕ) (from to rest : ℕ) → ℕ
+pairNumber s n b from to rest = cond (blocksLent s n b) (cond (ltb (max from to) (sizesAt s .tills)) rest 4) 1
+
+-- 12, and 7
+abbrev pub freeNumber : List ℕ → ℕ
+freeNumber n = blockNumber (cell n blocksAt)
+
+unfoldable pub nowNumber : ℕ → ℕ
+nowNumber now = cond (leb now latestNow) 0 7

@@ -1,0 +1,146 @@
+// The block calls on the network's tables: block, block_during, unblock, is_blocked.
+ghost use mathlib.Core.Path.{_≡_};
+ghost use Rattle.block_calls.specs.Calls.{DoesBlock, DoesBlockDuring, DoesUnblock, DoesIsBlocked, blocksLent, pairNumber, freeNumber, nowNumber};
+use reply::Done;
+use reply::Value;
+
+// The latest time, 2^60.
+pub const LATEST: u64 = 1152921504606846976;
+
+// Question 1.
+fn lent(setup: &[u64], net: &[u64], blocks: &[u64]) -> bool
+    ensures { λ r. ⌜ r ≡ blocksLent (now (setup .entry)) (now (net .entry)) (now (blocks .entry)) ⌝ }
+{
+    if !held::setup_held(setup) {
+        return false;
+    }
+    if !held::net_held(setup, net) {
+        return false;
+    }
+    held::blocks_held(setup, net, blocks)
+}
+
+// Questions 1 and 4: the tables, and the two tills.
+fn pair_refusal(setup: &[u64], net: &[u64], blocks: &[u64], from: u64, to: u64) -> u64
+    ensures { λ r. ⌜ r ≡ pairNumber (now (setup .entry)) (now (net .entry)) (now (blocks .entry)) «from» to 0 ⌝ }
+{
+    if !lent(setup, net, blocks) {
+        return 1;
+    }
+    let tills = held::cell(setup, held::TILLS);
+    if tills <= from {
+        return 4;
+    }
+    if tills <= to {
+        return 4;
+    }
+    0
+}
+
+// Questions 1, 4 and 12: is a place free?
+fn block_refusal(setup: &[u64], net: &[u64], blocks: &[u64], from: u64, to: u64) -> u64
+    ensures { λ r. ⌜ r ≡ pairNumber (now (setup .entry)) (now (net .entry)) (now (blocks .entry)) «from» to (freeNumber (now (net .entry))) ⌝ }
+{
+    let number = pair_refusal(setup, net, blocks, from, to);
+    if number != 0 {
+        return number;
+    }
+    if blocks::SLOTS as u64 <= held::cell(net, held::BLOCKS) {
+        return 12;
+    }
+    0
+}
+
+// Questions 1, 4 and 7.
+fn time_refusal(setup: &[u64], net: &[u64], blocks: &[u64], from: u64, to: u64, at: u64) -> u64
+    ensures { λ r. ⌜ r ≡ pairNumber (now (setup .entry)) (now (net .entry)) (now (blocks .entry)) «from» to (nowNumber at) ⌝ }
+{
+    let number = pair_refusal(setup, net, blocks, from, to);
+    if number != 0 {
+        return number;
+    }
+    if LATEST < at {
+        return 7;
+    }
+    0
+}
+
+// One window more, which always holds.
+pub fn block(setup: &[u64], net: &mut [u64], blocks: &mut [u64], from: u64, to: u64) -> Done
+    ensures { λ r. ⌜ DoesBlock (now (setup .entry)) (now (net .entry)) (now (blocks .entry)) (now (net .exit)) (now (blocks .exit)) «from» to r ⌝ }
+{
+    let number = block_refusal(setup, net, blocks, from, to);
+    if number != 0 {
+        return Done { number };
+    }
+    let n = net[held::BLOCKS];
+    blocks::block(blocks, n as usize, from, to);
+    net[held::BLOCKS] = n + 1;
+    Done { number: 0 }
+}
+
+// One window more, which holds from its start on and not its end.
+pub fn block_during(
+    setup: &[u64],
+    net: &mut [u64],
+    blocks: &mut [u64],
+    from: u64,
+    to: u64,
+    start: u64,
+    end: u64,
+) -> Done
+    ensures { λ r. ⌜ DoesBlockDuring (now (setup .entry)) (now (net .entry)) (now (blocks .entry)) (now (net .exit)) (now (blocks .exit)) «from» to start end r ⌝ }
+{
+    let number = block_refusal(setup, net, blocks, from, to);
+    if number != 0 {
+        return Done { number };
+    }
+    let n = net[held::BLOCKS];
+    blocks::block_during(blocks, n as usize, from, to, start, end);
+    net[held::BLOCKS] = n + 1;
+    Done { number: 0 }
+}
+
+// Every window of the pair goes.
+pub fn unblock(setup: &[u64], net: &mut [u64], blocks: &mut [u64], from: u64, to: u64) -> Done
+    ensures { λ r. ⌜ DoesUnblock (now (setup .entry)) (now (net .entry)) (now (blocks .entry)) (now (net .exit)) (now (blocks .exit)) «from» to r ⌝ }
+{
+    let number = pair_refusal(setup, net, blocks, from, to);
+    if number != 0 {
+        return Done { number };
+    }
+    let n = net[held::BLOCKS];
+    let left = blocks::unblock(blocks, n as usize, from, to);
+    net[held::BLOCKS] = left as u64;
+    Done { number: 0 }
+}
+
+// Does a window of the pair hold the time? The value is 1 or 0.
+pub fn is_blocked(
+    setup: &[u64],
+    net: &[u64],
+    blocks: &[u64],
+    from: u64,
+    to: u64,
+    at: u64,
+) -> Value
+    ensures { λ r. ⌜ DoesIsBlocked (now (setup .entry)) (now (net .entry)) (now (blocks .entry)) «from» to at r ⌝ }
+{
+    let number = time_refusal(setup, net, blocks, from, to, at);
+    if number != 0 {
+        return reply::refused(number);
+    }
+    let n = net[held::BLOCKS];
+    if blocks::is_blocked(blocks, n as usize, from, to, at) {
+        return Value {
+            number: 0,
+            found: 1,
+            value: 1,
+        };
+    }
+    Value {
+        number: 0,
+        found: 1,
+        value: 0,
+    }
+}

@@ -1,0 +1,16 @@
+use Rattle.geography.proofs.Laws.{one-none, one-some}
+use Rattle.held_rows.proofs.at_least_one.Statement.{statement}
+use Rattle.held_rows.proofs.at_least_one.Tie as tie
+use Rattle.held_rows.proofs.at_least_one.Reads as reads
+use Rattle.held_rows.proofs.at_least_one.Lts as lts
+
+-- src/lib.rt:154:1
+returns : tie.Need-returns
+returns c = one-none (c .before .args .n) (c .if1 .taken)
+
+-- src/lib.rt:154:1
+returns-2 : tie.Need-returns-2
+returns-2 c = one-some (c .before .args .n) (c .if1 .left)
+
+pub at-least-one-spec : {M : Type 1} → statement M
+at-least-one-spec = tie.close (tie.spec returns returns-2)

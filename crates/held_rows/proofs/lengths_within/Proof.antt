@@ -1,0 +1,67 @@
+use Rattle.held_rows.proofs.Tests.{copies-near, log-near, rings-near, byte-on, byte-off, bytes-done, names-column, keys-column, regions-column, link-on, link-off, links-done, square}
+use Rattle.scan.proofs.Laws.{column-start, column-next, column-in}
+use Rattle.scan.specs.Scan.{copiesNear, logNear, ringsNear, column, columnWithin}
+use Rattle.rows.specs.Rows.{allOf}
+use lib.ListN.{length, getD, take, drop}
+use lib.Dec.{leb}
+use mathlib.Core.Bool.{Bool, true}
+use native.Mathlib.Omega.{arith}
+use Prim.Native.Nat.{ℕ, zero, suc, _+_, _*_, _-_, _≤_, _<_}
+use mathlib.Core.Path.{_≡_, refl, sym, ap, _∙_}
+use Rattle.held_rows.proofs.lengths_within.Statement.{statement}
+use Rattle.held_rows.proofs.lengths_within.Tie as tie
+use Rattle.held_rows.proofs.lengths_within.Reads as reads
+use Rattle.held_rows.proofs.lengths_within.Lts as lts
+
+abbrev Inv-loop : tie.InvT-loop
+Inv-loop names start stride n limit i₀ at₀ i at = (i ≤ n) × (at ≡ start + i * stride) × (allOf (λ (c : ℕ). leb c limit) (take i (column names start stride n)) ≡ true)
+
+abbrev μ-loop : tie.MeasureT-loop
+μ-loop names start stride n limit i₀ at₀ i at = n - i
+
+-- src/lib.rt:88:5
+loop-holds : tie.Need-loop-holds Inv-loop μ-loop
+loop-holds c = (omega arith, column-start (c .args .names .now) (c .args .start) (c .args .stride) (c .args .n), refl)
+
+-- src/lib.rt:89:12
+shared-slice-read-if1 : tie.Need-shared-slice-read-if1 Inv-loop μ-loop
+shared-slice-read-if1 c = let q = column-in (c .before .before .before .args .names .now) (c .before .before .before .args .start) (c .before .before .before .args .stride) (c .before .before .before .args .n) (c .before .before .loop .i) (c .before .before .loop .at) (omega arith) (c .before .before .loop .inv .1) (c .before .before .before .pre .0) (c .before .before .before .pre .1) in omega arith
+
+-- src/lib.rt:90:13
+returns : tie.Need-returns Inv-loop μ-loop
+returns c = byte-off (c .before .before .before .before .args .names .now) (c .before .before .before .before .args .start) (c .before .before .before .before .args .stride) (c .before .before .before .before .args .n) (c .before .before .before .before .args .limit) (c .before .before .before .loop .i) (c .before .before .before .loop .at) (omega arith) (c .before .before .before .loop .inv .1) (c .if1 .taken)
+
+-- src/lib.rt:92:9
+add-at : tie.Need-add-at Inv-loop μ-loop
+add-at c = let q = column-in (c .before .before .before .before .args .names .now) (c .before .before .before .before .args .start) (c .before .before .before .before .args .stride) (c .before .before .before .before .args .n) (c .before .before .before .loop .i) (c .before .before .before .loop .at) (omega arith) (c .before .before .before .loop .inv .1) (c .before .before .before .before .pre .0) (c .before .before .before .before .pre .1) in omega arith
+
+-- src/lib.rt:93:9
+add-i : tie.Need-add-i Inv-loop μ-loop
+add-i c = omega arith
+
+-- src/lib.rt:88:5
+loop-less : tie.Need-loop-less Inv-loop μ-loop
+loop-less c = omega arith
+
+-- src/lib.rt:88:5
+loop-again : tie.Need-loop-again Inv-loop μ-loop
+loop-again c = (omega arith, column-next (c .before .before .before .before .args .names .now) (c .before .before .before .before .args .start) (c .before .before .before .before .args .stride) (c .before .before .before .before .args .n) (c .before .before .before .loop .i) (c .before .before .before .loop .at) (c .before .before .before .loop .inv .1), byte-on (c .before .before .before .before .args .names .now) (c .before .before .before .before .args .start) (c .before .before .before .before .args .stride) (c .before .before .before .before .args .n) (c .before .before .before .before .args .limit) (c .before .before .before .loop .i) (c .before .before .before .loop .at) (omega arith) (c .before .before .before .loop .inv .1) (c .if1 .left) (c .before .before .before .loop .inv .2))
+
+-- src/lib.rt:82:1
+returns-2 : tie.Need-returns-2 Inv-loop μ-loop
+returns-2 c = bytes-done (c .before .before .args .names .now) (c .before .before .args .start) (c .before .before .args .stride) (c .before .before .args .n) (c .before .before .args .limit) (c .before .loop .i) (omega arith) (c .before .loop .inv .2)
+
+pub lengths-within-spec : {M : Type 1} → statement M
+lengths-within-spec =
+    tie.close
+    (tie.spec
+    Inv-loop
+    μ-loop
+    loop-holds
+    shared-slice-read-if1
+    returns
+    add-at
+    add-i
+    loop-less
+    loop-again
+    returns-2)

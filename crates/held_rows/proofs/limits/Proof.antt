@@ -1,0 +1,27 @@
+use Rattle.held.proofs.Passed.{setup-says, net-says}
+use native.Mathlib.Omega.{arith}
+use borrow.Author.Needs.{needs}
+use Rattle.held_rows.proofs.limits.Statement.{statement}
+use Rattle.held_rows.proofs.limits.Tie as tie
+use Rattle.held_rows.proofs.limits.Reads as reads
+use Rattle.held_rows.proofs.limits.Lts as lts
+
+-- src/lib.rt:40:16
+shared-slice-read-t3 : tie.Need-shared-slice-read-t3
+shared-slice-read-t3 c = let p = setup-says (c .before .args .setup .now) (c .before .pre) in omega (arith, p)
+
+-- src/lib.rt:41:16
+shared-slice-read-t5 : tie.Need-shared-slice-read-t5
+shared-slice-read-t5 c = let p = setup-says (c .before .before .args .setup .now) (c .before .before .pre) in omega (arith, p)
+
+-- src/lib.rt:42:18
+shared-slice-read-t7 : tie.Need-shared-slice-read-t7
+shared-slice-read-t7 c = let p = setup-says (c .before .before .before .args .setup .now) (c .before .before .before .pre) in omega (arith, p)
+
+-- src/lib.rt:35:1
+returns : tie.Need-returns
+returns c = search needs
+
+pub limits-spec : {M : Type 1} → statement M
+limits-spec =
+    tie.close (tie.spec shared-slice-read-t3 shared-slice-read-t5 shared-slice-read-t7 returns)

@@ -1,0 +1,169 @@
+// Question 1, of the tables whose rows are scanned: waiting, log, rings, names and prices. Definitions and the other tables are in `held`.
+ghost use mathlib.Core.Path.{_≡_};
+ghost use mathlib.Core.Bool.{true};
+ghost use Prim.Native.Nat.{_+_, _*_, _≤_, _<_};
+ghost use lib.ListN.{length};
+ghost use Rattle.geography.specs.Geography.{atLeastOne, linkWidth, linkIn, mostRegions};
+ghost use Rattle.scan.specs.Scan.{columnWithin};
+ghost use Rattle.network.specs.Opening.{mostTills};
+ghost use Rattle.network.specs.Tables.{sizesAt};
+ghost use Rattle.held.specs.Held.{setupHeld, netHeld, waitingHeld, logHeld, ringsHeld, namesHeld, pricesHeld};
+ghost use Rattle.held_rows.specs.HeldRows.{limitsOf, linksAdmitted, planHeld};
+use geography::Link;
+use scan::Limits;
+use time::Time;
+
+// The longest wire, type name and shard key.
+const LONGEST_WIRE: u64 = 65536;
+
+const LONGEST_NAME: u8 = 64;
+
+const LONGEST_KEY: u8 = 16;
+
+// A length and the bytes of the longest text; where the shard keys start; the bytes of `names`.
+pub const NAME_WIDTH: usize = 65;
+
+pub const KEY_WIDTH: usize = 17;
+
+pub const KEYS: usize = 16 * NAME_WIDTH;
+
+pub const NAMES_WIDTH: usize = KEYS + 16 * KEY_WIDTH;
+
+// The words of a link in `prices`: base and rate.
+pub const LINK_WIDTH: usize = 2;
+
+fn limits(setup: &[u64]) -> Limits
+    requires { ⌜ setupHeld (now setup) ≡ true ⌝ }
+    ensures { λ r. ⌜ r ≡ limitsOf (sizesAt (now (setup .entry))) ⌝ }
+{
+    Limits {
+        hosts: setup[held::TILLS],
+        kinds: setup[held::TYPES],
+        classes: setup[held::CLASSES],
+        wire: LONGEST_WIRE,
+    }
+}
+
+pub fn waiting_held(setup: &[u64], net: &[u64], waiting: &[u64]) -> bool
+    requires { ⌜ (setupHeld (now setup) ≡ true) × (netHeld (now setup) (now net) ≡ true) ⌝ }
+    ensures { λ r. ⌜ r ≡ waitingHeld (now (setup .entry)) (now (net .entry)) (now (waiting .entry)) ⌝ }
+{
+    let slots = setup[held::WAIT_SLOTS] as usize;
+    if waiting.len() != slots * waiting::WIDTH {
+        return false;
+    }
+    let n = net[held::WAITING] as usize;
+    scan::copies_near(waiting, n, limits(setup))
+}
+
+pub fn log_held(setup: &[u64], log: &[u64]) -> bool
+    requires { ⌜ setupHeld (now setup) ≡ true ⌝ }
+    ensures { λ r. ⌜ r ≡ logHeld (now (setup .entry)) (now (log .entry)) ⌝ }
+{
+    let slots = setup[held::LOG_SLOTS] as usize;
+    if log.len() != log::RECORDS + slots * delivery::WIDTH {
+        return false;
+    }
+    scan::log_near(log, slots, limits(setup))
+}
+
+pub fn rings_held(setup: &[u64], rings: &[u64]) -> bool
+    requires { ⌜ setupHeld (now setup) ≡ true ⌝ }
+    ensures { λ r. ⌜ r ≡ ringsHeld (now (setup .entry)) (now (rings .entry)) ⌝ }
+{
+    let n = setup[held::TYPES] as usize * rings::SCOPES;
+    if rings.len() != n * rings::SIZE {
+        return false;
+    }
+    scan::rings_near(rings, n, limits(setup))
+}
+
+// Is each of n bytes, `stride` apart from `start` on, at most `limit`?
+fn lengths_within(names: &[u8], start: usize, stride: usize, n: usize, limit: u8) -> bool
+    requires { ⌜ (1 ≤ stride) × (start + n * stride ≤ length (now names)) ⌝ }
+    ensures { λ r. ⌜ r ≡ columnWithin (now (names .entry)) start stride n limit ⌝ }
+{
+    let mut i: usize = 0;
+    let mut at = start;
+    while i < n {
+        if names[at] > limit {
+            return false;
+        }
+        at += stride;
+        i += 1;
+    }
+    true
+}
+
+pub fn names_held(setup: &[u64], names: &[u8]) -> bool
+    requires { ⌜ setupHeld (now setup) ≡ true ⌝ }
+    ensures { λ r. ⌜ r ≡ namesHeld (now (setup .entry)) (now (names .entry)) ⌝ }
+{
+    if names.len() != NAMES_WIDTH {
+        return false;
+    }
+    let types = setup[held::TYPES] as usize;
+    if !lengths_within(names, 0, NAME_WIDTH, types, LONGEST_NAME) {
+        return false;
+    }
+    let shards = setup[held::SHARDS] as usize;
+    lengths_within(names, KEYS, KEY_WIDTH, shards, LONGEST_KEY)
+}
+
+// Row i of the links.
+fn link_in(prices: &[u64], i: usize) -> Link
+    requires { ⌜ linkWidth * i + linkWidth ≤ length (now prices) ⌝ }
+    ensures { λ r. ⌜ r ≡ linkIn (now (prices .entry)) i ⌝ }
+{
+    let at = LINK_WIDTH * i;
+    let base = Time { ns: prices[at] };
+    let rate = prices[at + 1];
+    Link { base, rate }
+}
+
+// Are the first n links such as a plan can give?
+fn links_admitted(prices: &[u64], n: usize) -> bool
+    requires { ⌜ linkWidth * n ≤ length (now prices) ⌝ }
+    ensures { λ r. ⌜ r ≡ linksAdmitted (now (prices .entry)) n ⌝ }
+{
+    let mut i: usize = 0;
+    while i < n {
+        if !geography::link_admitted(link_in(prices, i)) {
+            return false;
+        }
+        i += 1;
+    }
+    true
+}
+
+fn plan_held(prices: &[u64], regions: usize, tills: usize) -> bool
+    requires { ⌜ (1 ≤ regions) × (regions ≤ mostRegions) × (tills ≤ mostTills) ⌝ }
+    ensures { λ r. ⌜ r ≡ planHeld (now (prices .entry)) regions tills ⌝ }
+{
+    let pairs = regions * regions;
+    if prices.len() != LINK_WIDTH * pairs + tills {
+        return false;
+    }
+    if !links_admitted(prices, pairs) {
+        return false;
+    }
+    scan::column_within(prices, LINK_WIDTH * pairs, 1, tills, (regions - 1) as u64)
+}
+
+// 0 acts as 1.
+fn at_least_one(n: u64) -> u64
+    ensures { λ r. ⌜ (r ≡ atLeastOne n) × (0 < r) ⌝ }
+{
+    if n == 0 { 1 } else { n }
+}
+
+pub fn prices_held(setup: &[u64], prices: &[u64]) -> bool
+    requires { ⌜ setupHeld (now setup) ≡ true ⌝ }
+    ensures { λ r. ⌜ r ≡ pricesHeld (now (setup .entry)) (now (prices .entry)) ⌝ }
+{
+    if setup[held::PLANNED] == 0 {
+        return prices.len() == 0;
+    }
+    let regions = at_least_one(setup[held::REGIONS]) as usize;
+    plan_held(prices, regions, setup[held::TILLS] as usize)
+}

@@ -1,0 +1,223 @@
+// The calls on tills and marks: take_down, bring_up, set_handlers, is_down, marks_of.
+ghost use mathlib.Core.Path.{_≡_};
+ghost use mathlib.Core.List.{_∷_, [], _++_};
+ghost use Prim.Native.Nat.{_+_, _≤_};
+ghost use lib.ListN.{length, take, drop};
+ghost use Rattle.shift.specs.Shift.{putWords};
+ghost use Rattle.network.specs.Tables.{tillForm};
+ghost use Rattle.till_calls.specs.Calls.{DoesTakeDown, DoesBringUp, DoesSetHandlers, DoesIsDown, DoesMarksOf, tillsLent, seenLent, bothLent, downNumber, readNumber, upNumber, handlersNumber, marksNumber};
+use reply::Done;
+use reply::Value;
+
+// How many marks a till has.
+#[repr(C)]
+pub struct Marks {
+    pub number: u64,
+    pub count: u64,
+}
+
+// Question 1, by the tables that a call is lent.
+fn tills_lent(setup: &[u64], tills: &[u64]) -> bool
+    ensures { λ r. ⌜ r ≡ tillsLent (now (setup .entry)) (now (tills .entry)) ⌝ }
+{
+    if !held::setup_held(setup) {
+        return false;
+    }
+    held::tills_held(setup, tills)
+}
+
+fn seen_lent(setup: &[u64], seen: &[u64]) -> bool
+    ensures { λ r. ⌜ r ≡ seenLent (now (setup .entry)) (now (seen .entry)) ⌝ }
+{
+    if !held::setup_held(setup) {
+        return false;
+    }
+    held::seen_held(setup, seen)
+}
+
+fn both_lent(setup: &[u64], tills: &[u64], seen: &[u64]) -> bool
+    ensures { λ r. ⌜ r ≡ bothLent (now (setup .entry)) (now (tills .entry)) (now (seen .entry)) ⌝ }
+{
+    if !held::setup_held(setup) {
+        return false;
+    }
+    if !held::tills_held(setup, tills) {
+        return false;
+    }
+    held::seen_held(setup, seen)
+}
+
+// Questions 1 and 4.
+fn down_refusal(setup: &[u64], tills: &[u64], seen: &[u64], t: u64) -> u64
+    ensures { λ r. ⌜ r ≡ downNumber (now (setup .entry)) (now (tills .entry)) (now (seen .entry)) t ⌝ }
+{
+    if !both_lent(setup, tills, seen) {
+        return 1;
+    }
+    if held::cell(setup, held::TILLS) <= t {
+        return 4;
+    }
+    0
+}
+
+fn read_refusal(setup: &[u64], tills: &[u64], t: u64) -> u64
+    ensures { λ r. ⌜ r ≡ readNumber (now (setup .entry)) (now (tills .entry)) t ⌝ }
+{
+    if !tills_lent(setup, tills) {
+        return 1;
+    }
+    if held::cell(setup, held::TILLS) <= t {
+        return 4;
+    }
+    0
+}
+
+// Questions 1, 4 and 5.
+fn up_refusal(setup: &[u64], tills: &[u64], t: u64, shards: u64) -> u64
+    ensures { λ r. ⌜ r ≡ upNumber (now (setup .entry)) (now (tills .entry)) t shards ⌝ }
+{
+    if !tills_lent(setup, tills) {
+        return 1;
+    }
+    if held::cell(setup, held::TILLS) <= t {
+        return 4;
+    }
+    if held::power(held::cell(setup, held::SHARDS)) <= shards {
+        return 5;
+    }
+    0
+}
+
+fn handlers_refusal(setup: &[u64], tills: &[u64], t: u64, gossip: u64, host: u64) -> u64
+    ensures { λ r. ⌜ r ≡ handlersNumber (now (setup .entry)) (now (tills .entry)) t gossip host ⌝ }
+{
+    if !tills_lent(setup, tills) {
+        return 1;
+    }
+    if held::cell(setup, held::TILLS) <= t {
+        return 4;
+    }
+    let limit = held::power(held::cell(setup, held::TYPES));
+    if limit <= gossip {
+        return 5;
+    }
+    if limit <= host {
+        return 5;
+    }
+    0
+}
+
+// Question 1, then of the output, and 4.
+fn marks_refusal(setup: &[u64], seen: &[u64], places: u64, t: u64) -> u64
+    ensures { λ r. ⌜ r ≡ marksNumber (now (setup .entry)) (now (seen .entry)) places t ⌝ }
+{
+    if !seen_lent(setup, seen) {
+        return 1;
+    }
+    if places < held::cell(setup, held::SEEN_SLOTS) {
+        return 1;
+    }
+    if held::cell(setup, held::TILLS) <= t {
+        return 4;
+    }
+    0
+}
+
+// The till whose words start at b.
+fn put_till(tills: &mut [u64], b: usize, up: u64, gossip: u64, host: u64, shards: u64)
+    requires { ⌜ b + tillForm .width ≤ length (now tills) ⌝ }
+    ensures { λ _. ⌜ now (tills .exit) ≡ putWords (now (tills .entry)) b (up ∷ gossip ∷ host ∷ shards ∷ []) ⌝ }
+{
+    tills[b] = up;
+    tills[b + 1] = gossip;
+    tills[b + 2] = host;
+    tills[b + 3] = shards;
+}
+
+// n words of `from`, at the front of `out`.
+fn copy_front(from: &[u64], start: usize, n: usize, out: &mut [u64])
+    requires { ⌜ (start + n ≤ length (now «from»)) × (n ≤ length (now out)) ⌝ }
+    ensures { λ _. ⌜ now (out .exit) ≡ take n (drop start (now («from» .entry))) ++ drop n (now (out .entry)) ⌝ }
+{
+    let mut i: usize = 0;
+    while i < n {
+        out[i] = from[start + i];
+        i += 1;
+    }
+}
+
+// The till is down; its marks, handlers and shards go, its waiting copies stay.
+pub fn take_down(setup: &[u64], tills: &mut [u64], seen: &mut [u64], t: u64) -> Done
+    ensures { λ r. ⌜ DoesTakeDown (now (setup .entry)) (now (tills .entry)) (now (seen .entry)) (now (tills .exit)) (now (seen .exit)) t r ⌝ }
+{
+    let number = down_refusal(setup, tills, seen, t);
+    if number != 0 {
+        return Done { number };
+    }
+    put_till(tills, t as usize * held::TILL_WIDTH, 0, 0, 0, 0);
+    held::put(seen, t as usize, 0);
+    Done { number: 0 }
+}
+
+// The till is up, with these shards and no handlers.
+pub fn bring_up(setup: &[u64], tills: &mut [u64], t: u64, shards: u64) -> Done
+    ensures { λ r. ⌜ DoesBringUp (now (setup .entry)) (now (tills .entry)) (now (tills .exit)) t shards r ⌝ }
+{
+    let number = up_refusal(setup, tills, t, shards);
+    if number != 0 {
+        return Done { number };
+    }
+    put_till(tills, t as usize * held::TILL_WIDTH, 1, 0, 0, shards);
+    Done { number: 0 }
+}
+
+// The types that the till's gossip and host handlers take, as masks.
+pub fn set_handlers(setup: &[u64], tills: &mut [u64], t: u64, gossip: u64, host: u64) -> Done
+    ensures { λ r. ⌜ DoesSetHandlers (now (setup .entry)) (now (tills .entry)) (now (tills .exit)) t gossip host r ⌝ }
+{
+    let number = handlers_refusal(setup, tills, t, gossip, host);
+    if number != 0 {
+        return Done { number };
+    }
+    let b = t as usize * held::TILL_WIDTH;
+    let up = tills[b];
+    let shards = tills[b + 3];
+    put_till(tills, b, up, gossip, host, shards);
+    Done { number: 0 }
+}
+
+// Is the till down? The value is 1 or 0.
+pub fn is_down(setup: &[u64], tills: &[u64], t: u64) -> Value
+    ensures { λ r. ⌜ DoesIsDown (now (setup .entry)) (now (tills .entry)) t r ⌝ }
+{
+    let number = read_refusal(setup, tills, t);
+    if number != 0 {
+        return reply::refused(number);
+    }
+    if tills[t as usize * held::TILL_WIDTH] == 0 {
+        return Value {
+            number: 0,
+            found: 1,
+            value: 1,
+        };
+    }
+    Value {
+        number: 0,
+        found: 1,
+        value: 0,
+    }
+}
+
+// The till's marks, rising, at the front of the output.
+pub fn marks_of(setup: &[u64], seen: &[u64], t: u64, out: &mut [u64]) -> Marks
+    ensures { λ r. ⌜ DoesMarksOf (now (setup .entry)) (now (seen .entry)) (now (out .entry)) (now (out .exit)) t r ⌝ }
+{
+    let number = marks_refusal(setup, seen, out.len() as u64, t);
+    if number != 0 {
+        return Marks { number, count: 0 };
+    }
+    let count = seen[t as usize];
+    let start = setup[held::TILLS] as usize + t as usize * setup[held::SEEN_SLOTS] as usize;
+    copy_front(seen, start, count as usize, out);
+    Marks { number: 0, count }
+}
