@@ -10,11 +10,23 @@ ghost use Rattle.offer.specs.Needed.{Ranged, SeenHeld};
 ghost use Rattle.offer.specs.Offering.{selectsAt};
 ghost use Rattle.recipients.specs.Turning.{left};
 ghost use Rattle.accept_questions.specs.Asking.{acceptLent, scopeExists, argumentNumber, freshAt, freeAt, tailNumber, Asked};
-
 use offer::Message;
 
 // 1
-pub fn lent(setup: &[u64], net: &[u64], names: &[u8], tills: &[u64], words: &[u64], keys: &[u32], prices: &[u64], seen: &[u64], waiting: &[u64], rings: &[u64], rules: &[u64], blocks: &[u64]) -> bool
+pub fn lent(
+    setup: &[u64],
+    net: &[u64],
+    names: &[u8],
+    tills: &[u64],
+    words: &[u64],
+    keys: &[u32],
+    prices: &[u64],
+    seen: &[u64],
+    waiting: &[u64],
+    rings: &[u64],
+    rules: &[u64],
+    blocks: &[u64],
+) -> bool
     ensures { λ r. ⌜ r ≡ acceptLent (now (setup .entry)) (now (net .entry)) (now (names .entry)) (now (tills .entry)) (now (words .entry)) (now (keys .entry)) (now (prices .entry)) (now (seen .entry)) (now (waiting .entry)) (now (rings .entry)) (now (rules .entry)) (now (blocks .entry)) ⌝ }
 {
     if !held::setup_held(setup) {
@@ -65,7 +77,15 @@ fn scope_exists(setup: &[u64], scope: u64) -> bool
 }
 
 // 4, 5, 6, 7
-pub fn arguments(setup: &[u64], from: u64, kind: u64, class: u64, scope: u64, wire: u64, at: u64) -> u64
+pub fn arguments(
+    setup: &[u64],
+    from: u64,
+    kind: u64,
+    class: u64,
+    scope: u64,
+    wire: u64,
+    at: u64,
+) -> u64
     requires { ⌜ length (now setup) ≡ setupWidth ⌝ }
     ensures { λ r. ⌜ r ≡ argumentNumber (now (setup .entry)) «from» kind «class» scope wire at 0 ⌝ }
 {
@@ -172,7 +192,14 @@ fn selected(setup: &[u64], tills: &[u64], m: Message) -> u64
 }
 
 // 8, 9, 10, 11
-pub fn tail(setup: &[u64], net: &[u64], tills: &[u64], words: &[u64], seen: &[u64], m: Message) -> u64
+pub fn tail(
+    setup: &[u64],
+    net: &[u64],
+    tills: &[u64],
+    words: &[u64],
+    seen: &[u64],
+    m: Message,
+) -> u64
     requires { ⌜ Asked (now setup) (now tills) m × (length (now words) ≡ links) × SeenHeld (sizesAt (now setup)) (now seen) × (length (now net) ≡ netWidth) ⌝ }
     ensures { λ r. ⌜ r ≡ tailNumber (now (setup .entry)) (now (net .entry)) (now (tills .entry)) (now (words .entry)) (now (seen .entry)) m ⌝ }
 {

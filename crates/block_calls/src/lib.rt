@@ -116,14 +116,7 @@ pub fn unblock(setup: &[u64], net: &mut [u64], blocks: &mut [u64], from: u64, to
 }
 
 // Does a window of the pair hold the time? The value is 1 or 0.
-pub fn is_blocked(
-    setup: &[u64],
-    net: &[u64],
-    blocks: &[u64],
-    from: u64,
-    to: u64,
-    at: u64,
-) -> Value
+pub fn is_blocked(setup: &[u64], net: &[u64], blocks: &[u64], from: u64, to: u64, at: u64) -> Value
     ensures { λ r. ⌜ DoesIsBlocked (now (setup .entry)) (now (net .entry)) (now (blocks .entry)) «from» to at r ⌝ }
 {
     let number = time_refusal(setup, net, blocks, from, to, at);

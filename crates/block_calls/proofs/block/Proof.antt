@@ -23,7 +23,7 @@ same-length-2 c = search needs
 
 -- src/lib.rt:81:9
 returns : tie.Need-returns
-returns c = block-refused (c .before .before .before .before .before .before .before .args .setup .now) (c .before .before .before .before .before .before .before .args .net .now) (c .before .before .before .before .before .before .before .args .blocks .now) (c .before .before .before .before .before .before .before .args .from) (c .before .before .before .before .before .before .before .args .to) _  (c .before .block-refusal .ensures) (c .if1 .taken)
+returns c = block-refused (c .before .before .before .before .before .before .before .args .setup .now) (c .before .before .before .before .before .before .before .args .net .now) (c .before .before .before .before .before .before .before .args .blocks .now) (c .before .before .before .before .before .before .before .args .from) (c .before .before .before .before .before .before .before .args .to) _ (c .before .block-refusal .ensures) (c .if1 .taken)
 
 -- src/lib.rt:83:13
 slice-read-n : tie.Need-slice-read-n
@@ -51,7 +51,7 @@ same-length-4 c = search needs
 
 -- src/lib.rt:76:1
 returns-2 : tie.Need-returns-2
-returns-2 c = block-done (c .before .before .before .before .before .before .before .before .before .before .before .before .args .setup .now) (c .before .before .before .before .before .before .before .before .before .before .before .before .args .net .now) (c .before .before .before .before .before .before .before .before .before .before .before .before .args .blocks .now) (c .before .before .before .before .before .before .before .before .before .before .before .before .args .from) (c .before .before .before .before .before .before .before .before .before .before .before .before .args .to) _ _ refl _ _  (c .before .before .before .before .before .before .block-refusal .ensures) (c .before .before .before .before .before .if1 .left) refl (c .before .before .block .ensures .1)
+returns-2 c = block-done (c .before .before .before .before .before .before .before .before .before .before .before .before .args .setup .now) (c .before .before .before .before .before .before .before .before .before .before .before .before .args .net .now) (c .before .before .before .before .before .before .before .before .before .before .before .before .args .blocks .now) (c .before .before .before .before .before .before .before .before .before .before .before .before .args .from) (c .before .before .before .before .before .before .before .before .before .before .before .before .args .to) _ _ refl _ _ (c .before .before .before .before .before .before .block-refusal .ensures) (c .before .before .before .before .before .if1 .left) refl (c .before .before .block .ensures .1)
 
 pub block-spec : {M : Type 1} → statement M
 block-spec =
