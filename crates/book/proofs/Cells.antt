@@ -90,7 +90,7 @@ module _ (o : Opening) (lim : Limited (o .sizes)) (g : DrawsFit o) (m : Message)
       let many : length (s .waiting) ≡ cell (T .net) waitingAt = sym (ap (λ (x : Live). length (x .waiting)) (w .holds)) ∙ length-rows waiting.width waiting.read (cell (T .net) waitingAt) (T .waiting) in
       let slot : c ≡ sent → length (idsAt s t) < z .seenSlots = λ x. room o m s t (r .0) (free x) in
       let x = effect-wrote o m k (classOf o m (live z T) t) T (drawn o m t (live z T)) t (w .formed)
-      (subst (λ (y : Live). Good o m (drawn o m t y)) (sym (w .holds)) gd) (b .0)
+      (subst (λ (y : Live). Good o m (drawn o m t y)) (sym (w .holds)) gd .few) (b .0)
       (subst (λ (y : Live). classOf o m y t ≡ sent → length (idsAt y t) < z .seenSlots) (sym (w .holds)) slot) (omega (arith, many)) in
       let y : Wrote z (offeredT o m T t) (effect o m c s d t) =
       record { formed = x .formed; holds = x .holds ∙ ap (λ (y : Live). effect o m (classOf o m y t) y (drawn o m t y) t) (w .holds) } in

@@ -66,7 +66,7 @@ module _ (o : Opening) where
         let w = words-wrote (o .sizes) T f (link (m .from) t) n in
         ruled-wrote (o .sizes) (wordsT T (link (m .from) t) n) (w .formed) v
 
-    pub effect-wrote : (c : Class) (T : Tables) (d : Drawn) (t : ℕ) → Formed (o .sizes) T → Good o m d → t < o .sizes .tills
+    pub effect-wrote : (c : Class) (T : Tables) (d : Drawn) (t : ℕ) → Formed (o .sizes) T → length (d .echoes .copies) ≤ 2 → t < o .sizes .tills
         → (c ≡ sent → length (idsAt (live (o .sizes) T) t) < o .sizes .seenSlots) → cell (T .net) waitingAt + 3 ≤ o .sizes .waitSlots → Wrote (o .sizes) (effectT o m c T d t) (effect o m c (live (o .sizes) T) d t)
     effect-wrote deduplicated T d t f g b r w = record { formed = f; holds = refl }
     effect-wrote partition T d t f g b r w = record { formed = f; holds = refl }
@@ -84,7 +84,7 @@ module _ (o : Opening) where
         let same : live z T₂ .waiting ≡ s .waiting = ap (λ (q : Live). q .waiting) (x₂ .holds) ∙ ap (λ (q : Live). q .waiting) (x₁ .holds) in
         let count : cell (T₂ .net) waitingAt ≡ cell (T .net) waitingAt =
         sym (length-rows waiting.width waiting.read (cell (T₂ .net) waitingAt) (T₂ .waiting)) ∙ ap length same ∙ length-rows waiting.width waiting.read (cell (T .net) waitingAt) (T .waiting) in
-        let x₃ = push-wrote z cs T₂ (x₂ .formed) (omega (arith, count, few-copies o m s d t (g .few))) in
+        let x₃ = push-wrote z cs T₂ (x₂ .formed) (omega (arith, count, few-copies o m s d t g)) in
         let x₄ = remember-wrote (pushT z T₂ cs) (x₃ .formed) in
         record {
           formed = x₄ .formed;
@@ -107,7 +107,7 @@ module _ (o : Opening) where
         let many : length (s .waiting) ≡ cell (T .net) waitingAt = sym (ap (λ (q : Live). length (q .waiting)) (w .holds)) ∙ length-rows waiting.width waiting.read (cell (T .net) waitingAt) (T .waiting) in
         let slot : c ≡ sent → length (idsAt s t) < z .seenSlots = λ e. room o m s t (r .0) (free e) in
         let x = effect-wrote (classOf o m (live z T) t) T (drawn o m t (live z T)) t (w .formed)
-        (subst (λ (q : Live). Good o m (drawn o m t q)) (sym (w .holds)) g) (b .0)
+        (subst (λ (q : Live). Good o m (drawn o m t q)) (sym (w .holds)) g .few) (b .0)
         (subst (λ (q : Live). classOf o m q t ≡ sent → length (idsAt q t) < z .seenSlots) (sym (w .holds)) slot) (omega (arith, many)) in
         let y : Wrote z (offeredT o m T t) (effect o m c s d t) =
         record { formed = x .formed; holds = x .holds ∙ ap (λ (q : Live). effect o m (classOf o m q t) q (drawn o m t q) t) (w .holds) } in

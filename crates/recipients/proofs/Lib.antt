@@ -1,0 +1,4 @@
+pub mod Simulated
+pub mod Stepping
+pub mod Onward
+pub mod Turns
