@@ -134,7 +134,7 @@ declare! {
     gossip_accept(setup: P, setup_n: usize, net: M, net_n: usize, names: *const u8, names_n: usize, tills: P, tills_n: usize, words: M, words_n: usize,
         keys: *const u32, keys_n: usize, prices: P, prices_n: usize, seen: M, seen_n: usize, waiting: M, waiting_n: usize, rings: M, rings_n: usize,
         rules: M, rules_n: usize, blocks: P, blocks_n: usize, wire: *const u8, wire_n: usize,
-        from: u64, now: u64, kind: u64, class: u64, scope: u64, opens: u64, tag: u64) -> Accepted;
+        from: u64, now: u64, kind: u64, class: u64, scope: u64, tag: u64, opens: u64) -> Accepted;
     gossip_flush(setup: P, setup_n: usize, net: M, net_n: usize, tills: P, tills_n: usize, seen: M, seen_n: usize, waiting: M, waiting_n: usize,
         blocks: P, blocks_n: usize, log: M, log_n: usize, out: M, out_n: usize, now: u64) -> Flushed;
     gossip_take_down(setup: P, setup_n: usize, tills: M, tills_n: usize, seen: M, seen_n: usize, t: u64) -> Done;
@@ -259,7 +259,7 @@ impl Network {
                 self.tills.as_ptr(), self.tills.len(), self.words.as_mut_ptr(), self.words.len(), self.keys.as_ptr(), self.keys.len(),
                 self.prices.as_ptr(), self.prices.len(), self.seen.as_mut_ptr(), self.seen.len(), self.waiting.as_mut_ptr(), self.waiting.len(),
                 self.rings.as_mut_ptr(), self.rings.len(), self.rules.as_mut_ptr(), self.rules.len(), self.blocks.as_ptr(), self.blocks.len(),
-                wire.as_ptr(), wire.len(), from, now, kind, class, scope, opens as u64, tag,
+                wire.as_ptr(), wire.len(), from, now, kind, class, scope, tag, opens as u64,
             )
         }
     }
