@@ -1,20 +1,18 @@
 -- The ways out of accept. Assumes nothing.
-use Prim.Native.Nat.{ℕ, _≤_, _<_}
+use Prim.Native.Nat.{ℕ}
 use mathlib.Core.Path.{_≡_, refl, sym, ap, subst, _∙_}
 use native.Mathlib.Omega.{arith}
-use mathlib.Core.Bool.{Bool, true, false, cond, not}
-use mathlib.Core.List.{List, []}
+use mathlib.Core.Bool.{Bool, true, false, not}
+use mathlib.Core.List.{List}
 use lib.Dec.{eqb}
 use lib.ListN.{length}
 use borrow.Author.Tests.{eq-eqb, ne-eqb}
-use Rattle.network.specs.Opening.{Opening}
-use Rattle.network.specs.Live.{Live}
 use Rattle.network.specs.Accept as accept
-use Rattle.network.specs.Accept.{Entry, messageOf, selected, Counts, noCounts, booked, tally}
-use Rattle.network.specs.Calls.{Call, accept, Answer, counted, answerOf, countsIn}
+use Rattle.network.specs.Accept.{Entry, messageOf, Counts, noCounts, booked, tally}
+use Rattle.network.specs.Calls.{Call, accept}
 use Rattle.network.specs.Tables.{Tables, live, sizesAt}
 use Rattle.network.specs.Real.{idOf, drawsOf, openingAt}
-use Rattle.network.specs.Writes.{Reply, acceptT, callTables, callReply}
+use Rattle.network.specs.Writes.{acceptT, callTables, callReply}
 use Rattle.reply.proofs.Laws.{silenced, stays, answered, steps}
 use Rattle.offer.specs.declared.Message.{Message}
 use Rattle.offer.specs.Offering.{told, tablesOf}

@@ -1,42 +1,38 @@
 -- What accept's questions, answered "yes", say of the tables. Assumes nothing.
 use Prim.Native.Nat.{ℕ, zero, suc, _+_, _-_, _*_, _≤_, _<_}
 use mathlib.Core.Path.{_≡_, refl, sym, ap, subst, _∙_}
-use mathlib.Core.Bool.{Bool, true, false, cond, _&&_, _||_, false≢true}
-use mathlib.Core.List.{List, [], _∷_}
+use mathlib.Core.Bool.{Bool, true, false, cond, _&&_, _||_}
+use mathlib.Core.List.{List, _∷_}
 use mathlib.Core.Logic.{_⊎_, inl, inr, ⊎-elim}
 use native.Mathlib.Omega.{arith}
-use native.Mathlib.Nat.{zero-add}
 use lib.Dec.{T, eqb, leb, ltb}
 use lib.ListN.{length, getD, List·getD-eq-default}
 use borrow.Author.Tests.{eqb-true, eqb-false, leb-true, ltb-true, ltb-false}
 use Rattle.rows.specs.Rows.{keep, pick, allOf}
 use Rattle.rows.specs.Lists.{upTo}
 use Rattle.rows.proofs.Lists.{length-upTo}
-use Rattle.latency.specs.Admitted.{fractionAdmitted}
-use Rattle.geography.specs.Geography.{atLeastOne, linkIn, linkAdmitted}
+use Rattle.geography.specs.Geography.{atLeastOne}
 use Rattle.rules.specs.Rules.{ruleSlots}
-use Rattle.marks.specs.Marks.{found, idsOf}
 use Rattle.rings.specs.Rings.{none, entries, entryOf, countOf}
 use Rattle.rings.proofs.Laws.{get-oldest}
 use Rattle.rings.specs.declared.Entry.{Entry}
 use Rattle.scan.proofs.Laws.{entries-long}
-use Rattle.network.specs.Opening.{global, longestWire, latestNow, links, mostWords, mostShards, lastNumber}
+use Rattle.network.specs.Opening.{global, longestWire, latestNow, links, mostWords, mostShards}
 use Rattle.network.specs.Live.{ringsOf}
-use Rattle.network.specs.Tables.{cell, sizesAt, settingsAt, idsStart, waitingAt, sequenceAt, faultWordsAt, shardAt, namesWidth, ruleForm}
-use Rattle.network.specs.Limits.{rateOf}
+use Rattle.network.specs.Tables.{cell, sizesAt, settingsAt, faultWordsAt, shardAt, ruleForm}
 use Rattle.network.specs.Real.{keyWidth, regionAt, pairCells}
 use Rattle.book.proofs.Fitting.{length-keep}
-use Rattle.held.specs.Held.{setupHeld, pricesHeld}
+use Rattle.held.specs.Held.{pricesHeld}
 use Rattle.held.proofs.Ladder.{both, only, under}
 use Rattle.held.proofs.Passed.{PassedSetup, PassedNet, setup-says, net-says}
 use Rattle.held.proofs.PassedRows.{PassedTills, PassedSeen, PassedBlocks, words-say, rules-say, keys-say, tills-say, seen-says, blocks-say}
-use Rattle.held_rows.proofs.Passed.{PassedWaiting, PassedRings, PassedNames, PassedPlan, waiting-says, rings-say, names-say, prices-say}
+use Rattle.held_rows.proofs.Passed.{PassedWaiting, PassedRings, PassedNames, waiting-says, rings-say, names-say, prices-say}
 use Rattle.link_draws.specs.Drawing.{Priced}
 use Rattle.message.specs.Message.{Named}
 use Rattle.offer.specs.declared.Message.{Message}
-use Rattle.offer.specs.Needed.{Fixed, Ranged, State, SeenHeld, RingsHeld}
+use Rattle.offer.specs.Needed.{Fixed, SeenHeld, RingsHeld}
 use Rattle.offer.specs.Offering.{selectsAt}
-use Rattle.recipients.specs.Turning.{rest, left, Going}
+use Rattle.recipients.specs.Turning.{rest, Going}
 use Rattle.accept_calls.proofs.Numbers.{all-passed}
 use Rattle.accept_questions.specs.Asking.{acceptLent, argumentNumber, scopeExists, freshAt, freeAt, tailNumber, Asked}
 

@@ -1,11 +1,11 @@
 -- The number of accept's questions, as the network has it and as the code asks. Assumes nothing.
-use Prim.Native.Nat.{ℕ, zero, suc, _+_, _-_, _*_, _≤_, _<_}
+use Prim.Native.Nat.{ℕ, zero, suc, _+_, _-_, _*_, _<_}
 use mathlib.Core.Path.{_≡_, refl, sym, ap, _∙_}
 use mathlib.Core.Bool.{Bool, true, false, cond, not, _&&_, _||_}
-use mathlib.Core.List.{List, [], _∷_}
+use mathlib.Core.List.{[], _∷_}
 use native.Mathlib.Omega.{arith}
 use lib.Dec.{eqb, leb, ltb}
-use lib.ListN.{length, getD}
+use lib.ListN.{length}
 use Rattle.rows.specs.Rows.{keep, pick, allOf}
 use Rattle.rows.specs.Lists.{upTo}
 use Rattle.rows.proofs.Lists.{upTo-same, getD-upTo}
@@ -17,7 +17,7 @@ use Rattle.network.specs.Lists.{below}
 use Rattle.network.specs.Opening.{link, mostWords, lastNumber, longestWire, latestNow}
 use Rattle.network.specs.Live.{Live, marked, idsAt}
 use Rattle.network.specs.Accept.{Entry, messageOf, receives, selected}
-use Rattle.network.specs.Calls.{Call, accept}
+use Rattle.network.specs.Calls.{accept}
 use Rattle.network.specs.Questions.{asked, firstNo, ask8, ask9, ask10, ask11}
 use Rattle.network.specs.Tables.{cell, Tables, live, sizesAt, idsStart, waitingAt, sequenceAt, faultWordsAt}
 use Rattle.network.specs.Real.{idOf, drawsOf, openingAt}
@@ -27,9 +27,9 @@ use Rattle.held.specs.Held.{setupHeld, netHeld, namesHeld, tillsHeld, wordsHeld
 use Rattle.offer.specs.declared.Message.{Message}
 use Rattle.offer.specs.Needed.{SeenHeld}
 use Rattle.offer.specs.Offering.{selectsAt}
-use Rattle.offer.proofs.Readings.{selects-is, marked-is, marks-in}
+use Rattle.offer.proofs.Readings.{selects-is, marks-in}
 use Rattle.recipients.specs.Turning.{rest, left}
-use Rattle.accept_questions.specs.Asking.{acceptLent, argumentNumber, scopeExists, freshAt, freeAt, tailNumber}
+use Rattle.accept_questions.specs.Asking.{acceptLent, argumentNumber, scopeExists, freeAt, tailNumber}
 
 -- ---- A ladder of four
 

@@ -1,12 +1,11 @@
 -- THE CONTRACT of accept. Every table but the log is lent; the log holds whatever it holds, and stays.
 use Prim.Native.Nat.{ℕ}
 use mathlib.Core.Path.{_≡_}
-use mathlib.Core.Bool.{Bool, not}
+use mathlib.Core.Bool.{not}
 use mathlib.Core.List.{List}
 use lib.Dec.{eqb}
 use Rattle.network.specs.Accept.{Entry, Counts}
 use Rattle.network.specs.Calls.{Call, accept, countsIn}
-use Rattle.network.specs.Tables.{Tables}
 use Rattle.network.specs.Writes.{Reply, callTables, callReply}
 use Rattle.offer.specs.Offering.{tablesOf}
 use Rattle.accept_calls.specs.declared.Accepted.{Accepted}

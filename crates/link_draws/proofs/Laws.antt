@@ -1,21 +1,20 @@
 -- What the cells, costs and word counts give. Assumes nothing.
-use Prim.Native.Nat.{ℕ, zero, suc, _+_, _*_, _/_, _%_, _^_, _≤_, _<_, max}
+use Prim.Native.Nat.{ℕ, _+_, _*_, _%_, _^_, _≤_, _<_}
 use mathlib.Core.Path.{_≡_, refl, sym, ap, subst, _∙_}
 use mathlib.Core.Bool.{Bool, true, false, cond, not, _&&_, false≢true}
 use mathlib.Core.List.{List, [], _∷_}
 use native.Mathlib.Omega.{arith}
 use native.Mathlib.Nat.{mul-le-mul-right, suc-mul, div-le-of-le-mul}
-use lib.Dec.{T, eqb, leb, ltb}
+use lib.Dec.{T, eqb, leb}
 use lib.Ieee.{Float, lt}
-use lib.ListN.{length, getD, take, drop, List·getD-eq-default}
+use lib.ListN.{length, List·getD-eq-default}
 use lib.Seq.{getD-drop}
 use borrow.Author.Tests.{leb-true}
-use Rattle.shift.proofs.Blocks.{cells-at}
 use Rattle.float.specs.Float.{zero64}
 use Rattle.time.specs.Seconds.{millisecond, seconds}
 use Rattle.streams.specs.declared.Cursor.{Cursor}
 use Rattle.streams.specs.declared.Drawn32.{Drawn32}
-use Rattle.streams.specs.Streams.{Holds, Moved}
+use Rattle.streams.specs.Streams.{Moved}
 use Rattle.draw.specs.declared.Hit.{Hit}
 use Rattle.draw.specs.Draw.{whole32At, words32At, drawsOf, choose, again}
 use Rattle.draw.specs.Fraction.{hitsAt, hitWords}
@@ -26,10 +25,10 @@ use Rattle.geography.specs.declared.Cost.{Cost}
 use Rattle.geography.specs.declared.Link.{Link}
 use Rattle.geography.specs.Geography.{atLeastOne, mostRegions, linkIn, linkAt, linkAdmitted, linkCost, transmissionOf, costOf, pickCost}
 use Rattle.network.specs.Opening.{Settings, Plan, longestWire, mostTills}
-use Rattle.network.specs.Tables.{cell, settingsAt, keyAt, setupWidth}
+use Rattle.network.specs.Tables.{cell, settingsAt, keyAt}
 use Rattle.network.specs.Limits.{rateOf}
 use Rattle.network.specs.Real.{keyWidth, faultKeyOf, chance, regionAt, costAt, pairCells}
-use Rattle.link_draws.specs.Drawing.{Priced, Sent, Struck, Picked, Delayed}
+use Rattle.link_draws.specs.Drawing.{Sent, Struck, Picked, Delayed}
 
 -- ---- Word counts
 

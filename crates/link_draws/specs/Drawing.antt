@@ -1,13 +1,13 @@
 -- What the draws of an opening need of its settings and prices (question 1), and what they give.
 use Prim.Native.Nat.{ℕ, _+_, _*_, _≤_, _<_}
 use mathlib.Core.Path.{_≡_}
-use mathlib.Core.Bool.{Bool, true, false}
+use mathlib.Core.Bool.{true, false}
 use mathlib.Core.List.{List}
 use lib.Dec.{T, eqb}
 use lib.ListN.{length}
 use Rattle.streams.specs.declared.Cursor.{Cursor}
 use Rattle.streams.specs.declared.Drawn32.{Drawn32}
-use Rattle.streams.specs.Streams.{Holds, Moved}
+use Rattle.streams.specs.Streams.{Holds}
 use Rattle.draw.specs.declared.Hit.{Hit}
 use Rattle.draw.specs.Draw.{whole32At, words32At}
 use Rattle.latency.specs.declared.Sample.{Sample}

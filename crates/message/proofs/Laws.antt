@@ -1,16 +1,16 @@
 -- The head of an id: a name and a scope, put one behind the other. Assumes nothing.
-use Prim.Native.Nat.{ℕ, suc, _+_, _*_, _^_, _≤_, _<_}
+use Prim.Native.Nat.{ℕ, suc, _+_, _*_, _≤_, _<_}
 use mathlib.Core.Path.{_≡_, refl, ap, ap₂, sym, _∙_}
-use mathlib.Core.Bool.{true, false, cond}
+use mathlib.Core.Bool.{false, cond}
 use mathlib.Core.List.{List, [], _∷_, _++_, append-assoc}
 use native.Mathlib.Omega.{arith}
 use native.Mathlib.Nat.{le-refl, zero-add}
 use native.Mathlib.Numerals.{add-one}
 use lib.Dec.{eqb}
 use lib.ListN.{length, getD, take, drop, set, length-set, length-take}
-use lib.Seq.{paste, take-paste, take-length, length-paste, take-suc-set}
+use lib.Seq.{paste, take-paste, take-length, take-suc-set}
 use Rattle.digest.specs.Blake3.{hash, longest}
-use Rattle.network.specs.Opening.{global, longestKey, longestName}
+use Rattle.network.specs.Opening.{global}
 use Rattle.network.specs.Tables.{cell, nameAt, shardAt, textAt}
 use Rattle.network.specs.Real.{scopeBytes, idOf}
 use Rattle.message.specs.Message.{longestHead, idIn}

@@ -1,33 +1,26 @@
 -- The five ways out of a decision. Assumes nothing.
-use Prim.Native.Nat.{ℕ, _+_, _*_, _≤_, _<_}
+use Prim.Native.Nat.{ℕ}
 use mathlib.Core.Path.{_≡_, refl, sym, ap, _∙_}
-use mathlib.Core.Bool.{Bool, true, false, cond, not, _&&_, _||_}
-use mathlib.Core.List.{List, [], _∷_}
-use native.Mathlib.Omega.{arith}
-use lib.ListN.{length, getD}
+use mathlib.Core.Bool.{Bool, true, false}
+use mathlib.Core.List.{List}
 use Rattle.streams.specs.declared.Cursor.{Cursor}
 use Rattle.draw.specs.declared.Hit.{Hit}
 use Rattle.latency.specs.declared.Sample.{Sample}
 use Rattle.geography.specs.Geography.{Stands}
-use Rattle.rings.specs.Rings.{entries, numberOf}
-use Rattle.marks.specs.Marks.{found, idsOf}
 use Rattle.rules.specs.Rules.{rulesOf}
 use Rattle.decide.specs.declared.Verdict.{Verdict}
 use Rattle.decide.specs.Decide.{Decision, decision, decideOf}
 use Rattle.link_draws.specs.Drawing.{Struck, Delayed, delayDraw}
-use Rattle.network.specs.Opening.{Draw, Opening, Settings, link, global}
-use Rattle.network.specs.Live.{Live, Carried, marked, stopped, ringsOf}
-use Rattle.network.specs.Tables.{cell, Tables, live, sizesAt, settingsAt, idsStart, rulesAt, faultWordsAt}
+use Rattle.network.specs.Opening.{Draw, Settings, link}
+use Rattle.network.specs.Live.{Live, Carried, marked, stopped}
+use Rattle.network.specs.Tables.{cell, Tables, live, sizesAt, settingsAt, rulesAt, faultWordsAt}
 use Rattle.network.specs.Real.{keyOf, faultKeyOf, chance, drawsOf, openingAt}
 use Rattle.network.specs.Accept as accept
-use Rattle.network.specs.Accept.{Drawn, drawn, context, echoesOf, ringFor, Class, deduplicated, partition, loss, fault, sent, firstFit, classOf}
+use Rattle.network.specs.Accept.{Drawn, drawn, context, echoesOf, ringFor, loss, fault, firstFit, classOf}
 use Rattle.offer.specs.declared.Message.{Message}
 use Rattle.offer.specs.declared.Echoes.{Echoes}
-use Rattle.offer.specs.declared.Offer.{Offer}
 use Rattle.offer.specs.declared.Offer.the-variants.{Deduplicated, Partition, Loss, Fault, Sent}
-use Rattle.offer.specs.Needed.{Ranged}
-use Rattle.offer.specs.Offering.{told, keyed, stoppedAt, Echoed, Answers, tablesOf, Draws, Offers}
-use Rattle.offer.proofs.Readings.{marked-is, stopped-is, ring-is}
+use Rattle.offer.specs.Offering.{keyed, Echoed, Answers}
 
 -- ---- The draws of a recipient, read from the tables
 

@@ -1,16 +1,15 @@
 -- What is read of one till: whether it is selected, stopped, marked. Assumes nothing.
-use Prim.Native.Nat.{ℕ, zero, suc, _+_, _*_, _/_, _%_, _^_, _≤_, _<_}
+use Prim.Native.Nat.{ℕ, _+_, _*_, _≤_, _<_}
 use mathlib.Core.Path.{_≡_, refl, sym, ap, _∙_}
-use mathlib.Core.Bool.{Bool, true, false, cond, not, _&&_, _||_, false≢true}
+use mathlib.Core.Bool.{Bool, true, false, not, _&&_, _||_, false≢true}
 use mathlib.Core.List.{List, []}
 use native.Mathlib.Omega.{arith}
 use native.Mathlib.Nat.{mul-le-mul-right, suc-mul, add-zero}
 use lib.Dec.{eqb}
 use lib.Ieee.{Float, lt}
-use lib.ListN.{length, getD, drop}
+use lib.ListN.{drop}
 use lib.Seq.{getD-drop}
 use borrow.Author.Tests.{eq-eqb, ne-eqb}
-use Rattle.rows.specs.Table.{rowsOf}
 use Rattle.rows.proofs.Lists.{getD-upTo}
 use Rattle.rows.proofs.Table.{row-at}
 use Rattle.marks.specs.Marks.{found, idsOf}
@@ -20,7 +19,7 @@ use Rattle.network.specs.Lists.{bitAt}
 use Rattle.float.specs.Float.{zero64}
 use Rattle.network.specs.Limits.{rateOf}
 use Rattle.network.specs.Opening.{Sizes, Settings, global}
-use Rattle.network.specs.Live.{Live, Till, downTill, tillAt, isUp, marked, idsAt, stopped, ringsOf}
+use Rattle.network.specs.Live.{Live, Till, downTill, tillAt, isUp, marked, stopped, ringsOf}
 use Rattle.network.specs.Accept.{Message, receives, ringFor}
 use Rattle.network.specs.Tables.{cell, Tables, live, sizesAt, tillForm, idsStart, blocksAt}
 use Rattle.offer.specs.Offering.{upAt, selectsAt, stoppedAt, echoingAt}

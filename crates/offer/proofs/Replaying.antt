@@ -1,7 +1,7 @@
 -- The replay draw and the echoes with their latencies. Assumes nothing.
-use Prim.Native.Nat.{ℕ, zero, suc, _+_, _*_, _≤_, _<_}
+use Prim.Native.Nat.{ℕ, zero, suc, _+_, _≤_, _<_}
 use mathlib.Core.Path.{_≡_, refl, sym, ap, subst, _∙_}
-use mathlib.Core.Bool.{Bool, true, false, cond, not, _&&_, _||_}
+use mathlib.Core.Bool.{Bool, true, false, cond, not, _&&_}
 use mathlib.Core.List.{List, [], _∷_, _++_}
 use native.Mathlib.Omega.{arith}
 use lib.ListN.{length, getD}
@@ -11,8 +11,7 @@ use Rattle.streams.specs.Streams.{Holds}
 use Rattle.draw.specs.declared.Hit.{Hit}
 use Rattle.draw.specs.Draw.{whole32At, words32At}
 use Rattle.latency.specs.declared.Sample.{Sample}
-use Rattle.latency.specs.Latency.{longest}
-use Rattle.ring.specs.Ring.{ringFrom, slotAt, firstAt, countAt}
+use Rattle.ring.specs.Ring.{ringFrom, slotAt, firstAt}
 use Rattle.ring.proofs.Laws.{length-from}
 use Rattle.rings.specs.Rings.{form, slots, none, entries, entryOf, headOf, baseOf, countOf, SoundRing}
 use Rattle.rings.proofs.Laws.{get-oldest}

@@ -1,18 +1,17 @@
 -- What an offer says: the class of one recipient, and the draws that count for it, as `Accept` has them.
-use Prim.Native.Nat.{ℕ, _+_, _*_, _≤_, _<_}
+use Prim.Native.Nat.{ℕ, _+_, _*_, _≤_}
 use mathlib.Core.Path.{_≡_}
 use mathlib.Core.Bool.{Bool, true, false, cond, not, _&&_, _||_}
 use mathlib.Core.List.{List, [], _∷_, _++_}
 use lib.Dec.{eqb}
 use lib.Ieee.{lt}
-use lib.ListN.{getD}
 use Rattle.float.specs.Float.{zero64}
 use Rattle.streams.specs.declared.Cursor.{Cursor}
 use Rattle.streams.specs.Streams.{Holds}
 use Rattle.draw.specs.Draw.{whole32At, words32At}
 use Rattle.latency.specs.declared.Sample.{Sample}
 use Rattle.latency.specs.Latency.{longest}
-use Rattle.decide.specs.Decide.{Decision, decideOf}
+use Rattle.decide.specs.Decide.{decideOf}
 use Rattle.rings.specs.Rings.{none}
 use Rattle.blocks.specs.Blocks.{blocked, blocksOf}
 use Rattle.waiting.specs.declared.Copy.{Copy}
@@ -24,7 +23,7 @@ use Rattle.network.specs.Limits.{rateOf}
 use Rattle.network.specs.Tables.{cell, Tables, live, sizesAt, tillForm, blocksAt}
 use Rattle.network.specs.Real.{chance, faultKeyOf, idOf, openingAt}
 use Rattle.network.specs.Accept as accept
-use Rattle.network.specs.Accept.{Drawn, drawn, echo, carriedOf, Class, deduplicated, partition, loss, fault, sent, classOf}
+use Rattle.network.specs.Accept.{Drawn, drawn, echo, carriedOf, deduplicated, partition, loss, fault, sent, classOf}
 use Rattle.offer.specs.declared.Message.{Message}
 use Rattle.offer.specs.declared.Replay.{Replay}
 use Rattle.offer.specs.declared.Echoes.{Echoes}

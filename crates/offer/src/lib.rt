@@ -7,7 +7,7 @@ ghost use lib.ListN.{length};
 ghost use Rattle.streams.specs.Streams.{Holds};
 ghost use Rattle.marks.specs.Marks.{found, idsOf};
 ghost use Rattle.rings.specs.Rings.{entries, numberOf, none};
-ghost use Rattle.blocks.specs.Blocks.{blocked, blocksOf, blockWidth};
+ghost use Rattle.blocks.specs.Blocks.{blockWidth};
 ghost use Rattle.link_draws.specs.Drawing.{Sent, delayDraw};
 ghost use Rattle.network.specs.Opening.{mostTypes, mostWords, global, link};
 ghost use Rattle.network.specs.Live.{ringsOf};

@@ -1,17 +1,17 @@
 -- The turns one after the other. Assumes nothing.
-use Prim.Native.Nat.{ℕ, zero, suc, _+_, _-_, _*_, _≤_, _<_}
+use Prim.Native.Nat.{ℕ, suc, _+_, _-_, _≤_, _<_}
 use mathlib.Core.Path.{_≡_, refl, sym, ap, subst, _∙_}
-use mathlib.Core.Bool.{Bool, true, false, cond}
+use mathlib.Core.Bool.{Bool, true, false}
 use mathlib.Core.List.{List, [], _∷_}
 use native.Mathlib.Omega.{arith}
-use lib.Dec.{leb, ltb}
+use lib.Dec.{ltb}
 use lib.ListN.{length, getD, length-take, List·getD-eq-default, drop}
 use borrow.Author.Tests.{lt-ltb, le-leb, ltb-true, ltb-false}
 use Rattle.rows.proofs.Lists.{getD-upTo, length-upTo}
 use Rattle.rows.proofs.Rows.{length-rows}
 use Rattle.marks.specs.Marks.{found, idsOf}
 use Rattle.marks.proofs.Search.{length-ids}
-use Rattle.rings.specs.Rings.{entries, entryOf, none, numberOf}
+use Rattle.rings.specs.Rings.{entries, entryOf, none}
 use Rattle.rings.proofs.Laws.{get-oldest}
 use Rattle.waiting.specs.Waiting as queue
 use Rattle.network.specs.Opening.{Opening, Sizes, link, longestWire, mostWords}
@@ -19,22 +19,20 @@ use Rattle.network.specs.Live.{Live, Carried, idsAt, marked, stopped, ringsOf}
 use Rattle.network.specs.Tables.{cell, Tables, live, sizesAt, idsStart, waitingAt, sequenceAt, faultWordsAt}
 use Rattle.network.specs.Real.{openingAt}
 use Rattle.network.specs.Accept as accept
-use Rattle.network.specs.Accept.{Drawn, drawn, Class, deduplicated, partition, loss, fault, sent, classOf, offered, effect, Counts, Booked, booked, tally, noCounts, add, total}
-use Rattle.network.specs.Writes.{setLog, offeredT, acceptT}
+use Rattle.network.specs.Accept.{Drawn, drawn, loss, sent, classOf, offered, effect}
+use Rattle.network.specs.Writes.{setLog, offeredT}
 use Rattle.book.proofs.Formed.{Formed}
 use Rattle.book.proofs.Fitting.{NearMessage}
 use Rattle.book.proofs.Sound.{sent-unmarked}
 use Rattle.offer.specs.declared.Message.{Message}
-use Rattle.offer.specs.declared.Offer.{Offer}
 use Rattle.offer.specs.declared.Offer.the-variants.{Sent}
 use Rattle.offer.specs.declared.Sending.{Sending}
-use Rattle.offer.specs.Needed.{Fixed, Ranged, State, SeenHeld, RingsHeld}
-use Rattle.offer.specs.Offering.{told, selectsAt, tablesOf, Answers, Offers}
+use Rattle.offer.specs.Needed.{Fixed, Ranged}
+use Rattle.offer.specs.Offering.{told, selectsAt, tablesOf, Answers}
 use Rattle.offer.proofs.Readings.{marked-is, marks-in, ring-below}
 use Rattle.schedule.specs.declared.Counts as counts
-use Rattle.schedule.specs.Writing.{Room, Sendable, Applicable, Applies, classIn, countsOf}
-use Rattle.schedule.proofs.Applying.{answers-write}
-use Rattle.recipients.specs.Turning.{rest, left, Going, Turned}
+use Rattle.schedule.specs.Writing.{Sendable}
+use Rattle.recipients.specs.Turning.{left, Going}
 use Rattle.recipients.proofs.Simulated.{quiet, quiet-formed, after-formed, after-live}
 use Rattle.recipients.proofs.Stepping.{rest-on, rest-off, Step, stepped, decided}
 

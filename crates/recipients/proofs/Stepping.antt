@@ -14,17 +14,16 @@ use Rattle.rows.proofs.Lists.{upTo-same}
 use Rattle.rows.proofs.Rows.{length-rows}
 use Rattle.ring.specs.Ring.{push}
 use Rattle.rings.specs.Rings.{slots, numberOf, none}
-use Rattle.rules.specs.Rules.{ruleWidth, firstRule, ruleSlots}
+use Rattle.rules.specs.Rules.{ruleWidth, firstRule}
 use Rattle.decide.proofs.Held.{decide-words}
-use Rattle.waiting.specs.declared.Copy.{Copy}
-use Rattle.network.specs.Opening.{Opening, Settings, link, longestWire}
+use Rattle.network.specs.Opening.{Opening, link}
 use Rattle.network.specs.Live.{Live, Carried, idsAt}
 use Rattle.network.specs.Tables.{cell, Tables, live, sizesAt, settingsAt, rulesAt}
 use Rattle.network.specs.Real.{drawsOf, faultKeyOf, openingAt}
-use Rattle.network.specs.Accept.{Message, Drawn, drawn, context, carriedOf, Class, deduplicated, partition, loss, fault, sent, copies, insertAll, remembered, effect}
+use Rattle.network.specs.Accept.{Message, Drawn, drawn, context, carriedOf, Class, deduplicated, partition, loss, fault, sent, copies, remembered, effect}
 use Rattle.book.proofs.Echoing.{drawn-few}
 use Rattle.book.proofs.Fitting.{few-copies, length-insertAll}
-use Rattle.recipients.specs.Turning.{rest, decisionWords}
+use Rattle.recipients.specs.Turning.{rest}
 
 -- ---- The list of those that are left
 

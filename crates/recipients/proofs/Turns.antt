@@ -1,10 +1,9 @@
 -- One turn, and all of them. Assumes nothing.
-use Prim.Native.Nat.{ℕ, zero, suc, _+_, _-_, _*_, _≤_, _<_}
+use Prim.Native.Nat.{ℕ, _+_, _-_, _≤_, _<_}
 use mathlib.Core.Path.{_≡_, refl, sym, ap, subst, _∙_}
 use mathlib.Core.Bool.{Bool, true, false, cond}
 use mathlib.Core.List.{List, [], _∷_}
 use native.Mathlib.Omega.{arith}
-use lib.ListN.{length}
 use Rattle.network.specs.Lists.{bit}
 use Rattle.network.specs.Opening.{Opening}
 use Rattle.network.specs.Live.{Live}
@@ -15,8 +14,6 @@ use Rattle.network.specs.Accept.{Class, deduplicated, partition, loss, fault, s
 use Rattle.network.specs.Writes.{offeredT, acceptT}
 use Rattle.offer.specs.declared.Message.{Message}
 use Rattle.offer.specs.declared.Offer.{Offer}
-use Rattle.offer.specs.declared.Offer.the-variants.{Sent}
-use Rattle.offer.specs.declared.Sending.{Sending}
 use Rattle.offer.specs.Needed.{Fixed, Ranged}
 use Rattle.offer.specs.Offering.{told, selectsAt, tablesOf, Answers, Offers}
 use Rattle.schedule.specs.declared.Counts as counts

@@ -2,16 +2,15 @@
 use Prim.Native.Nat.{ℕ, _+_, _-_, _*_, _≤_, _<_}
 use mathlib.Core.Path.{_≡_}
 use mathlib.Core.Bool.{Bool, true, false, cond}
-use mathlib.Core.List.{List, []}
+use mathlib.Core.List.{List}
 use lib.ListN.{length}
 use Rattle.rows.specs.Rows.{keep}
 use Rattle.rows.specs.Lists.{upTo}
 use Rattle.marks.specs.Marks.{found, idsOf}
 use Rattle.rules.specs.Rules.{ruleSlots}
 use Rattle.waiting.specs.Waiting.{width}
-use Rattle.network.specs.Lists.{below}
 use Rattle.network.specs.Opening.{link, mostWords, lastNumber}
-use Rattle.network.specs.Tables.{cell, Tables, live, sizesAt, idsStart, sequenceAt, waitingAt, faultWordsAt}
+use Rattle.network.specs.Tables.{cell, live, sizesAt, idsStart, sequenceAt, waitingAt, faultWordsAt}
 use Rattle.network.specs.Real.{openingAt}
 use Rattle.network.specs.Accept.{classOf, booked, tally, add}
 use Rattle.network.specs.Writes.{offeredT, acceptT}

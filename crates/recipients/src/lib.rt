@@ -1,7 +1,5 @@
 // The recipients of a message in host order: each is offered it on what the one before left.
-ghost use mathlib.Core.Path.{_≡_};
-ghost use Prim.Native.Nat.{_+_, _*_, _<_, _≤_};
-ghost use lib.ListN.{length};
+ghost use Prim.Native.Nat.{_+_, _<_, _≤_};
 ghost use Rattle.network.specs.Accept.{total};
 ghost use Rattle.network.specs.Tables.{sizesAt};
 ghost use Rattle.offer.specs.Needed.{Fixed, Ranged};

@@ -1,10 +1,10 @@
 -- What an offer writes is what `Writes` says of its class and its draws. Assumes nothing.
-use Prim.Native.Nat.{ℕ, zero, suc, _+_, _*_, _≤_, _<_}
+use Prim.Native.Nat.{ℕ, _≤_, _<_}
 use mathlib.Core.Path.{_≡_, refl, sym, ap, _∙_}
 use mathlib.Core.Bool.{Bool, true, false, cond}
-use mathlib.Core.List.{List, [], _∷_, _++_}
+use mathlib.Core.List.{List, [], _∷_}
 use native.Mathlib.Omega.{arith}
-use lib.ListN.{length, getD, set, length-set}
+use lib.ListN.{length, set, length-set}
 use lib.Seq.{getD-set-other}
 use Rattle.rows.proofs.Lists.{getD-upTo}
 use Rattle.marks.specs.Marks.{idsOf, placed}
@@ -13,7 +13,7 @@ use Rattle.decide.specs.Decide.{Decision}
 use Rattle.waiting.specs.declared.Copy.{Copy}
 use Rattle.rings.specs.Rings.{numberOf, pushed}
 use Rattle.network.specs.Opening.{Opening, Sizes, link}
-use Rattle.network.specs.Live.{Live, idsAt, numbered, ringsOf}
+use Rattle.network.specs.Live.{idsAt, numbered, ringsOf}
 use Rattle.network.specs.Tables.{cell, Tables, live, sizesAt, settingsAt, idsStart, sequenceAt, faultWordsAt}
 use Rattle.network.specs.Real.{drawsOf, openingAt}
 use Rattle.network.specs.Accept as accept

@@ -1,12 +1,12 @@
 -- Marks, copies and the ring: what each write makes of its table. Assumes nothing.
-use Prim.Native.Nat.{ℕ, zero, suc, _+_, _*_, _≤_, _<_}
+use Prim.Native.Nat.{ℕ, suc, _+_, _*_, _≤_}
 use mathlib.Core.Path.{_≡_, refl, sym, ap, _∙_}
 use mathlib.Core.Bool.{Bool, true, false, cond}
 use mathlib.Core.List.{List, [], _∷_, _++_}
 use native.Mathlib.Omega.{arith}
 use native.Mathlib.Nat.{mul-le-mul-right}
 use native.Mathlib.Numerals.{add-one}
-use lib.ListN.{length, getD, set, length-set}
+use lib.ListN.{length, set, length-set}
 use lib.Seq.{getD-set-same, getD-set-other}
 use Rattle.shift.specs.Shift.{putWords}
 use Rattle.rows.specs.Table.{over}
@@ -19,7 +19,7 @@ use Rattle.waiting.specs.Waiting.{insertCopy, copies, form, width, read}
 use Rattle.waiting.proofs.Order.{length-insert}
 use Rattle.rings.specs.Rings.{numberOf, pushed}
 use Rattle.network.specs.Opening.{Sizes, Settings}
-use Rattle.network.specs.Live.{withSequence, numbered, ringsOf, Carried}
+use Rattle.network.specs.Live.{withSequence, numbered, ringsOf}
 use Rattle.network.specs.Tables.{cell, Tables, idsStart, sequenceAt, waitingAt, faultWordsAt}
 use Rattle.network.specs.Accept.{Message, carriedOf}
 use Rattle.network.specs.Writes.{setNet, setWaiting, pushT}

@@ -1,8 +1,8 @@
 -- What an offer writes, table by table, in the terms of `Writes`.
-use Prim.Native.Nat.{ℕ, zero, suc, _+_, _*_, _^_, _≤_, _<_}
+use Prim.Native.Nat.{ℕ, suc, _+_, _*_, _≤_, _<_}
 use mathlib.Core.Path.{_≡_}
-use mathlib.Core.Bool.{Bool, true, false, cond}
-use mathlib.Core.List.{List, [], _∷_}
+use mathlib.Core.Bool.{Bool, true, cond}
+use mathlib.Core.List.{List, _∷_}
 use lib.ListN.{length, set}
 use Rattle.shift.specs.Shift.{putWords}
 use Rattle.rows.specs.Table.{over}

@@ -1,7 +1,6 @@
 use borrow.Author.Needs.{needs}
 use Rattle.accept_questions.proofs.Ways.{count-on, count-end, one-small}
-use borrow.Author.Tests.{not-true, not-false}
-use mathlib.Core.Path.{_≡_, refl, sym, _∙_}
+use mathlib.Core.Path.{_≡_}
 use native.Mathlib.Omega.{arith}
 use Prim.Native.Nat.{_≤_, _-_, _+_}
 use lib.ListN.{length}

@@ -1,5 +1,4 @@
 use Rattle.message.proofs.Laws.{head-fits, id-from}
-use native.Mathlib.Omega.{arith}
 use borrow.Author.Needs.{needs}
 use Rattle.message.proofs.id_after.Statement.{statement}
 use Rattle.message.proofs.id_after.Tie as tie

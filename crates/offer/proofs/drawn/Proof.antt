@@ -1,7 +1,7 @@
 use Rattle.offer.proofs.Considered.{is-loss, is-fault, is-sent}
 use Rattle.offer.proofs.Readings.{ring-is, ring-below}
 use Rattle.offer.specs.Offering.{told, tablesOf, Draws}
-use Rattle.network.specs.Tables.{settingsAt, sizesAt}
+use Rattle.network.specs.Tables.{sizesAt}
 use Rattle.network.specs.Live.{ringsOf}
 use Rattle.rings.specs.Rings.{numberOf, entries}
 use native.Mathlib.Omega.{arith}
