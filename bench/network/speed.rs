@@ -1,17 +1,85 @@
-//! speed [MESSAGES]: the cases of ../shared/oracle's bench through the archive: 64 tills, global, accept and flush of each message.
+//! speed [ROUNDS [MESSAGES]]: the cases of the oracle's own bench (64 tills, global, accept and flush of each message) through the archive and
+//! through the original Rust, in turn. For each case the least CPU time of the rounds on each side, in microseconds a message, and their ratio.
+//! speed count MESSAGES: each case once on each side, for a counter of instructions that starts and stops at `measured`.
+//! Both sides must count alike: as many sent, not sent, and handled.
 mod calls;
-use calls::{Network, NetworkConfig, Opening, RegionPlan, GLOBAL};
+use calls::{GLOBAL, Network, NetworkConfig, Opening, RegionPlan};
+use hyperscale_network_memory::oracle::Oracle;
+use std::time::Duration;
+
+#[repr(C)]
+struct Timespec {
+    seconds: i64,
+    nanoseconds: i64,
+}
+
+unsafe extern "C" {
+    fn clock_gettime(clock: i32, time: *mut Timespec) -> i32;
+}
 
 /// CPU time of this thread in seconds: the machine may be shared.
 fn cpu() -> f64 {
-    let s = std::fs::read_to_string("/proc/thread-self/schedstat").unwrap_or_default();
-    s.split(' ').next().and_then(|x| x.parse::<f64>().ok()).unwrap_or(0.0) / 1e9
+    let mut t = Timespec { seconds: 0, nanoseconds: 0 };
+    assert_eq!(unsafe { clock_gettime(3, &mut t) }, 0);
+    t.seconds as f64 + t.nanoseconds as f64 / 1e9
 }
 
-fn run(name: &str, n: u64, size: usize, r: [f64; 5], regions: u64, log: u64, every: u64) {
+/// Rates: jitter, loss, duplicate, replay, spike. `regions` and `log` are 0 for none; a flush after each `every` messages.
+struct Case {
+    name: &'static str,
+    size: usize,
+    rates: [f64; 5],
+    regions: u64,
+    log: u64,
+    every: u64,
+}
+
+const PLAIN: [f64; 5] = [0.1, 0.0, 0.0, 0.0, 0.0];
+
+const CASES: [Case; 7] = [
+    Case { name: "256 bytes, jitter 0.1", size: 256, rates: PLAIN, regions: 0, log: 0, every: 1 },
+    Case { name: "256 bytes, no jitter", size: 256, rates: [0.0; 5], regions: 0, log: 0, every: 1 },
+    Case { name: "four regions", size: 256, rates: PLAIN, regions: 4, log: 0, every: 1 },
+    Case { name: "log of 4,096", size: 256, rates: PLAIN, regions: 0, log: 4096, every: 1 },
+    Case { name: "every rate on", size: 256, rates: [0.1, 0.05, 0.1, 0.05, 0.05], regions: 0, log: 0, every: 1 },
+    Case { name: "65,536 bytes", size: 65_536, rates: PLAIN, regions: 0, log: 0, every: 1 },
+    Case { name: "flush each 20", size: 256, rates: PLAIN, regions: 0, log: 0, every: 20 },
+];
+
+/// Sent, not sent, handled.
+type Counts = (u64, u64, u64);
+
+/// What both sides do: a message goes out, or the copies due by `now` are flushed.
+trait Side {
+    fn accept(&mut self, from: u64, now: u64, wire: &[u8], tag: u64) -> (u64, u64);
+    fn flush(&mut self, now: u64) -> u64;
+}
+
+impl Side for Network {
+    fn accept(&mut self, from: u64, now: u64, wire: &[u8], tag: u64) -> (u64, u64) {
+        let a = Network::accept(self, from, now, 0, 1, GLOBAL, wire, true, tag);
+        assert_eq!(a.number, 0);
+        (a.sent, a.deduplicated + a.partition + a.loss + a.fault)
+    }
+    fn flush(&mut self, now: u64) -> u64 {
+        Network::flush(self, now, 4096).delivered
+    }
+}
+
+impl Side for Oracle {
+    fn accept(&mut self, from: u64, now: u64, wire: &[u8], tag: u64) -> (u64, u64) {
+        self.bench_accept(from as u32, now, wire, tag)
+    }
+    fn flush(&mut self, now: u64) -> u64 {
+        self.net.flush_gossip(Duration::from_nanos(now)).0 as u64
+    }
+}
+
+fn archive(c: &Case) -> Network {
+    let r = c.rates;
     let mut net = Network::open(&Opening {
         config: NetworkConfig { latency: 150_000_000, jitter: r[0], loss: r[1], duplicate: r[2], replay: r[3], spike: r[4] },
-        plan: RegionPlan { planned: u64::from(regions > 0), regions, seed: 9 },
+        plan: RegionPlan { planned: u64::from(c.regions > 0), regions: c.regions, seed: 9 },
         seed: 7,
         key: [0x11; 32],
         types: vec![b"transaction.gossip".to_vec()],
@@ -19,37 +87,88 @@ fn run(name: &str, n: u64, size: usize, r: [f64; 5], regions: u64, log: u64, eve
         masks: vec![1; 64],
         seen: 4096,
         waiting: 4096,
-        log,
+        log: c.log,
     })
     .expect("an accepted opening");
     (0..64).for_each(|t| assert_eq!(net.set_handlers(t, 1, 0).number, 0));
-    let mut wire = vec![0xabu8; size];
-    let (mut sent, mut other, mut delivered, mut now) = (0, 0, 0, 0u64);
-    let start = cpu();
+    net
+}
+
+fn original(c: &Case) -> Oracle {
+    let bits = |x: f64| format!("{:016x}", x.to_bits());
+    let r = c.rates.map(bits);
+    let regions = if c.regions > 0 { format!("{}:9", c.regions) } else { "none".to_string() };
+    let line = format!(
+        "open tills=64 seed=7 fkey={} log={} lat=150000000 jit={} loss={} dup={} rep={} spike={} regions={regions} types={} shards=00 masks={}",
+        "11".repeat(32),
+        c.log,
+        r[0],
+        r[1],
+        r[2],
+        r[3],
+        r[4],
+        b"transaction.gossip".map(|b| format!("{b:02x}")).concat(),
+        ["1"; 64].join(",")
+    );
+    let mut o = Oracle::open(&line).expect("an accepted opening");
+    (0..64).for_each(|t| o.count_handlers(t));
+    o
+}
+
+/// One case on one side.
+#[inline(never)]
+#[unsafe(no_mangle)]
+fn measured(net: &mut dyn Side, c: &Case, n: u64) -> Counts {
+    let mut wire = vec![0xabu8; c.size];
+    let (mut sent, mut other, mut handled, mut now) = (0, 0, 0, 0u64);
     for i in 0..n {
         wire[..8].copy_from_slice(&i.to_le_bytes());
-        let a = net.accept(i % 64, now, 0, 1, GLOBAL, &wire, true, i);
-        assert_eq!(a.number, 0);
-        sent += a.sent;
-        other += a.deduplicated + a.partition + a.loss + a.fault;
-        if i % every == every - 1 {
+        let (s, o) = net.accept(i % 64, now, &wire, i);
+        sent += s;
+        other += o;
+        if i % c.every == c.every - 1 {
             now += 200_000_000;
-            delivered += net.flush(now, 4096).delivered;
+            handled += net.flush(now);
         }
     }
-    delivered += net.flush(1 << 60, 4096).delivered;
-    println!("{name:<34} {:.2} us/message  (sent {sent}, other {other}, handled {delivered})", (cpu() - start) * 1e6 / n as f64);
+    (sent, other, handled + net.flush(1 << 60))
+}
+
+fn timed(net: &mut dyn Side, c: &Case, n: u64) -> (f64, Counts) {
+    let start = cpu();
+    let counts = measured(net, c, n);
+    ((cpu() - start) * 1e6 / n as f64, counts)
+}
+
+fn messages(c: &Case, n: u64) -> u64 {
+    if c.size > 256 { n / 10 } else { n }
+}
+
+fn count(n: u64) {
+    for c in &CASES {
+        let ours = measured(&mut archive(c), c, n);
+        assert_eq!(ours, measured(&mut original(c), c, n), "{}", c.name);
+        println!("{}", c.name);
+    }
 }
 
 fn main() {
-    let n: u64 = std::env::args().nth(1).map_or(4_000, |a| a.parse().expect("MESSAGES"));
-    for _ in 0..3 {
-        run("plain (jitter 0.1)", n, 256, [0.1, 0.0, 0.0, 0.0, 0.0], 0, 0, 1);
-        run("plain, no jitter", n, 256, [0.0; 5], 0, 0, 1);
-        run("plain, flush each 20", n, 256, [0.1, 0.0, 0.0, 0.0, 0.0], 0, 0, 20);
-        run("all rates 0.1 / 0.05 / 0.05", n, 256, [0.1, 0.05, 0.1, 0.05, 0.05], 0, 0, 1);
-        run("4 regions", n, 256, [0.1, 0.0, 0.0, 0.0, 0.0], 4, 0, 1);
-        run("plain, log 4096", n, 256, [0.1, 0.0, 0.0, 0.0, 0.0], 0, 4096, 1);
-        run("plain, 65,536 bytes", n / 10, 65_536, [0.1, 0.0, 0.0, 0.0, 0.0], 0, 0, 1);
+    let args: Vec<String> = std::env::args().skip(1).collect();
+    let number = |i: usize, or: u64| args.get(i).map_or(or, |a| a.parse().expect("a number"));
+    if args.first().is_some_and(|a| a == "count") {
+        return count(number(1, 200));
+    }
+    let (rounds, n) = (number(0, 7), number(1, 4_000));
+    let mut least = [(f64::MAX, f64::MAX); CASES.len()];
+    for _ in 0..rounds {
+        for (c, l) in CASES.iter().zip(&mut least) {
+            let (ours, a) = timed(&mut archive(c), c, messages(c, n));
+            let (theirs, b) = timed(&mut original(c), c, messages(c, n));
+            assert_eq!(a, b, "{}", c.name);
+            *l = (l.0.min(ours), l.1.min(theirs));
+        }
+    }
+    for (c, l) in CASES.iter().zip(&least) {
+        println!("{:<24} {:>8.2} {:>8.2} {:>6.2}", c.name, l.0, l.1, l.0 / l.1);
     }
 }

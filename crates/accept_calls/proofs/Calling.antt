@@ -14,8 +14,9 @@ use Rattle.network.specs.Tables.{Tables, live, sizesAt}
 use Rattle.network.specs.Real.{idOf, drawsOf, openingAt}
 use Rattle.network.specs.Writes.{acceptT, callTables, callReply}
 use Rattle.reply.proofs.Laws.{silenced, stays, answered, steps}
+use Rattle.held.specs.Lending.{tablesOf}
 use Rattle.offer.specs.declared.Message.{Message}
-use Rattle.offer.specs.Offering.{told, tablesOf}
+use Rattle.offer.specs.Offering.{told}
 use Rattle.offer.specs.Needed.{SeenHeld}
 use Rattle.accept_questions.specs.Asking.{acceptLent, argumentNumber, tailNumber}
 use Rattle.schedule.specs.declared.Counts as counts

@@ -1,4 +1,4 @@
--- THE CONTRACT of accept. Every table but the log is lent; the log holds whatever it holds, and stays.
+-- Document 01, 'The book', Accept, with questions 1 and 4 to 11: THE CONTRACT of accept. Every table but the log is lent; the log holds whatever it holds, and stays.
 use Prim.Native.Nat.{ℕ}
 use mathlib.Core.Path.{_≡_}
 use mathlib.Core.Bool.{not}
@@ -7,7 +7,7 @@ use lib.Dec.{eqb}
 use Rattle.network.specs.Accept.{Entry, Counts}
 use Rattle.network.specs.Calls.{Call, accept, countsIn}
 use Rattle.network.specs.Writes.{Reply, callTables, callReply}
-use Rattle.offer.specs.Offering.{tablesOf}
+use Rattle.held.specs.Lending.{tablesOf}
 use Rattle.accept_calls.specs.declared.Accepted.{Accepted}
 
 -- the arguments as `Accept` has them; `opens` is 0 for a payload that does not open

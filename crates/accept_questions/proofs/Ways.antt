@@ -1,5 +1,5 @@
 -- The ways down the questions, and the scans over the selected tills. Assumes nothing.
-use Prim.Native.Nat.{ℕ, _+_, _-_, _*_, _≤_, _<_}
+use Prim.Native.Nat.{ℕ, _+_, _*_, _≤_, _<_}
 use mathlib.Core.Path.{_≡_, refl, sym, ap, _∙_}
 use mathlib.Core.Bool.{Bool, true, false, cond, _&&_, _||_, false≢true}
 use mathlib.Core.List.{List}
@@ -93,11 +93,20 @@ unselected q p e = ap (λ (b : Bool). cond b p true) (sym e)
 pub asked-of : (q p r : Bool) → q ≡ true → r ≡ p → r ≡ cond q p true
 asked-of q p r e h = h ∙ ap (λ (b : Bool). cond b p true) (sym e)
 
-pub either-first : (a b : Bool) → a ≡ true → true ≡ (a || b)
-either-first a b e = ap (λ (x : Bool). x || b) (sym e)
+-- a slot is free, or none is
+pub free-slot : (q a : Bool) (n m : ℕ) → q ≡ true → n < m → true ≡ cond q (a || ltb n m) true
+free-slot q a n m e h = asked-of q (a || ltb n m) true e (either a (ltb n m) (lt-ltb n m h))
+  where
+    either : (x y : Bool) → y ≡ true → true ≡ (x || y)
+    either true y t = refl
+    either false y t = sym t
 
-pub either-second : (a b r : Bool) → a ≡ false → r ≡ b → r ≡ (a || b)
-either-second a b r e h = h ∙ ap (λ (x : Bool). x || b) (sym e)
+pub full-slot : (q a r : Bool) (n m : ℕ) → q ≡ true → m ≤ n → r ≡ a → r ≡ cond q (a || ltb n m) true
+full-slot q a r n m e h is = asked-of q (a || ltb n m) r e (is ∙ alone a (ltb n m) (le-ltb n m h))
+  where
+    alone : (x y : Bool) → y ≡ false → x ≡ (x || y)
+    alone true y f = refl
+    alone false y f = sym f
 
 module _ (q p : ℕ → Bool) (n : ℕ) where
   pub scan-on : (to : ℕ) (r : Bool) → to < n → r ≡ cond (q to) (p to) true → r ≡ true → allOf p (rest q n to) ≡ allOf p (rest q n (to + 1))

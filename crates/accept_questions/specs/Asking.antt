@@ -1,4 +1,4 @@
--- Accept's questions as the code asks them, of the lent tables.
+-- Document 01, questions 1 and 4 to 11, for accept: as the code asks them, of the lent tables.
 use Prim.Native.Nat.{ℕ, _+_, _*_, _≤_, _<_}
 use mathlib.Core.Path.{_≡_}
 use mathlib.Core.Bool.{Bool, true, cond, _&&_, _||_}

@@ -12,7 +12,7 @@ ghost use Rattle.recipients.specs.Turning.{left};
 ghost use Rattle.accept_questions.specs.Asking.{acceptLent, scopeExists, argumentNumber, freshAt, freeAt, tailNumber, Asked};
 use offer::Message;
 
-// 1
+// Question 1, of every table but the log.
 pub fn lent(
     setup: &[u64],
     net: &[u64],
@@ -65,18 +65,18 @@ pub fn lent(
     held::blocks_held(setup, net, blocks)
 }
 
-// 5, of a scope: global, or a shard that exists.
+// Question 5, of a scope: global, or a shard that exists.
 fn scope_exists(setup: &[u64], scope: u64) -> bool
     requires { ⌜ length (now setup) ≡ setupWidth ⌝ }
     ensures { λ r. ⌜ r ≡ scopeExists (now (setup .entry)) scope ⌝ }
 {
-    if scope == 16 {
+    if scope == held::GLOBAL {
         return true;
     }
     scope < setup[held::SHARDS]
 }
 
-// 4, 5, 6, 7
+// Questions 4, 5, 6 and 7.
 pub fn arguments(
     setup: &[u64],
     from: u64,
@@ -101,16 +101,16 @@ pub fn arguments(
     if !scope_exists(setup, scope) {
         return 5;
     }
-    if 65536 < wire {
+    if held::LONGEST_WIRE < wire {
         return 6;
     }
-    if 1152921504606846976 < at {
+    if held::LATEST < at {
         return 7;
     }
     0
 }
 
-// 8: has the link to the till, where it is selected, given fewer than 2^40 words?
+// Question 8: has the link to the till, where it is selected, given fewer than 2^40 words?
 fn link_fresh(setup: &[u64], tills: &[u64], words: &[u64], m: Message, to: usize) -> bool
     requires { ⌜ Asked (now setup) (now tills) m × (length (now words) ≡ links) × (to < sizesAt (now setup) .tills) ⌝ }
     ensures { λ r. ⌜ r ≡ cond (selectsAt (now (tills .entry)) (m .scope) (m .from) to) (freshAt (now (words .entry)) m to) true ⌝ }
@@ -118,7 +118,7 @@ fn link_fresh(setup: &[u64], tills: &[u64], words: &[u64], m: Message, to: usize
     if !offer::selects(tills, m.scope, m.from, to) {
         return true;
     }
-    words[m.from as usize * 64 + to] < 1099511627776
+    words[m.from as usize * held::LINK_ROW + to] < held::MOST_WORDS
 }
 
 fn links_fresh(setup: &[u64], tills: &[u64], words: &[u64], m: Message) -> bool
@@ -136,7 +136,7 @@ fn links_fresh(setup: &[u64], tills: &[u64], words: &[u64], m: Message) -> bool
     true
 }
 
-// 10: has the till, where it is selected and without this id, a free seen slot?
+// Question 10: has the till, where it is selected and without this id, a free seen slot?
 fn slot_free(setup: &[u64], tills: &[u64], seen: &[u64], m: Message, to: usize) -> bool
     requires { ⌜ Asked (now setup) (now tills) m × SeenHeld (sizesAt (now setup)) (now seen) × (to < sizesAt (now setup) .tills) ⌝ }
     ensures { λ r. ⌜ r ≡ cond (selectsAt (now (tills .entry)) (m .scope) (m .from) to) (freeAt (now (setup .entry)) (now (seen .entry)) m to) true ⌝ }
@@ -144,10 +144,10 @@ fn slot_free(setup: &[u64], tills: &[u64], seen: &[u64], m: Message, to: usize) 
     if !offer::selects(tills, m.scope, m.from, to) {
         return true;
     }
-    if offer::marked(setup, seen, to, m.id) {
+    if seen[to] < setup[held::SEEN_SLOTS] {
         return true;
     }
-    seen[to] < setup[held::SEEN_SLOTS]
+    offer::marked(setup, seen, to, m.id)
 }
 
 fn slots_free(setup: &[u64], tills: &[u64], seen: &[u64], m: Message) -> bool
@@ -191,7 +191,7 @@ fn selected(setup: &[u64], tills: &[u64], m: Message) -> u64
     c
 }
 
-// 8, 9, 10, 11
+// Questions 8, 9, 10 and 11.
 pub fn tail(
     setup: &[u64],
     net: &[u64],
@@ -203,14 +203,14 @@ pub fn tail(
     requires { ⌜ Asked (now setup) (now tills) m × (length (now words) ≡ links) × SeenHeld (sizesAt (now setup)) (now seen) × (length (now net) ≡ netWidth) ⌝ }
     ensures { λ r. ⌜ r ≡ tailNumber (now (setup .entry)) (now (net .entry)) (now (tills .entry)) (now (words .entry)) (now (seen .entry)) m ⌝ }
 {
-    if 1099511627776 <= net[held::FAULT_WORDS] {
+    if held::MOST_WORDS <= net[held::FAULT_WORDS] {
         return 8;
     }
     if !links_fresh(setup, tills, words, m) {
         return 8;
     }
     let more = 3 * selected(setup, tills, m);
-    if 4294967295 - more < net[held::SEQUENCE] {
+    if held::LAST_SEQUENCE - more < net[held::SEQUENCE] {
         return 9;
     }
     if !slots_free(setup, tills, seen, m) {

@@ -1,4 +1,4 @@
--- THE CONTRACTS of the block calls. Of the tables `setup`, `net` and `blocks` are lent; the others hold whatever they hold, and stay.
+-- Document 01, fault engine (`block`, `block_during`, `unblock`, `is_blocked`), with questions 1, 4, 7 and 12: THE CONTRACTS of the block calls. Of the tables `setup`, `net` and `blocks` are lent; the others hold whatever they hold, and stay.
 use mathlib.Core.Path.{_≡_}
 use mathlib.Core.Bool.{Bool, true, cond, _&&_}
 use mathlib.Core.List.{List}

@@ -4,9 +4,6 @@ ghost use Rattle.block_calls.specs.Calls.{DoesBlock, DoesBlockDuring, Do
 use reply::Done;
 use reply::Value;
 
-// The latest time, 2^60.
-pub const LATEST: u64 = 1152921504606846976;
-
 // Question 1.
 fn lent(setup: &[u64], net: &[u64], blocks: &[u64]) -> bool
     ensures { λ r. ⌜ r ≡ blocksLent (now (setup .entry)) (now (net .entry)) (now (blocks .entry)) ⌝ }
@@ -59,7 +56,7 @@ fn time_refusal(setup: &[u64], net: &[u64], blocks: &[u64], from: u64, to: u64, 
     if number != 0 {
         return number;
     }
-    if LATEST < at {
+    if held::LATEST < at {
         return 7;
     }
     0

@@ -11,9 +11,7 @@ use Rattle.rule.specs.Rule.{holds}
 use Rattle.rule.proofs.Laws.{yes}
 use Rattle.rows.specs.Rows.{pick}
 use Rattle.rows.proofs.Rows.{rows-snoc, rows-kept}
-use Rattle.rows.proofs.Writes.{length-kept, chosen-length}
 use Rattle.shift.specs.Shift.{putWords}
-use Rattle.shift.proofs.Laws.{length-put}
 use Rattle.blocks.specs.declared.BlockWindow.{BlockWindow}
 use Rattle.blocks.specs.Blocks.{blockWidth, blockSlots, words, putAt, firstBlock, blocksOf, windowOf, joins, stops, blocked, other, unblocked, blockNumber, blockTable, openCount, unblockTable}
 use Rattle.blocks.proofs.Laws.{alone, long, back}
@@ -60,11 +58,3 @@ unblock-opens from to at [] = refl
 unblock-opens from to at (e ∷ es) = none-step from to at e (unblocked from to es) (joins from to e) refl (unblock-opens from to at es)
 
 -- ---- each write leaves the table as long as it was
-pub block-length : (ws : List ℕ) (n : ℕ) (e : BlockWindow) → blockSlots * blockWidth ≤ length ws → length (blockTable ws n e) ≡ length ws
-unfolding blockTable putAt
-block-length ws n e r =
-    chosen-length (ltb n blockSlots) _ ws (λ t. let h = ltb-true n blockSlots t in length-put ws (n * blockWidth) (words e) (omega (arith, h)))
-
-pub unblock-length : (from to : ℕ) (ws : List ℕ) (n : ℕ) → n * blockWidth ≤ length ws → length (unblockTable from to ws n) ≡ length ws
-unfolding unblockTable
-unblock-length from to ws n r = length-kept blockWidth firstBlock words (other from to) long back ws n r

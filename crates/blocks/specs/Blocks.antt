@@ -1,4 +1,4 @@
--- The block table, the list of windows that it holds, and what the calls make of each.
+-- Document 01, fault engine (`block`, `block_during`, `unblock`, `is_blocked`): the block table, the list of windows that it holds, and what the calls make of each.
 use mathlib.Core.Bool.{Bool, false, cond, not, _&&_, _||_}
 use mathlib.Core.List.{List, [], _∷_}
 use Prim.Native.Nat.{ℕ, _+_, _*_}

@@ -13,11 +13,10 @@ use Rattle.network.specs.Opening.{Settings, Opening}
 use Rattle.network.specs.Live.{Live, idsAt}
 use Rattle.network.specs.Accept.{messageOf, selected, booked, noCounts, tally, total}
 use Rattle.network.specs.Flush.{handled}
-use Rattle.network.specs.Calls.{Call, Answer, silent, answerOf, countsIn, rowsIn, deliveredIn, dropsIn, accept, flush, takeDown, bringUp, handlers, block, blockDuring, unblock, install, remove, decide, drain, reading}
+use Rattle.network.specs.Calls.{Call, Answer, answerOf, countsIn, rowsIn, deliveredIn, dropsIn, accept, flush, takeDown, bringUp, handlers, block, blockDuring, unblock, install, remove, decide, drain, reading}
 use Rattle.network.specs.Questions.{asked, firstNo}
-use Rattle.network.specs.Tables.{Tables, sizesAt, live}
+use Rattle.network.specs.Tables.{Tables, live}
 use Rattle.network.specs.Real.{openingOf, openingAt}
-use Rattle.network.specs.Lent.{question1}
 use Rattle.network.specs.Writes.{Reply, isNumber, numberOf, exitT, answerT, tablesBy, replyBy, outputOf, callTables, callReply}
 use Rattle.network.specs.Open.{askedOpening, openNumber, openTables, openExit}
 use Rattle.book.specs.Book.{Book, landedIn, droppedIn, bookStep, expected, opened}
@@ -64,10 +63,6 @@ module _ (o : Opening) where
   held-step lim T b c h (suc n) e = h
 
   -- ---- What holds of each call
-
-  -- other tables are refused by question 1
-  others-reply : (X : Tables) (c : Call) → question1 (sizesAt (X .setup)) X c ≡ false → callReply X c ≡ record { number = 1; answer = silent }
-  others-reply X c a = rw a
 
   same-answer : (b : Book) (T : Tables) (i : Item) → Held o T (b .live) → Admitted i → replyTo T i .answer ≡ expectedOf o b T i
   same-answer b T (own c) h a =

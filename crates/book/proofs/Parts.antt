@@ -1,22 +1,23 @@
 -- A cell of `net`, a row, the marks of a till anew: what is read afterwards.
-use mathlib.Core.Path.{_≡_, refl, sym, ap, _∙_, subst}
+use mathlib.Core.Path.{_≡_, refl, ap, _∙_}
 use Prim.Native.Nat.{ℕ, _+_, _*_, _≤_, _<_}
 use native.Mathlib.Omega.{arith}
 use native.Mathlib.Nat.{mul-le-mul-right, suc-mul}
 use mathlib.Core.Bool.{Bool, true, false}
 use mathlib.Core.List.{List, [], _∷_}
 use mathlib.Core.Logic.{_⊎_, inl, inr}
-use lib.Dec.{eqb, ltb}
-use lib.ListN.{length, getD, set, take, drop, length-set}
-use lib.Seq.{getD-set-same, getD-set-other, drop-set-lt, getD-take, getD-drop}
-use borrow.Author.Tests.{eqb-true, eqb-false, ltb-true, ltb-false}
+use lib.Dec.{ltb}
+use lib.ListN.{length, set, take, length-set}
+use lib.Seq.{getD-set-same, getD-set-other, drop-set-lt}
+use borrow.Author.Tests.{ltb-true, ltb-false}
 use Rattle.shift.specs.Shift.{putWords}
-use Rattle.shift.proofs.Laws.{length-put}
-use Rattle.shift.proofs.Parts.{put-before, put-here}
+use Rattle.shift.proofs.Parts.{put-here}
 use Rattle.rows.specs.Lists.{upTo}
 use Rattle.rows.specs.Table.{Exact}
 use Rattle.rows.proofs.Lists.{upTo-set}
 use Rattle.marks.specs.Marks.{idsOf}
+use Rattle.marks.proofs.Tills as tills
+use Rattle.marks.proofs.Tills.{ids-room, after-length, counts-within}
 use Rattle.marks.proofs.Laws.{others}
 use Rattle.rules.specs.Rules.{ruleSlots}
 use Rattle.blocks.specs.Blocks.{blockSlots}
@@ -89,9 +90,11 @@ module _ (z : Sizes) (seen : List ℕ) (f : SeenFormed z seen) (t : ℕ) (ids : 
   abbrev start : ℕ
   start = idsStart z t
 
+  size : z .tills + z .tills * z .seenSlots ≤ length seen
+  size = omega (arith, f .size)
+
   room : start + length ids ≤ length seen
-  room = let k : (t + 1) * z .seenSlots ≤ z .tills * z .seenSlots = mul-le-mul-right (z .seenSlots) (omega arith) in
-      omega (arith, f .size, suc-mul t (z .seenSlots), k)
+  room = ids-room (z .tills) (z .seenSlots) seen size t ids b le
 
   abbrev put : List ℕ
   put = putWords seen start ids
@@ -99,21 +102,11 @@ module _ (z : Sizes) (seen : List ℕ) (f : SeenFormed z seen) (t : ℕ) (ids : 
   abbrev after : List ℕ
   after = set put t (length ids)
 
-  long : length after ≡ length seen
-  long = length-set put t (length ids) ∙ length-put seen start ids room
-
-  -- a count before the places is no id
-  before : (k : ℕ) → k < z .tills → cell put k ≡ cell seen k
-  before k h =
-      let own : (w : List ℕ) → getD (take 1 (drop k w)) 0 0 ≡ cell w (k + 0) = λ w. getD-take 1 (drop k w) 0 0 (omega arith) ∙ getD-drop k w 0 0 in
-      let e : k + 0 ≡ k = omega arith in
-      subst (λ (i : ℕ). cell put i ≡ cell seen i) e (sym (own put) ∙ ap (λ (x : List ℕ). getD x 0 0) (put-before seen start ids k 1 (omega arith) (omega (arith, room))) ∙ own seen)
-
   count-here : cell after t ≡ length ids
-  count-here = getD-set-same put t (length ids) 0 (omega (arith, length-put seen start ids room, f .size))
+  count-here = tills.count-here (z .tills) (z .seenSlots) seen size t ids b le
 
   count-there : (k : ℕ) → k < z .tills → (k ≡ t → ⊥) → cell after k ≡ cell seen k
-  count-there k h n = getD-set-other put t k (length ids) 0 n ∙ before k h
+  count-there k h n = tills.count-there (z .tills) (z .seenSlots) seen size t ids b le k h n
 
   -- the places lie behind the counts
   places : (s n : ℕ) → z .tills ≤ s → idsOf after s n ≡ idsOf put s n
@@ -137,11 +130,7 @@ module _ (z : Sizes) (seen : List ℕ) (f : SeenFormed z seen) (t : ℕ) (ids : 
   ids-there k h n = ap (idsOf after (idsStart z k)) (count-there k h n) ∙ places (idsStart z k) (cell seen k) (omega arith) ∙ others seen start ids (idsStart z k) (cell seen k) room (apart k h n)
 
   pub seen-formed : SeenFormed z after
-  seen-formed = record { size = long ∙ f .size; counts = λ k h. go k h (eqb k t) refl }
-    where
-      go : (k : ℕ) → k < z .tills → (x : Bool) → eqb k t ≡ x → cell after k ≤ z .seenSlots
-      go k h true p = rw (eqb-true k t p, count-here) le
-      go k h false p = rw (count-there k h (eqb-false k t p)) (f .counts k h)
+  seen-formed = record { size = after-length (z .tills) (z .seenSlots) seen size t ids b le ∙ f .size; counts = counts-within (z .tills) (z .seenSlots) seen size t ids b le (f .counts) }
 
   pub seen-holds : upTo (z .tills) (λ k. idsOf after (idsStart z k) (cell after k)) ≡ set (upTo (z .tills) (λ k. idsOf seen (idsStart z k) (cell seen k))) t ids
   seen-holds =

@@ -1,4 +1,4 @@
--- Cells that fit the memory that is lent: 64 bits, 32 for a key's words, 8 for a name's bytes.
+-- Document 01, 'What changes shape': maps, heap and rings become lent tables. Cells that fit their memory: 64 bits, 32 for a key's words, 8 for a name's bytes.
 use Prim.Native.Nat.{ℕ, _^_, _<_}
 use mathlib.Core.List.{List, [], _∷_}
 use Rattle.rows.specs.Lists.{Each}

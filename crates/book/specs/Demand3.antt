@@ -1,4 +1,4 @@
--- DEMAND 3: one statement on every list of calls after an accepted opening.
+-- Document 01, 'The book': DEMAND 3, one statement on every list of calls after an accepted opening.
 use mathlib.Core.Path.{_≡_}
 use Prim.Native.Nat.{ℕ, zero, suc, _+_}
 use mathlib.Core.Bool.{Bool, true, false}

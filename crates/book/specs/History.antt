@@ -1,4 +1,4 @@
--- The words of demand 3 on what happened.
+-- Document 01, 'The book': the words of demand 3 on what happened.
 use Prim.Native.Nat.{ℕ}
 use mathlib.Core.Bool.{Bool, false, not, _&&_, _||_}
 use mathlib.Core.List.{List, [], _∷_}

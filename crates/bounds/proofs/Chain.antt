@@ -1,17 +1,16 @@
 -- The operations of the latency, each with its value in units of 2 ^ -1074 and how far that is off.
 use mathlib.Core.Path.{_≡_, refl, sym, ap, _∙_, subst}
-use mathlib.Core.Bool.{Bool, true, false, not, cond}
-use Prim.Native.Nat.{ℕ, zero, suc, _+_, _-_, _*_, _/_, _%_, _^_, _≤_, _<_}
-use native.Mathlib.Nat.{le-trans, le-of-eq, le-of-lt, lt-of-lt-of-le, lt-of-le-of-lt, mul-comm, mul-assoc, mul-left-comm, mul-right-comm, mul-one, mul-le-mul-right, mul-le-mul, mul-lt-mul-of-pos-right, le-of-mul-le-mul-right, lt-of-mul-lt-mul-right, mul-pos, mod-lt, add-mul, zero-lt-suc, zero-mul, div-add-mod'}
+use mathlib.Core.Bool.{Bool, true, false}
+use Prim.Native.Nat.{ℕ, _+_, _-_, _*_, _/_, _%_, _^_, _≤_, _<_}
+use native.Mathlib.Nat.{le-trans, le-of-eq, le-of-lt, mul-assoc, mul-right-comm, mul-le-mul-right, le-of-mul-le-mul-right, mul-pos, mod-lt, add-mul, zero-lt-suc, div-add-mod'}
 use native.Mathlib.Omega.{arith}
-use lib.IntN.{pos}
-use lib.Dec.{T, lit≤, lit<}
-use lib.Pow.{pow-add, pow-pos, shl-lt}
-use lib.Ieee.{Float, nan, inf, fin, binary64, up, down, round, add, sub, mul, div, neg, ofInt}
-use lib.Ieee.Exact.{HasValue, round-exact}
+use lib.Dec.{lit≤}
+use lib.Pow.{pow-pos}
+use lib.Ieee.{Float, nan, inf, fin, binary64, up, down, round, add, mul, div, ofInt}
+use lib.Ieee.Exact.{HasValue}
 use lib.Ieee.Back.{round-whole}
 use Rattle.time.specs.Seconds.{second, seconds, whole}
-use Rattle.bounds.proofs.Near.{Near, Q, E, round-value, add-is, mul-is, div-is, minus-is, minus-neg, neg-value}
+use Rattle.bounds.proofs.Near.{Near, Q, E, round-value, add-is, mul-is, div-is, minus-is, minus-neg}
 
 abbrev pub Val : Float → ℕ → Type 0
 Val x a = HasValue x false a Q

@@ -1,9 +1,8 @@
 -- The errors of the latency's operations, put together: whole numbers only.
-use mathlib.Core.Path.{_≡_, refl, sym, ap, _∙_, subst}
+use mathlib.Core.Path.{_≡_, ap}
 use Prim.Native.Nat.{ℕ, _+_, _-_, _*_, _≤_, _<_, max}
-use native.Mathlib.Nat.{le-refl, le-trans, le-of-lt, mul-le-mul-right, mul-le-mul-left, mul-le-mul, mul-lt-mul-of-pos-right, lt-of-mul-lt-mul-right}
+use native.Mathlib.Nat.{le-trans, mul-le-mul-right, mul-le-mul-left, mul-le-mul, mul-lt-mul-of-pos-right, lt-of-mul-lt-mul-right}
 use native.Mathlib.Omega.{arith}
-use Rattle.bounds.proofs.Near.{Near}
 
 -- 1. s, j, d, p and t are the seconds, the jitter's range, the range's width, the draw's part of it, and the sum, in one unit. The fraction is f / c, and the draw k / m.
 module _ (e m c f k s j d p t : ℕ) (K : k ≤ m) where

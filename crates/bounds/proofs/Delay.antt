@@ -5,7 +5,7 @@ use mathlib.Core.Bool.{Bool, true, false, cond}
 use Prim.Native.Nat.{ℕ, _+_, _-_, _*_, _/_, _^_, _≤_, _<_, zero-le, max}
 use native.Mathlib.Nat.{le-trans, le-of-eq, le-of-lt, lt-of-lt-of-le, lt-of-le-of-lt, mul-comm, mul-assoc, mul-one, mul-le-mul-right, mul-le-mul-left, mul-le-mul, le-of-mul-le-mul-right, mul-pos}
 use native.Mathlib.Omega.{arith}
-use lib.Dec.{T, lit≤, lit<}
+use lib.Dec.{lit≤, lit<}
 use lib.Pow.{pow-add, pow-pos, shl-lt}
 use lib.Ieee.{Float, binary64, round, add, sub, mul, neg, lt}
 use lib.Ieee.Exact.{HasValue, round-exact}

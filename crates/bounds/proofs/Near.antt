@@ -2,13 +2,12 @@
 use mathlib.Core.Path.{_≡_, refl, sym, ap, _∙_, subst}
 use mathlib.Core.Bool.{Bool, true, false, not, cond, true≢false, false≢true}
 use Prim.Native.Nat.{ℕ, zero, suc, _+_, _-_, _*_, _/_, _%_, _^_, _≤_, _<_, compare, Ordering, Ordering·lt, Ordering·eq, Ordering·gt}
-use native.Mathlib.Nat.{le-trans, le-of-lt, le-of-eq, lt-of-lt-of-le, lt-of-le-of-lt, mul-comm, mul-assoc, mul-left-comm, mul-right-comm, mul-le-mul-right, mul-le-mul-left, mul-lt-mul-of-pos-right, le-of-mul-le-mul-right, mul-pos, mod-lt, div-add-mod', div-lt-iff-lt-mul, sub-add-cancel, mul-mul-mul-comm, lt-of-not-le, add-mul, not-le-of-lt, lt-irrefl, zero-mul, zero-lt-suc}
+use native.Mathlib.Nat.{le-trans, le-of-lt, le-of-eq, lt-of-lt-of-le, lt-of-le-of-lt, mul-comm, mul-assoc, mul-right-comm, mul-le-mul-right, mul-lt-mul-of-pos-right, le-of-mul-le-mul-right, mul-pos, mod-lt, div-add-mod', div-lt-iff-lt-mul, sub-add-cancel, mul-mul-mul-comm, lt-of-not-le, add-mul, not-le-of-lt, lt-irrefl, zero-mul, zero-lt-suc}
 use native.Mathlib.Omega.{arith}
-use lib.IntN.{pos}
 use lib.Ieee.Bits.{cond-no}
-use lib.Dec.{T, eqb, eqb→eq, ltb, ltb→lt, lt→ltb, lit≤, nltb→le}
-use lib.Pow.{pow-add, pow-pos, pow-mono, pow-lt, shl-lt}
-use lib.Ieee.{Float, nan, inf, fin, Format, binary64, up, down, size, nearest, round, sum, add, sub, mul, div, neg, units}
+use lib.Dec.{T, eqb, eqb→eq, ltb, ltb→lt, lit≤, nltb→le}
+use lib.Pow.{pow-add, pow-pos, pow-mono, pow-lt}
+use lib.Ieee.{Float, nan, inf, fin, binary64, up, down, size, nearest, round, sum, add, mul, div, neg, units}
 use lib.Ieee.Digits.{size-le}
 use lib.Ieee.Fits.{up-pos, down-pos, round-is}
 use lib.Ieee.Exact.{HasValue, units-val}

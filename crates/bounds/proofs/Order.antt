@@ -5,7 +5,6 @@ use mathlib.Core.Bool.{Bool, true, false, not, true≢false, false≢true}
 use Prim.Native.Nat.{ℕ, zero, suc, _+_, _*_, _^_, _≤_, _<_}
 use native.Mathlib.Nat.{le-trans, le-of-eq, mul-le-mul-right, le-of-mul-le-mul-right, mul-pos, not-le-of-lt, lt-of-not-le, mul-right-comm, zero-lt-suc}
 use native.Mathlib.Omega.{arith}
-use lib.IntN.{pos}
 use lib.Dec.{T, ltb, ltb→lt, nltb→le}
 use lib.Pow.{pow-pos}
 use lib.Ieee.{Float, nan, inf, fin, up, down, neg, lt, le}

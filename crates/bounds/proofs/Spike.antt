@@ -1,7 +1,7 @@
 -- A spike's product is in the range that `nanos` asks for: the draw is from 9 to 50, and the seconds are from a bit under 1 / 1000 to 181.
-use mathlib.Core.Path.{_≡_, refl, sym, ap, _∙_, subst}
+use mathlib.Core.Path.{sym, subst}
 use mathlib.Core.Bool.{Bool, true, false}
-use Prim.Native.Nat.{ℕ, suc, _+_, _-_, _*_, _/_, _^_, _≤_, _<_}
+use Prim.Native.Nat.{ℕ, _+_, _-_, _*_, _/_, _^_, _≤_, _<_}
 use native.Mathlib.Nat.{le-trans, le-of-lt, mul-le-mul, mul-le-mul-right, le-of-mul-le-mul-right, mul-pos}
 use native.Mathlib.Omega.{arith}
 use lib.Dec.{T, lit≤}
@@ -9,7 +9,7 @@ use lib.Pow.{pow-pos}
 use lib.Ieee.{Float, binary64, add, sub, mul, neg, lt}
 use Rattle.time.specs.Seconds.{whole, second, millisecond, seconds, nanos, InRange}
 use Rattle.draw.specs.Real.{realOf, tiny52}
-use Rattle.bounds.proofs.Near.{Near, Q, E, round-at, mul-is, neg-value}
+use Rattle.bounds.proofs.Near.{Q, E, round-at, mul-is, neg-value}
 use Rattle.bounds.proofs.Chain.{Val, value-add, value-minus, value-mul', secs-upto, of-units}
 use Rattle.bounds.proofs.Order.{Ordered, lt-value, in-range-of, nanos-upto, Mi}
 use Rattle.bounds.proofs.Delay.{part-value}

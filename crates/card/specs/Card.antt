@@ -1,4 +1,4 @@
--- A drop card and the fields that it carries.
+-- Document 01, fault engine, and question 13: a drop card and the fields that it carries.
 use mathlib.Core.Bool.{Bool, cond, _&&_}
 use mathlib.Core.List.{List}
 use Prim.Native.Nat.{ℕ, zero, suc, _+_, _*_, _≤_}

@@ -1,4 +1,4 @@
--- The 16 words of the matrix, in order.
+-- D. J. Bernstein, "ChaCha, a variant of Salsa20": the 16 words of the matrix, in order.
 use Prim.Native.Nat.{ℕ}
 use mathlib.Core.List.{List, [], _∷_}
 use Rattle.chacha.specs.declared.Words.{Words}

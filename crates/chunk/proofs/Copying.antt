@@ -1,7 +1,7 @@
 -- Laws of the loop that copies bytes into a block.
 use Prim.Native.Nat.{ℕ, _+_, _-_, _<_, _≤_}
 use mathlib.Core.Path.{_≡_, refl, ap, sym, _∙_}
-use mathlib.Core.List.{List, [], _∷_, _++_}
+use mathlib.Core.List.{List, _++_}
 use mathlib.Core.Bool.{Bool, true, false}
 use lib.ListN.{getD, set, length, length-set, replicate, getD-replicate}
 use lib.Dec.{ltb}

@@ -1,12 +1,12 @@
 -- Laws of a block's words, and of the loop over a chunk's blocks.
-use Prim.Native.Nat.{ℕ, zero, suc, _+_, _-_, _/_, _<_, _≤_}
+use Prim.Native.Nat.{ℕ, suc, _+_, _-_, _/_, _<_, _≤_}
 use mathlib.Core.Path.{_≡_, refl, ap, ap₂, sym, _∙_, subst}
-use mathlib.Core.List.{List, [], _∷_, _++_}
-use lib.ListN.{getD, length, take, drop, length-drop, length-append}
+use mathlib.Core.List.{List, _++_}
+use lib.ListN.{length, take, drop, length-drop, length-append}
 use lib.Seq.{getD-take}
 use native.Mathlib.Omega.{arith}
 use Rattle.compress.specs.Compress.{compressed}
-use Rattle.parts.proofs.Parts.{drop-both, empty-left}
+use Rattle.parts.proofs.Parts.{drop-both}
 use Rattle.chunk.specs.Chunk.{blocks, wordsOf}
 use Rattle.word.specs.Word.{leWord}
 

@@ -1,4 +1,4 @@
--- A block of bytes with others copied over it.
+-- BLAKE3, specification section 2.4, a chunk's blocks: a block of bytes with others copied over it.
 use Prim.Native.Nat.{ℕ, _-_, _<_, _≤_}
 use mathlib.Core.Path.{_≡_}
 use mathlib.Core.List.{List}

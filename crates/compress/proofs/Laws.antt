@@ -1,9 +1,8 @@
 -- Laws of a round, and of the loop over the rounds.
-use Prim.Native.Nat.{ℕ, zero, suc, _+_, _-_, _<_, _≤_}
+use Prim.Native.Nat.{ℕ, suc, _+_, _-_, _<_, _≤_}
 use native.Mathlib.Omega.{arith}
 use mathlib.Core.Path.{_≡_, refl, ap, ap₂, sym, _∙_}
 use mathlib.Core.List.{List, [], _∷_}
-use lib.ListN.{getD, set}
 use Rattle.compress.specs.declared.Quad.{Quad}
 use Rattle.compress.specs.Compress.{mixOf, putQuad, mixAt, columns, diagonals, permuted, roundOf, rounds}
 

@@ -1,4 +1,4 @@
--- The 16 words of a state or a message, in order.
+-- BLAKE3, specification section 2.2: the 16 words of a state or a message, in order.
 use Prim.Native.Nat.{ℕ}
 use mathlib.Core.List.{List, [], _∷_}
 use Rattle.compress.specs.declared.Words.{Words}

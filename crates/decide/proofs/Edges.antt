@@ -1,31 +1,17 @@
--- The edges of the fault engine: windows, and the probabilities 0, 1 and NaN.
+-- The edges of the fault engine: the probabilities 0, 1 and NaN.
 use mathlib.Core.Path.{_≡_, refl, ap, _∙_}
-use mathlib.Core.Bool.{Bool, true, false, not, _&&_}
+use mathlib.Core.Bool.{Bool, true, false, not}
 use mathlib.Core.List.{List}
 use Prim.Native.Nat.{ℕ, _+_, _^_, _<_}
-use lib.Dec.{leb, ltb}
 use lib.Ieee.{Float, nan, lt, eq, le, ofBits}
-use borrow.Author.Tests.{leb-true, le-ltb}
 use Rattle.streams.specs.Streams.{wordPair}
 use Rattle.float.specs.Float.{clamped, zero64, one64}
 use Rattle.rule.specs.declared.FaultAction.{FaultAction}
 use Rattle.rule.specs.declared.FaultAction.the-variants.{DropWithProbability}
-use Rattle.rule.specs.Rule.{has, actionOf, probabilityBit, holds}
+use Rattle.rule.specs.Rule.{has, actionOf, probabilityBit}
 use Rattle.decide.specs.Decide.{hits, tryAction}
-use Rattle.decide.specs.Edges.{Window58, Window55, Probabilities}
+use Rattle.decide.specs.Edges.{Probabilities}
 use Rattle.decide.proofs.Fraction.{pair-lt, fraction-least, fraction-below}
-
-pub window-5-8 : Window58
-unfolding holds
-window-5-8 = record { start = refl; last = refl; before = refl; end = refl }
-
-nothing : (t : ℕ) (b : Bool) → leb 5 t ≡ b → b && ltb t 5 ≡ false
-nothing t true h = le-ltb t 5 (leb-true 5 t h)
-nothing t false h = refl
-
-pub window-5-5 : Window55
-unfolding holds
-window-5-5 t = nothing t (leb 5 t) refl
 
 -- ---- a probability against a draw
 zero-passes : (d : ℕ) → d < 2 ^ 64 → hits zero64 d ≡ false

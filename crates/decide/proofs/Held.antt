@@ -1,5 +1,5 @@
 -- What a decision takes and names, and the rules that a table holds once a drop is counted.
-use mathlib.Core.Path.{_≡_, refl, _∙_}
+use mathlib.Core.Path.{_≡_}
 use mathlib.Core.Bool.{Bool, true, false, cond}
 use mathlib.Core.List.{List, [], _∷_}
 use Prim.Native.Nat.{ℕ, suc, _+_, _*_, _≤_, _<_}
@@ -9,12 +9,8 @@ use Rattle.rule.specs.declared.FaultAction.{FaultAction}
 use Rattle.rule.specs.declared.FaultAction.the-variants.{Drop, DropWithProbability}
 use Rattle.rule.specs.declared.Message.{Message}
 use Rattle.rule.specs.Rule.{ruleOf, applies}
-use Rattle.rule.proofs.Laws.{yes, no}
 use Rattle.rules.specs.declared.FaultRule.{FaultRule}
-use Rattle.rules.specs.Rules.{ruleWidth, rulesOf, fireTable}
-use Rattle.rules.proofs.Laws.{length-rules}
-use Rattle.rules.proofs.Held.{rules-fired}
-use Rattle.decide.specs.Decide.{Tried, Decision, tryAction, tryRule, after, decideOf, rulesAfter}
+use Rattle.decide.specs.Decide.{Tried, Decision, tryAction, tryRule, after, decideOf}
 
 abbrev verdict : Bool → ℕ → ℕ → Decision
 verdict d p w = record { drops = d; place = p; words = w }
@@ -57,14 +53,3 @@ module _ (key : List ℕ) (m : Message) where
   decide-place (r ∷ rs) w e =
       let t : Tried = tryRule key m r w in
       place-step (t .drops) (t .words) (decideOf key m rs (t .words)) (length rs) (decide-place rs (t .words)) e
-
-  -- the table after a drop is counted holds the rules after the decision
-  pub decide-fired : (ws : List ℕ) (n w : ℕ) → n * ruleWidth ≤ length ws → decideOf key m (rulesOf ws n) w .drops ≡ true
-      → rulesOf (fireTable ws (decideOf key m (rulesOf ws n) w .place)) n ≡ rulesAfter (decideOf key m (rulesOf ws n) w) (rulesOf ws n)
-  decide-fired ws n w room d =
-      let p = decide-place (rulesOf ws n) w d in
-      rules-fired ws n (decideOf key m (rulesOf ws n) w .place) (omega (arith, p, length-rules ws n)) room ∙ yes _ _ _ _ d refl
-
-  -- a decision that passes leaves the rules as they are
-  pub decide-passed : (rs : List FaultRule) (w : ℕ) → decideOf key m rs w .drops ≡ false → rs ≡ rulesAfter (decideOf key m rs w) rs
-  decide-passed rs w d = no _ _ _ _ d refl

@@ -1,4 +1,4 @@
--- A decision on a message: the rules in install order, and the fault stream's words from its count on.
+-- Document 01, fault engine (`decide`): a decision on a message, the rules in install order, and the fault stream's words from its count on.
 use mathlib.Core.Bool.{Bool, true, false, cond, not}
 use mathlib.Core.List.{List, [], _∷_}
 use Prim.Native.Nat.{ℕ, suc, _+_}

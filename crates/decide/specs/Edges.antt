@@ -1,22 +1,10 @@
--- Document 01's edges of the fault engine.
+-- Document 01, 'Edges': the probabilities of the fault engine.
 use mathlib.Core.Path.{_≡_}
 use mathlib.Core.Bool.{true, false}
 use mathlib.Core.List.{List}
 use Prim.Native.Nat.{ℕ, _+_, _^_}
-use Rattle.rule.specs.declared.TimeWindow.the-variants.{During}
-use Rattle.rule.specs.Rule.{holds, actionOf, probabilityBit}
+use Rattle.rule.specs.Rule.{actionOf, probabilityBit}
 use Rattle.decide.specs.Decide.{Tried, tryAction}
-
--- marked: window 5..8 holds 5 and 7, not 4 or 8
-pub record Window58 : Type 0 where
-  pub start : holds (During 5 8) 5 ≡ true
-  pub last : holds (During 5 8) 7 ≡ true
-  pub before : holds (During 5 8) 4 ≡ false
-  pub end : holds (During 5 8) 8 ≡ false
-
--- marked: 5..5 holds nothing
-abbrev pub Window55 : Type 0
-Window55 = (t : ℕ) → holds (During 5 5) t ≡ false
 
 abbrev drops : ℕ → Tried
 drops w = record { drops = true; words = w }

@@ -1,4 +1,4 @@
--- A delivery as a row of eight words.
+-- Document 01, network: the fields of `DeliveryRecord`, as a row of eight words.
 use mathlib.Core.List.{List, [], _∷_}
 use Prim.Native.Nat.{ℕ}
 use lib.ListN.{getD}

@@ -1,12 +1,12 @@
 -- Laws of the digest's answer: within the limit, and past it.
-use Prim.Native.Nat.{ℕ, zero, suc, _+_, _-_, _*_, _/_, _%_, _^_, _<_, _≤_}
+use Prim.Native.Nat.{ℕ, _+_, _<_, _≤_}
 use mathlib.Core.Path.{_≡_, refl, ap, sym, _∙_}
-use mathlib.Core.List.{List, [], _∷_, _++_}
-use lib.ListN.{length, getD, length-append}
+use mathlib.Core.List.{List, _++_}
+use lib.ListN.{length, length-append}
 use native.Mathlib.Omega.{arith}
 use borrow.Author.Tests.{le-leb, lt-leb}
 use Rattle.digest.specs.declared.Hashed.{Hashed}
-use Rattle.digest.specs.Blake3.{hash, longest, answer, tooLong, digestOf, bytesOf}
+use Rattle.digest.specs.Blake3.{hash, longest, answer, tooLong, digestOf}
 
 pub digest-short : (s : List ℕ) {w : List ℕ} → length s ≤ longest → w ≡ hash s → _≡_ {A = Hashed} (record { number = 0; words = w }) (digestOf s)
 unfolding digestOf

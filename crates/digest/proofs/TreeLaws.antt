@@ -3,7 +3,7 @@ use Prim.Native.Nat.{ℕ, zero, suc, _+_, _-_, _*_, _%_, _^_, _<_, _≤_}
 use mathlib.Core.Path.{_≡_, refl, ap, ap₂, sym, _∙_, subst}
 use mathlib.Core.List.{List, _++_}
 use native.Mathlib.Omega.{arith}
-use native.Mathlib.Nat.{one-mul, mod-eq-of-lt, pow-succ', le-trans}
+use native.Mathlib.Nat.{one-mul, pow-succ'}
 use lib.Pow.{pow-mono}
 use lib.ListN.{length, take, drop, length-append, length-drop}
 use lib.Seq.{length-take-le, take-take, take-all, drop-drop}
@@ -98,6 +98,6 @@ tree-four s t e n =
     (ap₂ (λ x y. parent x y 0) refl (ap₂ (λ x k. chunk x k 0) c3 t3) ∙ pair (drop 2048 s) (t + 2) 0 ld)
     ∙ tree-made 2 s t e 2 (take 2048 s) (drop 2048 s) (λ z. omega arith) refl (omega arith) refl refl refl refl refl
 
-pub tree-whole : (k : ℕ) (h s : List ℕ) (t e : ℕ) {v : List ℕ} → k ≡ 2 → length h ≡ 0 → length s ≡ 4096 → v ≡ fourOf s t e → v ≡ tree k (h ++ s) t e
-tree-whole k h s t e p z n q =
-    q ∙ tree-four s t e n ∙ ap₂ (λ j l. tree j l t e) (sym p) (empty-left h s z)
+pub tree-whole : (k : ℕ) (h s : List ℕ) (t e : ℕ) {v : List ℕ} → k ≡ 2 → length h + length s ≡ 4096 → v ≡ fourOf (h ++ s) t e → v ≡ tree k (h ++ s) t e
+tree-whole k h s t e p n q =
+    q ∙ tree-four (h ++ s) t e (length-append h s ∙ n) ∙ ap (λ j. tree j (h ++ s) t e) (sym p)

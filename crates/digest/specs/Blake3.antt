@@ -1,6 +1,6 @@
 -- BLAKE3 in its default mode with a 32-byte output, specification sections 2.1 and 2.6: the tree over the chunks, and the hash.
 use Prim.Native.Nat.{ℕ, zero, suc, _+_, _*_, _/_, _%_, _^_}
-use mathlib.Core.List.{List, [], _∷_, _++_}
+use mathlib.Core.List.{List, [], _∷_}
 use mathlib.Core.Bool.{Bool, true, false}
 use lib.Dec.{leb}
 use lib.ListN.{take, drop, length, replicate}

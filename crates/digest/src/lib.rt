@@ -9,7 +9,8 @@ ghost use mathlib.Core.Path.{_≡_};
 ghost use mathlib.Core.Bool.{true};
 ghost use mathlib.Core.List.{_++_};
 ghost use Prim.Native.Nat.{_+_, _*_, _^_, _≤_};
-ghost use lib.ListN.{length};
+ghost use lib.ListN.{length, take, drop};
+ghost use Rattle.lanes.specs.Lanes.{fourOf};
 ghost use Rattle.digest.specs.Blake3.{tree, hash, longest, tooLong, digestOf};
 
 // The longest input.
@@ -30,17 +31,55 @@ fn chunks(j: u32) -> usize
     1 << (j as usize)
 }
 
-// Whether tail is four whole chunks, head empty and the tree of level 2.
+// Whether head and tail are four whole chunks, and the tree of level 2.
 fn four_whole(head: &[u8], tail: &[u8], k: u32) -> bool
-    ensures { λ r. ⌜ (r ≡ true → (k ≡ 2) × (length (now (head .entry)) ≡ 0) × (length (now (tail .entry)) ≡ 4096)) ⌝ }
+    ensures { λ r. ⌜ (r ≡ true → (k ≡ 2) × (length (now (head .entry)) + length (now (tail .entry)) ≡ 4096)) ⌝ }
 {
     if k != 2 {
         return false;
     }
-    if head.len() != 0 {
+    if 4096 < head.len() {
         return false;
     }
-    tail.len() == 4096
+    if 4096 < tail.len() {
+        return false;
+    }
+    head.len() + tail.len() == 4096
+}
+
+// b with the bytes of s from place p on.
+fn copied(b: [u8; 4096], p: usize, s: &[u8]) -> [u8; 4096]
+    requires { ⌜ p + length (now s) ≤ 4096 ⌝ }
+    ensures { λ r. ⌜ r ≡ take p b ++ (now (s .entry) ++ drop (p + length (now (s .entry))) b) ⌝ }
+{
+    let mut out = b;
+    let mut i: usize = 0;
+    while i < s.len() {
+        out[p + i] = s[i];
+        i += 1;
+    }
+    out
+}
+
+// Four whole chunks, joined.
+fn joined(head: &[u8], tail: &[u8]) -> [u8; 4096]
+    requires { ⌜ length (now head) + length (now tail) ≡ 4096 ⌝ }
+    ensures { λ r. ⌜ r ≡ now (head .entry) ++ now (tail .entry) ⌝ }
+{
+    let begun = copied([0; 4096], 0, head);
+    copied(begun, head.len(), tail)
+}
+
+// The tree over four whole chunks, of which a head may be a part.
+fn four_parts(head: &[u8], tail: &[u8], t: u64, e: u32) -> [u32; 8]
+    requires { ⌜ (length (now head) + length (now tail) ≡ 4096) × (t ≤ 2 ^ 32) × (e ≤ 8) ⌝ }
+    ensures { λ r. ⌜ r ≡ fourOf (now (head .entry) ++ now (tail .entry)) t e ⌝ }
+{
+    if head.len() == 0 {
+        return four(tail, t, e);
+    }
+    let b = joined(head, tail);
+    four(&b, t, e)
 }
 
 // The chaining value of the tree over up to 2^k chunks, from chunk t on.
@@ -52,7 +91,7 @@ fn subtree(head: &[u8], tail: &[u8], k: u32, t: u64, e: u32) -> [u32; 8]
         return chunk_value(head, tail, t, e);
     }
     if four_whole(head, tail, k) {
-        return four(tail, t, e);
+        return four_parts(head, tail, t, e);
     }
     let j = k - 1;
     let n = chunks(j);

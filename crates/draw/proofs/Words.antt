@@ -49,7 +49,3 @@ whole-below W n a b p q r = go (again W n a) refl (carries W n a b)
 pub whole64-below : (key : List ℕ) (count n : ℕ) → 0 < n → n ≤ 2 ^ 64 → whole64At key count n < n
 unfolding whole64At
 whole64-below key count n p q = whole-below 64 n (wordPair key count) (wordPair key (count + 2)) p q (pair-small key count)
-
-pub whole32-below : (key : List ℕ) (count n : ℕ) → 0 < n → n ≤ 2 ^ 32 → whole32At key count n < n
-unfolding whole32At
-whole32-below key count n p q = whole-below 32 n (wordAt key count) (wordAt key (count + 1)) p q (word-small key count)

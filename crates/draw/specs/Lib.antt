@@ -1,4 +1,3 @@
 pub mod Draw
 pub mod Fraction
 pub mod Real
-pub mod Marked

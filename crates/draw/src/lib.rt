@@ -18,10 +18,10 @@ pub struct DrawnReal {
     pub next: Cursor,
 }
 
-// Whether a rate was hit, and the cursor past the draw, if one was made.
+// Whether a rate was hit, and the cursor past the draw, if one was made. The cursor stands first: LLVM copies it whole.
 pub struct Hit {
-    pub hit: bool,
     pub next: Cursor,
+    pub hit: bool,
 }
 
 // The fraction of a 64-bit draw: its top 53 bits, times 2^-53.

@@ -1,4 +1,4 @@
--- f64 constants, and the clamp of a probability to 0..1.
+-- Document 01, fault engine (clamping leaves NaN as NaN): f64 constants, and the clamp of a probability to 0..1.
 use mathlib.Core.Bool.{false, cond}
 use lib.IntN.{pos}
 use lib.Ieee.{Float, fin, lt}

@@ -1,4 +1,4 @@
--- One pass over the due copies, table by table: what each copy does to the marks, the log, the output and the counts, and what they all do together.
+-- Document 01, 'The book', Flush: one pass over the due copies, table by table: what each copy does to the marks, the log, the output and the counts, and what they all do together.
 use Prim.Native.Nat.{ℕ, _+_, _*_, _≤_, _<_}
 use mathlib.Core.Path.{_≡_}
 use mathlib.Core.Bool.{Bool, cond, not, _&&_}

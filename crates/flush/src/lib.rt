@@ -12,18 +12,13 @@ ghost use Rattle.network.specs.Writes.{rowWidth, rowWords};
 ghost use Rattle.flush.specs.Pass.{ground, upIn, takenBy, unmarked, clearedOne, droppedMore, handledBy, rowAs, Room, Near, SeenRoom, LogRoom, Due, Turned, Landed, Passed};
 use waiting::Copy;
 
-// How many words a till and a row of the output have.
-const TILL: usize = 4;
-
+// How many words a row of the output has.
 pub const ROW: usize = waiting::WIDTH + 2;
 
 // Where a row has its handlers.
 const GOSSIP: usize = waiting::WIDTH;
 
 const HOST: usize = waiting::WIDTH + 1;
-
-// A scope that is no shard.
-const GLOBAL: u64 = 16;
 
 // What a flush goes by: tills, seen slots of each, log slots, and how many block windows stand.
 pub struct Extents {
@@ -50,7 +45,7 @@ fn is_up(tills: &[u64], n: usize, t: u64) -> bool
     requires { ⌜ (t < n) × (n * tillForm .width ≤ length (now tills)) ⌝ }
     ensures { λ r. ⌜ r ≡ upIn n (now (tills .entry)) t ⌝ }
 {
-    tills[t as usize * TILL] != 0
+    tills[t as usize * held::TILL_WIDTH] != 0
 }
 
 // Blocks at the copy's own time, tills as they are now.
@@ -84,9 +79,9 @@ fn handlers_of(tills: &[u64], n: usize, c: Copy) -> Taken
     ensures { λ r. ⌜ r ≡ takenBy n (now (tills .entry)) c ⌝ }
 {
     let d = c.delivery;
-    let b = d.to as usize * TILL;
+    let b = d.to as usize * held::TILL_WIDTH;
     let gossip = bit(rule::has(tills[b + 1], d.kind));
-    if d.scope != GLOBAL {
+    if d.scope != held::GLOBAL {
         return Taken { gossip, host: 0 };
     }
     let host = bit(rule::has(tills[b + 2], d.kind));

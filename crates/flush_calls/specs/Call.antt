@@ -1,4 +1,4 @@
--- THE CONTRACT of flush. Of the tables `setup`, `net`, `tills`, `seen`, `waiting`, `blocks` and `log` are lent; the others hold whatever they hold, and stay.
+-- Document 01, 'The book', Flush, with questions 1, 7 and 14: THE CONTRACT of flush. Of the tables `setup`, `net`, `tills`, `seen`, `waiting`, `blocks` and `log` are lent; the others hold whatever they hold, and stay.
 use mathlib.Core.Path.{_≡_}
 use mathlib.Core.Bool.{Bool, cond, _&&_, true}
 use mathlib.Core.List.{List}

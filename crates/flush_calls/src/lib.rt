@@ -8,9 +8,6 @@ ghost use Rattle.flush_calls.specs.Call.{DoesFlush, rowsLent, flushLent,
 use flush::Extents;
 use flush::Moved;
 
-// The latest time, 2^60.
-const LATEST: u64 = 1152921504606846976;
-
 // The number of the question that refused the flush, or 0; rows, those of them with a handler, and drops.
 #[repr(C)]
 pub struct Flushed {
@@ -99,7 +96,7 @@ fn refusal(
     if !lent(setup, net, tills, seen, waiting, blocks, log) {
         return 1;
     }
-    if LATEST < at {
+    if held::LATEST < at {
         return 7;
     }
     0

@@ -1,7 +1,7 @@
 -- What the functions of the geography owe, each as a law over plain variables.
-use Prim.Native.Nat.{ℕ, zero, suc, _+_, _-_, _*_, _/_, _%_, _^_, _<_, _≤_, max}
+use Prim.Native.Nat.{ℕ, zero, suc, _+_, _-_, _*_, _/_, _%_, _^_, _<_, _≤_}
 use mathlib.Core.Path.{_≡_, refl, ap, ap₂, sym, _∙_, subst}
-use mathlib.Core.Bool.{Bool, true, false, _&&_}
+use mathlib.Core.Bool.{Bool, true, false}
 use mathlib.Core.List.{List, _++_}
 use native.Mathlib.Omega.{arith}
 use native.Mathlib.Numerals.{add-one}
@@ -12,15 +12,15 @@ use lib.ListN.{getD, set}
 use Rattle.digest.specs.Blake3.{hash}
 use Rattle.streams.specs.declared.Cursor.{Cursor}
 use Rattle.streams.specs.Streams.{Moved, Holds}
-use Rattle.time.specs.Seconds.{second, millisecond}
+use Rattle.time.specs.Seconds.{millisecond}
 use Rattle.draw.specs.Draw.{words64At, whole64At}
 use Rattle.draw.proofs.Laws.{words-most, moved-on, moved-as}
 use Rattle.geography.specs.declared.Link.{Link}
 use Rattle.geography.specs.declared.Cost.{Cost}
 use Rattle.geography.specs.declared.Band.{Band}
-use Rattle.word.specs.Word.{le4, le8}
+use Rattle.word.specs.Word.{le8}
 use Rattle.geography.specs.Bytes.{derive, host, links, hostBytes, linksBytes}
-use Rattle.geography.specs.Geography.{mostRegions, atLeastOne, regionOf, transmissionOf, linkOf, pick, bandOf, drawnLink, linkWords, rowCount, allCount, pairLink, linkWidth, linkIn, putLink, putPair, pricedRow, pricedAll, pricesOf, linkAt, linkAdmitted, linkCost, costOf, Stands}
+use Rattle.geography.specs.Geography.{mostRegions, atLeastOne, regionOf, transmissionOf, linkOf, bandOf, drawnLink, linkWords, rowCount, allCount, pairLink, linkIn, putLink, putPair, pricedRow, pricedAll, pricesOf, linkAt, linkAdmitted, linkCost, costOf, Stands}
 
 -- ---- at least one
 pub one-none : (n : ℕ) → n ≡ 0 → (1 ≡ atLeastOne n) × (0 < 1)

@@ -1,5 +1,5 @@
 -- What a plan's table holds: the link of every pair of regions, whatever lay in the table before; and within which limits.
-use Prim.Native.Nat.{ℕ, zero, suc, _+_, _-_, _*_, _/_, _^_, _<_, _≤_, min, max}
+use Prim.Native.Nat.{ℕ, zero, suc, _+_, _-_, _*_, _<_, _≤_, min, max}
 use mathlib.Core.Path.{_≡_, refl, ap, ap₂, sym, _∙_, subst}
 use mathlib.Core.Logic.{_⊎_, inl, inr}
 use mathlib.Core.Bool.{Bool, true, false, not, _&&_}
@@ -7,18 +7,16 @@ use mathlib.Core.List.{List}
 use native.Mathlib.Omega.{arith}
 use native.Mathlib.Nat.{mod-lt, mul-le-mul-left, mul-le-mul-right, suc-mul, div-le-of-le-mul}
 use borrow.Author.Tests.{le-leb}
-use lib.Dec.{eqb, leb, T, ltb, ltb→lt, nltb→le, leb→le}
-use lib.Ieee.Fits.{and-l, and-r}
-use lib.ListN.{length, getD, set, length-set}
+use lib.Dec.{eqb, leb, T, ltb, ltb→lt, nltb→le}
+use lib.ListN.{length, set, length-set}
 use lib.Seq.{getD-set-same, getD-set-other}
-use Rattle.streams.specs.Streams.{wordPair}
 use Rattle.time.specs.Seconds.{second, millisecond}
 use Rattle.draw.specs.Draw.{whole64At, words64At}
 use Rattle.draw.proofs.Words.{whole64-below}
 use Rattle.geography.specs.declared.Link.{Link}
 use Rattle.geography.specs.declared.Band.{Band}
 use Rattle.geography.specs.Bytes.{derive, links}
-use Rattle.geography.specs.Geography.{mostRegions, mostBytes, atLeastOne, transmissionOf, linkOf, pick, bandOf, drawnLink, rowCount, allCount, pairLink, planLink, linkWidth, linkIn, putLink, putPair, pricedRow, pricedAll, pricesOf, linkAt, linkAdmitted, regionOf, pickCost, linkCost, costOf, planCost}
+use Rattle.geography.specs.Geography.{mostBytes, atLeastOne, transmissionOf, linkOf, pick, bandOf, drawnLink, pairLink, planLink, linkWidth, linkIn, putLink, putPair, pricedRow, pricedAll, pricesOf, linkAt, linkAdmitted, regionOf, pickCost, linkCost, costOf, planCost}
 
 -- ---- one row of the table
 pub length-put : (t : List ℕ) (i : ℕ) (l : Link) → length (putLink t i l) ≡ length t
@@ -261,14 +259,3 @@ unfolding costOf planCost
 cost-by-plan planned seed regions from to latency bytes t room =
     ap (λ l. pickCost planned (linkCost l bytes) (record { base = record { ns = latency }; transmission = record { ns = 0 } }))
     (prices-are seed regions (regionOf seed regions from) (regionOf seed regions to) t (region-below seed regions from) (region-below seed regions to) room)
-
--- a base of at most 60 s and 655,360 ns on the wire, where the link, if there is a plan, is one that a plan can give
-pub cost-most : (planned : Bool) (t : List ℕ) (regions a b latency bytes : ℕ) → (planned ≡ true → linkAdmitted (linkAt t regions a b) ≡ true) → latency ≤ 60 * second → bytes ≤ mostBytes
-    → (costOf planned t regions a b latency bytes .base .ns ≤ 60 * second) × (costOf planned t regions a b latency bytes .transmission .ns ≤ 655360)
-unfolding costOf linkCost linkAdmitted
-cost-most true t regions a b latency bytes h k m =
-    let l = linkAt t regions a b in
-    let w : T (leb (l .base .ns) (160 * millisecond) && leb 100000000 (l .rate)) = subst T (sym (h refl)) tt in
-    let x : l .base .ns ≤ 160 * millisecond = leb→le (l .base .ns) (160 * millisecond) (and-l (leb (l .base .ns) (160 * millisecond)) _ w) in
-    (omega arith, transmission-most bytes (l .rate) m (leb→le 100000000 (l .rate) (and-r (leb (l .base .ns) (160 * millisecond)) _ w)))
-cost-most false t regions a b latency bytes h k m = (k, omega arith)

@@ -1,4 +1,4 @@
--- What the digests of a plan are made of: the seed, a label and a number, little-endian.
+-- Document 01, geography (as `Geography::new` and `region_of`): what the digests of a plan are made of: the seed, a label and a number, little-endian.
 use Prim.Native.Nat.{ℕ}
 use mathlib.Core.List.{List, [], _∷_, _++_}
 use Rattle.word.specs.Word.{le4, le8}

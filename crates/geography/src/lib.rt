@@ -54,7 +54,7 @@ pub struct Priced {
 }
 
 // 0 acts as 1.
-fn at_least_one(n: u64) -> u64
+pub fn at_least_one(n: u64) -> u64
     ensures { λ r. ⌜ (r ≡ atLeastOne n) × (0 < r) ⌝ }
 {
     if n == 0 { 1 } else { n }

@@ -5,7 +5,8 @@ use opening_tests::RegionPlan;
 use opening_tests::TableSizes;
 use reply::Done;
 ghost use mathlib.Core.Path.{_≡_};
-ghost use Rattle.opening.specs.Opens.{Does, tables};
+ghost use Rattle.held.specs.Lending.{tablesOf};
+ghost use Rattle.opening.specs.Opens.{Does};
 ghost use Rattle.opening_tests.specs.Given.{settingsOf};
 ghost use Rattle.opening_tests.specs.Sizes.{tableSizes};
 ghost use Rattle.opening_tests.specs.Given.{sized};
@@ -34,8 +35,8 @@ pub extern "C" fn gossip_open(
     log: &mut [u64],
 ) -> Done
     ensures { λ r. ⌜ Does (settingsOf config sizes plan seed (now (key .entry))) (now (masks .entry))
-        (tables (now (setup .entry)) (now (net .entry)) (now (names .entry)) (now (tills .entry)) (now (words .entry)) (now (keys .entry)) (now (prices .entry)) (now (seen .entry)) (now (waiting .entry)) (now (rings .entry)) (now (rules .entry)) (now (blocks .entry)) (now (log .entry)))
-        (tables (now (setup .exit)) (now (net .exit)) (now (names .entry)) (now (tills .exit)) (now (words .exit)) (now (keys .exit)) (now (prices .exit)) (now (seen .exit)) (now (waiting .entry)) (now (rings .exit)) (now (rules .entry)) (now (blocks .entry)) (now (log .exit)))
+        (tablesOf (now (setup .entry)) (now (net .entry)) (now (names .entry)) (now (tills .entry)) (now (words .entry)) (now (keys .entry)) (now (prices .entry)) (now (seen .entry)) (now (waiting .entry)) (now (rings .entry)) (now (rules .entry)) (now (blocks .entry)) (now (log .entry)))
+        (tablesOf (now (setup .exit)) (now (net .exit)) (now (names .entry)) (now (tills .exit)) (now (words .exit)) (now (keys .exit)) (now (prices .exit)) (now (seen .exit)) (now (waiting .entry)) (now (rings .exit)) (now (rules .entry)) (now (blocks .entry)) (now (log .exit)))
         r ⌝ }
 {
     opening::open_network(

@@ -34,6 +34,15 @@ pub off : (a b : Bool) → a ≡ false → false ≡ (a && b)
 off true b e = absurd (false≢true (sym e))
 off false b e = refl
 
+-- two tests that one call answers
+pub on-two : (a b r c : Bool) → (a && b) ≡ true → r ≡ c → r ≡ (a && (b && c))
+on-two true b r c e h = on b r c e h
+on-two false b r c e h = absurd (false≢true e)
+
+pub off-two : (a b c : Bool) → (a && b) ≡ false → false ≡ (a && (b && c))
+off-two true b c e = off b c e
+off-two false b c e = refl
+
 -- the last test
 pub last : (r a : Bool) → r ≡ a → r ≡ (a && true)
 last r true e = e

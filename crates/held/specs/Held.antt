@@ -1,4 +1,4 @@
--- Question 1, table by table: the tests of `Lent`, of the lists that they read and nothing else.
+-- Document 01, question 1, table by table: the tests of `Lent`, of the lists that they read and nothing else.
 use mathlib.Core.Bool.{Bool, _&&_}
 use mathlib.Core.List.{List, []}
 use Prim.Native.Nat.{ℕ}
@@ -11,6 +11,19 @@ use Rattle.network.specs.Limits.{sizeTests, rangeTests}
 use Rattle.network.specs.Lent.{setupTests, netTests, namesTests, tillsTests, wordsTests, keysTests, pricesTests, seenTests, waitingTests, ringsTests, rulesTests, blocksTests, logTests}
 use Rattle.network.specs.Writes.{setNet, setTills, setWords, setSeen, setWaiting, setRings, setRules, setBlocks, setLog}
 use Rattle.held.specs.Lending.{alone, setNames, setKeys, setPrices}
+
+-- question 2's limits, of the numbers that they speak of
+unfoldable pub sizesWithin : (tills types classes shards seen waiting log regions : ℕ) → Bool
+sizesWithin tills types classes shards seen waiting log regions =
+    every
+    (sizeTests
+    (record {
+      sizes = record { tills = tills; types = types; classes = classes; shards = shards; seenSlots = seen; waitSlots = waiting; logSlots = log };
+      config = record { latency = 0; jitter = 0; loss = 0; duplicate = 0; replay = 0; spike = 0 };
+      plan = record { planned = 0; regions = regions; seed = 0 };
+      seed = 0;
+      faultKey = [];
+    }))
 
 unfoldable pub sizesHeld : (setup : List ℕ) → Bool
 sizesHeld setup = every (sizeTests (settingsAt setup))

@@ -1,4 +1,4 @@
--- Tables of which some are lent: each lent list in its field, the others whatever they are. `Writes` has the setters of the tables that calls write.
+-- Document 01, 'The book' (each call gets the lent tables): tables of which some are lent, each lent list in its field, the others whatever they are. `Writes` has the setters of the tables that calls write.
 use mathlib.Core.List.{List, []}
 use Prim.Native.Nat.{ℕ}
 use Rattle.network.specs.Tables.{Tables}
@@ -18,3 +18,21 @@ setPrices T x = record { setup = T .setup; net = T .net; names = T .names; tills
 -- `setup` alone
 abbrev pub alone : List ℕ → Tables
 alone x = record { setup = x; net = []; names = []; tills = []; words = []; keys = []; prices = []; seen = []; waiting = []; rings = []; rules = []; blocks = []; log = [] }
+
+-- all of them, by their lists
+abbrev pub tablesOf : (setup net names tills words keys prices seen waiting rings rules blocks log : List ℕ) → Tables
+tablesOf setup net names tills words keys prices seen waiting rings rules blocks log = record {
+  setup = setup;
+  net = net;
+  names = names;
+  tills = tills;
+  words = words;
+  keys = keys;
+  prices = prices;
+  seen = seen;
+  waiting = waiting;
+  rings = rings;
+  rules = rules;
+  blocks = blocks;
+  log = log;
+}

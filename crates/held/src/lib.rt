@@ -1,15 +1,19 @@
 // Question 1: are the lent tables of the opening's sizes, with counts, hosts, types and classes in range? One function a table.
 ghost use mathlib.Core.Path.{_≡_};
-ghost use mathlib.Core.Bool.{true};
+ghost use mathlib.Core.Bool.{true, _&&_};
+ghost use mathlib.Core.List.{_∷_, [], _++_};
 ghost use Prim.Native.Nat.{_+_, _*_, _^_, _≤_};
-ghost use lib.ListN.{length, getD, set, drop};
+ghost use lib.Dec.{leb};
+ghost use lib.ListN.{length, getD, set, take, drop};
+ghost use Rattle.shift.specs.Shift.{putWords};
 ghost use Rattle.rows.specs.Rows.{allOf};
 ghost use Rattle.rows.specs.Table.{rowsOf};
 ghost use Rattle.blocks.specs.Blocks.{blockWidth, firstBlock};
 ghost use Rattle.latency.specs.Admitted.{latencyAdmitted, fractionAdmitted, rateAdmitted};
+ghost use Rattle.network.specs.Opening.{mostSlots};
 ghost use Rattle.network.specs.Tables.{setupWidth, tillForm, blockForm};
 ghost use Rattle.network.specs.Limits.{rateOf};
-ghost use Rattle.held.specs.Held.{sizesHeld, rangesHeld, setupHeld, netHeld, wordsHeld, rulesHeld, keysHeld, masksBelow, tillsHeld, endsBelow, blocksHeld, seenHeld};
+ghost use Rattle.held.specs.Held.{sizesWithin, sizesHeld, rangesHeld, setupHeld, netHeld, wordsHeld, rulesHeld, keysHeld, masksBelow, tillsHeld, endsBelow, blocksHeld, seenHeld};
 use time::Time;
 
 // Where the numbers of `setup` stand.
@@ -79,8 +83,26 @@ pub const MOST_SLOTS: u64 = 4096;
 
 pub const MOST_REGIONS: u64 = 16;
 
-// One word count for each ordered pair of 64 tills.
+pub const LONGEST_WIRE: u64 = 65536;
+
+pub const LONGEST_NAME: u8 = 64;
+
+pub const LONGEST_KEY: u8 = 16;
+
+// The latest now, 2^60; the words that a stream may have given, 2^40; the last sequence.
+pub const LATEST: u64 = 1152921504606846976;
+
+pub const MOST_WORDS: u64 = 1099511627776;
+
+pub const LAST_SEQUENCE: u64 = 4294967295;
+
+// A scope that is no shard.
+pub const GLOBAL: u64 = 16;
+
+// One word count for each ordered pair of 64 tills: those of a sender stand in a row.
 pub const LINKS: usize = 4096;
+
+pub const LINK_ROW: usize = 64;
 
 // The words of a stream's key, and of a row of `tills`.
 pub const KEY_WIDTH: u64 = 8;
@@ -103,39 +125,90 @@ pub fn put(s: &mut [u64], i: usize, v: u64)
     }
 }
 
+// The till whose words start at b.
+pub fn put_till(tills: &mut [u64], b: usize, up: u64, gossip: u64, host: u64, shards: u64)
+    requires { ⌜ b + tillForm .width ≤ length (now tills) ⌝ }
+    ensures { λ _. ⌜ now (tills .exit) ≡ putWords (now (tills .entry)) b (up ∷ gossip ∷ host ∷ shards ∷ []) ⌝ }
+{
+    tills[b] = up;
+    tills[b + 1] = gossip;
+    tills[b + 2] = host;
+    tills[b + 3] = shards;
+}
+
+// n words of `from`, at the front of `out`.
+pub fn copy_front(from: &[u64], start: usize, n: usize, out: &mut [u64])
+    requires { ⌜ (start + n ≤ length (now «from»)) × (n ≤ length (now out)) ⌝ }
+    ensures { λ _. ⌜ now (out .exit) ≡ take n (drop start (now («from» .entry))) ++ drop n (now (out .entry)) ⌝ }
+{
+    let mut i: usize = 0;
+    while i < n {
+        out[i] = from[start + i];
+        i += 1;
+    }
+}
+
+// Waiting slots, and seen slots a till: 1 to 4,096.
+fn slots_within(n: u64) -> bool
+    ensures { λ r. ⌜ r ≡ (leb 1 n && leb n mostSlots) ⌝ }
+{
+    if n < 1 {
+        return false;
+    }
+    n <= MOST_SLOTS
+}
+
 // Are the sizes within the limits?
+pub fn sizes_within(
+    tills: u64,
+    types: u64,
+    classes: u64,
+    shards: u64,
+    seen: u64,
+    waiting: u64,
+    log: u64,
+    regions: u64,
+) -> bool
+    ensures { λ r. ⌜ r ≡ sizesWithin tills types classes shards seen waiting log regions ⌝ }
+{
+    if MOST_TILLS < tills {
+        return false;
+    }
+    if MOST_TYPES < types {
+        return false;
+    }
+    if MOST_CLASSES < classes {
+        return false;
+    }
+    if MOST_SHARDS < shards {
+        return false;
+    }
+    if !slots_within(waiting) {
+        return false;
+    }
+    if !slots_within(seen) {
+        return false;
+    }
+    if MOST_SLOTS < log {
+        return false;
+    }
+    regions <= MOST_REGIONS
+}
+
 fn sizes_held(setup: &[u64]) -> bool
     requires { ⌜ length (now setup) ≡ setupWidth ⌝ }
     ensures { λ r. ⌜ r ≡ sizesHeld (now (setup .entry)) ⌝ }
 {
-    if setup[TILLS] > MOST_TILLS {
-        return false;
-    }
-    if setup[TYPES] > MOST_TYPES {
-        return false;
-    }
-    if setup[CLASSES] > MOST_CLASSES {
-        return false;
-    }
-    if setup[SHARDS] > MOST_SHARDS {
-        return false;
-    }
-    if setup[WAIT_SLOTS] < 1 {
-        return false;
-    }
-    if setup[WAIT_SLOTS] > MOST_SLOTS {
-        return false;
-    }
-    if setup[SEEN_SLOTS] < 1 {
-        return false;
-    }
-    if setup[SEEN_SLOTS] > MOST_SLOTS {
-        return false;
-    }
-    if setup[LOG_SLOTS] > MOST_SLOTS {
-        return false;
-    }
-    setup[REGIONS] <= MOST_REGIONS
+    sizes_within(
+        setup[TILLS],
+        setup[TYPES],
+        setup[CLASSES],
+        setup[SHARDS],
+        setup[SEEN_SLOTS],
+        setup[WAIT_SLOTS],
+        setup[LOG_SLOTS],
+        setup[REGIONS],
+    )
 }
 
 fn latency_held(ns: u64) -> bool

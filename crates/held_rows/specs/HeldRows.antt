@@ -1,4 +1,4 @@
--- Parts of question 1 that a function of its own answers: the limits of a scan, and the prices of a plan.
+-- Document 01, question 1: the parts that a function of its own answers: the limits of a scan, and the prices of a plan.
 use mathlib.Core.Bool.{Bool, _&&_}
 use mathlib.Core.List.{List}
 use Prim.Native.Nat.{ℕ, _+_, _*_}

@@ -3,7 +3,7 @@ ghost use mathlib.Core.Path.{_≡_};
 ghost use mathlib.Core.Bool.{true};
 ghost use Prim.Native.Nat.{_+_, _*_, _≤_, _<_};
 ghost use lib.ListN.{length};
-ghost use Rattle.geography.specs.Geography.{atLeastOne, linkWidth, linkIn, mostRegions};
+ghost use Rattle.geography.specs.Geography.{linkWidth, linkIn, mostRegions};
 ghost use Rattle.scan.specs.Scan.{columnWithin};
 ghost use Rattle.network.specs.Opening.{mostTills};
 ghost use Rattle.network.specs.Tables.{sizesAt};
@@ -12,13 +12,6 @@ ghost use Rattle.held_rows.specs.HeldRows.{limitsOf, linksAdmitted, plan
 use geography::Link;
 use scan::Limits;
 use time::Time;
-
-// The longest wire, type name and shard key.
-const LONGEST_WIRE: u64 = 65536;
-
-const LONGEST_NAME: u8 = 64;
-
-const LONGEST_KEY: u8 = 16;
 
 // A length and the bytes of the longest text; where the shard keys start; the bytes of `names`.
 pub const NAME_WIDTH: usize = 65;
@@ -40,7 +33,7 @@ fn limits(setup: &[u64]) -> Limits
         hosts: setup[held::TILLS],
         kinds: setup[held::TYPES],
         classes: setup[held::CLASSES],
-        wire: LONGEST_WIRE,
+        wire: held::LONGEST_WIRE,
     }
 }
 
@@ -79,7 +72,7 @@ pub fn rings_held(setup: &[u64], rings: &[u64]) -> bool
 }
 
 // Is each of n bytes, `stride` apart from `start` on, at most `limit`?
-fn lengths_within(names: &[u8], start: usize, stride: usize, n: usize, limit: u8) -> bool
+pub fn lengths_within(names: &[u8], start: usize, stride: usize, n: usize, limit: u8) -> bool
     requires { ⌜ (1 ≤ stride) × (start + n * stride ≤ length (now names)) ⌝ }
     ensures { λ r. ⌜ r ≡ columnWithin (now (names .entry)) start stride n limit ⌝ }
 {
@@ -103,11 +96,11 @@ pub fn names_held(setup: &[u64], names: &[u8]) -> bool
         return false;
     }
     let types = setup[held::TYPES] as usize;
-    if !lengths_within(names, 0, NAME_WIDTH, types, LONGEST_NAME) {
+    if !lengths_within(names, 0, NAME_WIDTH, types, held::LONGEST_NAME) {
         return false;
     }
     let shards = setup[held::SHARDS] as usize;
-    lengths_within(names, KEYS, KEY_WIDTH, shards, LONGEST_KEY)
+    lengths_within(names, KEYS, KEY_WIDTH, shards, held::LONGEST_KEY)
 }
 
 // Row i of the links.
@@ -150,13 +143,6 @@ fn plan_held(prices: &[u64], regions: usize, tills: usize) -> bool
     scan::column_within(prices, LINK_WIDTH * pairs, 1, tills, (regions - 1) as u64)
 }
 
-// 0 acts as 1.
-fn at_least_one(n: u64) -> u64
-    ensures { λ r. ⌜ (r ≡ atLeastOne n) × (0 < r) ⌝ }
-{
-    if n == 0 { 1 } else { n }
-}
-
 pub fn prices_held(setup: &[u64], prices: &[u64]) -> bool
     requires { ⌜ setupHeld (now setup) ≡ true ⌝ }
     ensures { λ r. ⌜ r ≡ pricesHeld (now (setup .entry)) (now (prices .entry)) ⌝ }
@@ -164,6 +150,6 @@ pub fn prices_held(setup: &[u64], prices: &[u64]) -> bool
     if setup[held::PLANNED] == 0 {
         return prices.len() == 0;
     }
-    let regions = at_least_one(setup[held::REGIONS]) as usize;
+    let regions = geography::at_least_one(setup[held::REGIONS]) as usize;
     plan_held(prices, regions, setup[held::TILLS] as usize)
 }

@@ -1,17 +1,17 @@
 -- Laws of the rounds with their schedule written in, and of the words of a lane.
-use Prim.Native.Nat.{ℕ, zero, suc, _+_, _-_, _*_, _/_, _<_, _≤_}
+use Prim.Native.Nat.{ℕ, zero, suc, _+_, _*_, _<_, _≤_}
 use mathlib.Core.Path.{_≡_, refl, ap, ap₂, sym, _∙_}
-use mathlib.Core.List.{List, [], _∷_, _++_}
-use lib.ListN.{getD, set, length, take, drop, length-set, length-drop}
-use lib.Seq.{getD-set-same, getD-set-other, getD-drop, drop-drop, take-take, length-take-le}
+use mathlib.Core.List.{List, [], _∷_}
+use lib.ListN.{getD, set, length, drop, length-set}
+use lib.Seq.{getD-set-same, getD-set-other, getD-drop}
 use native.Mathlib.Omega.{arith}
 use borrow.Author.Count.{below-more}
 use Rattle.word.proofs.Lists.{eight, list16}
-use Rattle.compress.specs.Compress.{iv, compressed, folded, roundOf, rounds}
-use Rattle.chunk.specs.Chunk.{wordsOf, blocks, chunk}
+use Rattle.compress.specs.Compress.{compressed, folded, roundOf, rounds}
+use Rattle.chunk.specs.Chunk.{wordsOf}
 use Rattle.word.specs.Word.{leWord}
 use Rattle.lanes.specs.Schedule.{scheduled}
-use Rattle.lanes.specs.Lanes.{lane8, lane16, chunkAt}
+use Rattle.lanes.specs.Lanes.{lane8, lane16}
 
 -- seven rounds
 pub rounds-made : (m l0 l1 l2 l3 l4 l5 l6 : List ℕ) {l7 : List ℕ}

@@ -1,4 +1,4 @@
--- Four lanes side by side, one for each of four chunks: word i of lane l stands at 4 i + l.
+-- BLAKE3, specification section 2.4, four chunks at a time: four lanes side by side, one for each of four chunks: word i of lane l stands at 4 i + l.
 use Prim.Native.Nat.{ℕ, _+_, _*_}
 use mathlib.Core.List.{List, [], _∷_}
 use lib.ListN.{getD, take, drop}

@@ -1,4 +1,4 @@
--- The message words in the order of a round.
+-- BLAKE3, specification section 2.2: the message words in the order of a round.
 use Prim.Native.Nat.{ℕ, zero, suc}
 use mathlib.Core.List.{List}
 use Rattle.compress.specs.Compress.{permuted}

@@ -1,7 +1,7 @@
 -- What an admitted fraction is, and what holds of the delay for every base and fraction that an opening admits.
 use mathlib.Core.Path.{_≡_, refl, sym, ap, _∙_, subst}
 use mathlib.Core.Logic.{_⊎_, inl, inr}
-use mathlib.Core.Bool.{Bool, true, false, cond, _&&_, _||_, true≢false}
+use mathlib.Core.Bool.{Bool, true, false, cond, _||_, true≢false}
 use Prim.Native.Nat.{ℕ, zero, suc, _+_, _-_, _*_, _/_, _^_, _≤_, _<_, zero-le, max}
 use native.Mathlib.Nat.{mul-pos, zero-mul, mul-zero, le-of-eq, le-trans, zero-lt-suc, lt-irrefl, mul-le-mul-right, mul-le-mul-left, mul-comm, lt-of-mul-lt-mul-right}
 use native.Mathlib.Omega.{arith}

@@ -1,25 +1,21 @@
 -- What the functions of the latency owe, each as a law over plain variables.
 use mathlib.Core.Path.{_≡_, refl, sym, ap, ap₂, _∙_, subst}
 use mathlib.Core.Bool.{Bool, true, false, cond, _&&_, true≢false}
-use mathlib.Core.List.{List}
 use Prim.Native.Nat.{ℕ, _+_, _*_, _^_, _≤_, _<_}
-use native.Mathlib.Nat.{le-trans}
 use native.Mathlib.Omega.{arith}
-use lib.Dec.{T, lit≤}
 use lib.Ieee.{Float, binary64, add, mul, neg, lt, ofInt, ofBits}
 use Rattle.float.specs.Float.{zero64}
 use Rattle.streams.specs.declared.Cursor.{Cursor}
 use Rattle.streams.specs.Streams.{Holds, Moved, wordPair}
 use Rattle.draw.proofs.Words.{pair-small}
 use Rattle.time.specs.Seconds.{second, millisecond, whole, seconds, nanos, times, milli, InRange}
-use Rattle.time.proofs.Limits.{in-limits}
 use Rattle.draw.specs.Real.{realOf, realAt}
 use Rattle.draw.specs.Fraction.{fractionAt, hitsAt, hitWords}
 use Rattle.draw.proofs.Laws.{moved-as, moved-on}
 use Rattle.draw.proofs.Real.{moved-none}
 use Rattle.bounds.proofs.Spike.{spike-in-range, spike-most}
 use Rattle.latency.specs.Latency.{jitterRange, jitters, jitterOf, jitterWords, floored, delayOf, unspiked, spikeAt, spikeCount, latencyAt, latencyWords, shortest, longestDelay, longest}
-use Rattle.latency.specs.Admitted.{Admitted, longestBase, longestTransmission}
+use Rattle.latency.specs.Admitted.{Admitted, longestTransmission}
 use Rattle.latency.proofs.Admit.{in-range, delay-most}
 
 -- ---- jitter

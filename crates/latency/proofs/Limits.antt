@@ -1,12 +1,11 @@
 -- What holds of every latency that an opening admits: at least 1 ms, at most 10,000 s, at most six words.
-use mathlib.Core.Path.{_≡_, subst}
 use mathlib.Core.Bool.{Bool, true, false, cond}
 use mathlib.Core.List.{List}
 use Prim.Native.Nat.{ℕ, _+_, _*_, _^_, _≤_, _<_}
 use native.Mathlib.Omega.{arith}
-use lib.Ieee.{Float, binary64, mul, lt}
+use lib.Ieee.{Float, binary64, mul}
 use Rattle.streams.specs.Streams.{wordPair}
-use Rattle.time.specs.Seconds.{second, whole, seconds, nanos, times}
+use Rattle.time.specs.Seconds.{second, whole, seconds, times}
 use Rattle.time.proofs.Limits.{in-limits}
 use Rattle.draw.specs.Real.{realOf, realAt}
 use Rattle.draw.specs.Fraction.{hitsAt, hitWords}

@@ -1,6 +1,6 @@
 -- Question 3's tests as the code makes them, in order.
-use mathlib.Core.Path.{_≡_, refl}
-use mathlib.Core.Bool.{true, false, _&&_, _||_}
+use mathlib.Core.Path.{_≡_}
+use mathlib.Core.Bool.{true, false}
 use lib.IntN.{negsuc}
 use lib.Ieee.{Float, fin, eq, le}
 use Rattle.float.specs.Float.{zero64, one64}

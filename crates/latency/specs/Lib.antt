@@ -1,3 +1,2 @@
 pub mod Latency
 pub mod Admitted
-pub mod Marked

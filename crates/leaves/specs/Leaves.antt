@@ -1,4 +1,4 @@
--- The key of the benchmark's stream.
+-- For the benchmark alone: the key of its stream.
 use Prim.Native.Nat.{ℕ}
 use mathlib.Core.List.{List}
 use lib.ListN.{replicate}

@@ -1,4 +1,4 @@
--- What the draws of an opening need of its settings and prices (question 1), and what they give.
+-- Document 01, link streams, draw rules and latency: what the draws of an opening need of its settings and prices (question 1), and what they give.
 use Prim.Native.Nat.{ℕ, _+_, _*_, _≤_, _<_}
 use mathlib.Core.Path.{_≡_}
 use mathlib.Core.Bool.{true, false}

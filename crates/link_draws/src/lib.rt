@@ -3,7 +3,7 @@ ghost use mathlib.Core.Path.{_≡_};
 ghost use Prim.Native.Nat.{_+_, _*_, _^_, _%_, _<_, _≤_};
 ghost use lib.ListN.{length, take, drop};
 ghost use Rattle.streams.specs.Streams.{Holds};
-ghost use Rattle.geography.specs.Geography.{Stands, atLeastOne};
+ghost use Rattle.geography.specs.Geography.{Stands};
 ghost use Rattle.network.specs.Opening.{mostTills};
 ghost use Rattle.network.specs.Tables.{cell, setupWidth, settingsAt};
 ghost use Rattle.network.specs.Limits.{rateOf};
@@ -15,6 +15,9 @@ use latency::Sample;
 use streams::Cursor;
 use streams::Drawn32;
 use time::Time;
+
+// The words of a key.
+const KEY: usize = held::KEY_WIDTH as usize;
 
 fn low(x: u64) -> u32
     ensures { λ r. ⌜ r ≡ x % 2 ^ 32 ⌝ }
@@ -68,7 +71,7 @@ pub fn link_at(keys: &[u32], tills: usize, from: usize, to: usize, count: u64) -
     requires { ⌜ («from» < tills) × (to < tills) × (tills ≤ mostTills) × (length (now keys) ≡ tills * tills * keyWidth) ⌝ }
     ensures { λ r. ⌜ Stands (keyOf tills (now (keys .entry)) «from» to) count r ⌝ }
 {
-    let key = key_at(keys, (from * tills + to) * 8);
+    let key = key_at(keys, (from * tills + to) * KEY);
     streams::at(key, count)
 }
 
@@ -97,21 +100,12 @@ pub fn index(c: Cursor, n: u32) -> Drawn32
     draw::whole32(c, n)
 }
 
-fn at_least_one(n: u64) -> u64
-    ensures { λ r. ⌜ r ≡ atLeastOne n ⌝ }
-{
-    if n == 0 {
-        return 1;
-    }
-    n
-}
-
 // The region that a till sits in; 0 without a plan.
 fn region(setup: &[u64], prices: &[u64], t: usize) -> u64
     requires { ⌜ Priced (now setup) (now prices) × (t < mostTills) ⌝ }
     ensures { λ r. ⌜ r ≡ regionAt (settingsAt (now (setup .entry)) .plan) (now (prices .entry)) t ⌝ }
 {
-    let n = at_least_one(setup[held::REGIONS]);
+    let n = geography::at_least_one(setup[held::REGIONS]);
     let i = (2 * (n * n)) as usize + t;
     if i < prices.len() {
         return prices[i];

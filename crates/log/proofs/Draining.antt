@@ -2,20 +2,20 @@
 use mathlib.Core.Path.{_≡_, refl, sym, ap, _∙_}
 use mathlib.Core.List.{List, [], _∷_, _++_}
 use mathlib.Core.Bool.{Bool, cond}
-use Prim.Native.Nat.{ℕ, suc, _+_, _*_, _-_, _≤_, _<_}
+use Prim.Native.Nat.{ℕ, suc, _+_, _*_, _≤_, _<_}
 use native.Mathlib.Nat.{zero-mul}
 use native.Mathlib.Omega.{arith}
 use lib.ListN.{length, getD, drop, set, length-replicate, replicate, replicate-append-replicate}
 use lib.Seq.{drop-cons, set-at, append-snoc}
 use Rattle.shift.specs.Shift.{putWords}
-use Rattle.rows.specs.Table.{rowsOf, over}
-use Rattle.rows.proofs.Table.{over-more, rows-over}
-use Rattle.ring.specs.Ring.{slotOf, ringFrom, slotAt, countAt, firstAt}
+use Rattle.rows.specs.Table.{over}
+use Rattle.rows.proofs.Table.{over-more}
+use Rattle.ring.specs.Ring.{slotOf, ringFrom, slotAt, firstAt}
 use Rattle.ring.proofs.Laws.{from-snoc, length-from}
 use Rattle.delivery.specs.declared.Delivery.{Delivery}
 use Rattle.delivery.specs.Delivery as delivery
 use Rattle.delivery.proofs.Laws as delivery-laws
-use Rattle.log.specs.Log.{recordsAt, recordsOf, recordAt, logOf, emptyLog, SoundLog, soundLog, clearedAt}
+use Rattle.log.specs.Log.{recordsAt, recordAt, logOf, emptyLog, SoundLog, soundLog, clearedAt}
 
 -- i records are copied
 module _ (m : ℕ) (log out : List ℕ) where
@@ -55,12 +55,6 @@ cleared-more l now i h e =
 pub cleared-all : (l now : List ℕ) (i : ℕ) → i ≡ recordsAt → now ≡ replicate i 0 ++ drop i l → now ≡ clearedAt l
 unfolding clearedAt
 cleared-all l now i e h = h ∙ ap (λ (k : ℕ). replicate k 0 ++ drop k l) e
-
--- what a drain leaves: the records in the output, in order, and an empty log whose head is in range
-pub drained-out : (m : ℕ) (log out : List ℕ) → rowsOf delivery.form (over delivery.form (recordsOf m log) out) (countAt 0 log) ≡ recordsOf m log
-drained-out m log out =
-    ap (rowsOf delivery.form (over delivery.form (recordsOf m log) out)) (sym (length-from (slotAt delivery.form m 0 recordsAt log) m (firstAt 0 log) 0 (countAt 0 log)))
-    ∙ rows-over delivery.form delivery-laws.exact (recordsOf m log) out
 
 pub drained-log : (m : ℕ) (log : List ℕ) → logOf m (clearedAt log) ≡ emptyLog
 unfolding clearedAt

@@ -1,4 +1,4 @@
--- The delivery log in one table: count and first slot of its ring at 0 and 1, records forced out, tallies of each class, then the records.
+-- Document 01, network: the delivery log, in one table, count and first slot of its ring at 0 and 1, records forced out, tallies of each class, then the records.
 use mathlib.Core.List.{List, [], _∷_, _++_}
 use mathlib.Core.Bool.{Bool, cond}
 use Prim.Native.Nat.{ℕ, _+_, _*_, _%_, _^_, _≤_, _<_}

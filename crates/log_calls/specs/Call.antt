@@ -1,4 +1,4 @@
--- THE CONTRACTS of drain and tally_of. Of the tables `setup` and `log` are lent; the others hold whatever they hold, and stay.
+-- Document 01, network (the delivery log), with questions 1 and 5: THE CONTRACTS of drain and tally_of. Of the tables `setup` and `log` are lent; the others hold whatever they hold, and stay.
 use mathlib.Core.Path.{_≡_}
 use mathlib.Core.Bool.{Bool, true, cond, _&&_}
 use mathlib.Core.List.{List}

@@ -1,3 +1,4 @@
 pub mod Search
 pub mod Rising
 pub mod Laws
+pub mod Tills

@@ -12,7 +12,7 @@ use Rattle.shift.specs.Shift.{putWords, opened, closed}
 use Rattle.shift.proofs.Laws.{opened-set}
 use Rattle.shift.proofs.Parts.{part-inserted, part-closed, is-put}
 use Rattle.marks.specs.declared.Span.{Span}
-use Rattle.marks.specs.Marks.{idsOf, halve, halved, halvedFour, position, found, placedAt, removed}
+use Rattle.marks.specs.Marks.{idsOf, halve, halved, leadsTo, position, found, placedAt, removed}
 
 one : (t : ℕ) (ids : List ℕ) (id lo n : ℕ) → 0 < n
     → halve (suc t) ids id lo n ≡ halve t ids id (cond (ltb (getD ids (lo + (n - 1) / 2) 0) id) (lo + (n - 1) / 2 + 1) lo) (n / 2)
@@ -108,13 +108,34 @@ leads-on ids id s = go (eqb (s .n) 0) refl
         ∙ one (s .n - 1) ids id (s .lo) (s .n) some
         ∙ enough (s .n - 1) (s .n / 2) ids id (next .lo) (s .n / 2) (omega arith) (omega arith)
 
-pub leads-four : (ids : List ℕ) (id : ℕ) (s : Span) → halve (s .n) ids id (s .lo) (s .n) ≡ halve (halvedFour ids id s .n) ids id (halvedFour ids id s .lo) (halvedFour ids id s .n)
-unfolding halvedFour
-leads-four ids id s =
-    let a = halved ids id s in
-    let b = halved ids id a in
-    let c = halved ids id b in
-    leads-on ids id s ∙ leads-on ids id a ∙ leads-on ids id b ∙ leads-on ids id c
+-- the ways out of `halve_two`
+module _ (ids : List ℕ) (id : ℕ) (s : Span) (mid low high a b c : ℕ) (some : s .n / 2 ≡ 0 → ⊥)
+    (em : mid ≡ s .lo + (s .n - 1) / 2) (el : low ≡ s .lo + (s .n / 2 - 1) / 2) (eh : high ≡ mid + 1 + (s .n / 2 - 1) / 2)
+    (ea : a ≡ getD ids mid 0) (eb : b ≡ getD ids low 0) (ec : c ≡ getD ids high 0) where
+  two-halved : (x : Bool) → ltb a id ≡ x → (lo : ℕ) → lo ≡ cond x (cond (ltb c id) (high + 1) (mid + 1)) (cond (ltb b id) (low + 1) (s .lo))
+      → record { lo = lo; n = s .n / 2 / 2 } ≡ halved ids id (halved ids id s)
+  two-halved true e lo is =
+      once-some ids id (record { lo = mid + 1; n = s .n / 2 }) high lo c some eh ec is
+      ∙ ap (halved ids id) (once-some ids id s mid (mid + 1) a (λ z. some (omega arith)) em ea (sym (ap (λ (x : Bool). cond x (mid + 1) (s .lo)) e)))
+  two-halved false e lo is =
+      once-some ids id (record { lo = s .lo; n = s .n / 2 }) low lo b some el eb is
+      ∙ ap (halved ids id) (once-some ids id s mid (s .lo) a (λ z. some (omega arith)) em ea (sym (ap (λ (x : Bool). cond x (mid + 1) (s .lo)) e)))
+
+  pub two-lead : (lo : ℕ) → lo ≡ cond (ltb a id) (cond (ltb c id) (high + 1) (mid + 1)) (cond (ltb b id) (low + 1) (s .lo)) → leadsTo ids id (record { lo = lo; n = s .n / 2 / 2 }) ≡ leadsTo ids id s
+  two-lead lo is =
+      ap (leadsTo ids id) (two-halved (ltb a id) refl lo is) ∙ sym (leads-on ids id s ∙ leads-on ids id (halved ids id s))
+
+-- a quarter stays in the span
+pub two-in : (x y z : Bool) (lo n : ℕ) → (n / 2 ≡ 0 → ⊥)
+    → cond x (cond y (lo + (n - 1) / 2 + 1 + (n / 2 - 1) / 2 + 1) (lo + (n - 1) / 2 + 1)) (cond z (lo + (n / 2 - 1) / 2 + 1) lo) + n / 2 / 2 ≤ lo + n
+two-in true true z lo n h =
+    let g : 0 < n / 2 = omega (arith, h) in
+    let p = narrows true lo n (omega arith) in
+    let q = narrows true (lo + (n - 1) / 2 + 1) (n / 2) g in
+    omega (arith, p, q)
+two-in true false z lo n h = let g : 0 < n / 2 = omega (arith, h) in omega arith
+two-in false y true lo n h = let g : 0 < n / 2 = omega (arith, h) in omega arith
+two-in false y false lo n h = omega arith
 
 -- the ways out of `halve_on`
 pub on-more : (ids : List ℕ) (id goal : ℕ) (s a : Span) → a ≡ halved ids id s → goal ≡ halve (s .n) ids id (s .lo) (s .n) → goal ≡ halve (a .n) ids id (a .lo) (a .n)
@@ -129,16 +150,13 @@ on-end ids id goal lo n h g = sym (g ∙ over n ids id lo n (omega arith))
 
 -- twelve halvings, and those left
 pub found-at : (seen : List ℕ) (start count id : ℕ) (a b c : Span) (r : ℕ) → start + count ≤ length seen
-    → a ≡ halvedFour (drop start seen) id (record { lo = 0; n = count }) → b ≡ halvedFour (drop start seen) id a → c ≡ halvedFour (drop start seen) id b
-    → r ≡ halve (c .n) (drop start seen) id (c .lo) (c .n) → r ≡ position id (idsOf seen start count)
+    → leadsTo (drop start seen) id a ≡ leadsTo (drop start seen) id (record { lo = 0; n = count }) → leadsTo (drop start seen) id b ≡ leadsTo (drop start seen) id a
+    → leadsTo (drop start seen) id c ≡ leadsTo (drop start seen) id b → r ≡ leadsTo (drop start seen) id c → r ≡ position id (idsOf seen start count)
 unfolding position
 found-at seen start count id a b c r fits ea eb ec er =
     let l : List ℕ = drop start seen in
     let ln : length (take count l) ≡ count = length-take-le count l (rw length-drop (omega arith)) in
-    let step : (s x : Span) → x ≡ halvedFour l id s → halve (s .n) l id (s .lo) (s .n) ≡ halve (x .n) l id (x .lo) (x .n) = λ s x e. (leads-four l id s ∙ ap (λ (y : Span). halve (y .n) l id (y .lo) (y .n)) (sym e)) in
-    er
-    ∙ sym (step (record { lo = 0; n = count }) a ea ∙ step a b eb ∙ step b c ec)
-    ∙ sym (ap (λ (k : ℕ). halve k (take count l) id 0 k) ln ∙ halve-take count l count id 0 count (omega arith))
+    er ∙ ec ∙ eb ∙ ea ∙ sym (ap (λ (k : ℕ). halve k (take count l) id 0 k) ln ∙ halve-take count l count id 0 count (omega arith))
 
 module _ (seen : List ℕ) (start count id : ℕ) (fits : start + count ≤ length seen) where
   pub length-ids : length (idsOf seen start count) ≡ count

@@ -1,4 +1,4 @@
--- The ids that a till has seen, in rising order. On any list each answer is what the halving gives.
+-- Document 01, 'The book', marks (till, id): the ids that a till has seen, in rising order. On any list each answer is what the halving gives.
 use mathlib.Core.List.{List, [], _∷_, _++_}
 use mathlib.Core.Bool.{Bool, false, cond, _&&_, _||_}
 use Prim.Native.Nat.{ℕ, zero, suc, _+_, _-_, _/_, _<_}
@@ -19,12 +19,13 @@ halve (suc turns) ids id lo (suc m) =
     let half = m / 2 in
     halve turns ids id (cond (ltb (getD ids (lo + half) 0) id) (lo + half + 1) lo) (suc m / 2)
 
--- one halving, and four
+-- one halving
 unfoldable pub halved : List ℕ → ℕ → Span → Span
 halved ids id s = cond (eqb (s .n) 0) s (record { lo = cond (ltb (getD ids (s .lo + (s .n - 1) / 2) 0) id) (s .lo + (s .n - 1) / 2 + 1) (s .lo); n = s .n / 2 })
 
-unfoldable pub halvedFour : List ℕ → ℕ → Span → Span
-halvedFour ids id s = halved ids id (halved ids id (halved ids id (halved ids id s)))
+-- the place that the halvings of a span end at
+abbrev pub leadsTo : List ℕ → ℕ → Span → ℕ
+leadsTo ids id s = halve (s .n) ids id (s .lo) (s .n)
 
 -- the place of the first id that is not below id
 unfoldable pub position : ℕ → List ℕ → ℕ

@@ -4,7 +4,7 @@ ghost use Prim.Native.Nat.{_+_, _≤_};
 ghost use lib.ListN.{length, drop};
 ghost use mathlib.Core.Bool.{cond};
 ghost use Rattle.shift.specs.Shift.{putWords};
-ghost use Rattle.marks.specs.Marks.{idsOf, halve, halved, halvedFour, position, found, placedAt, placed, removed};
+ghost use Rattle.marks.specs.Marks.{idsOf, halve, halved, leadsTo, position, found, placedAt, placed, removed};
 
 // What is left to search: the place is one of lo .. lo + n.
 struct Span {
@@ -37,16 +37,38 @@ fn halve_once(seen: &[u64], start: usize, s: Span, id: u64) -> Span
     Span { lo: next, n: n / 2 }
 }
 
-// Four of them.
-fn halve_four(seen: &[u64], start: usize, s: Span, id: u64) -> Span
+// Two at once, where so many are left: the ids that the second may ask for are read beside the first's.
+fn halve_two(seen: &[u64], start: usize, s: Span, id: u64) -> Span
     requires { ⌜ start + (s .lo + s .n) ≤ length (now seen) ⌝ }
-    ensures is { λ r. ⌜ r ≡ halvedFour (drop start (now (seen .entry))) id s ⌝ }
+    ensures is { λ r. ⌜ leadsTo (drop start (now (seen .entry))) id r ≡ leadsTo (drop start (now (seen .entry))) id s ⌝ }
     ensures within { λ r. ⌜ r .lo + r .n ≤ s .lo + s .n ⌝ }
 {
-    let a = halve_once(seen, start, s, id);
-    let b = halve_once(seen, start, a, id);
-    let c = halve_once(seen, start, b, id);
-    halve_once(seen, start, c, id)
+    let lo = s.lo;
+    let n = s.n;
+    let half = n / 2;
+    if half == 0 {
+        return s;
+    }
+    let mid = lo + (n - 1) / 2;
+    let low = lo + (half - 1) / 2;
+    let high = mid + 1 + (half - 1) / 2;
+    let left = pick(seen[start + low] < id, low + 1, lo);
+    let right = pick(seen[start + high] < id, high + 1, mid + 1);
+    let next = pick(seen[start + mid] < id, right, left);
+    Span {
+        lo: next,
+        n: half / 2,
+    }
+}
+
+// Four of them, where so many are left.
+fn halve_four(seen: &[u64], start: usize, s: Span, id: u64) -> Span
+    requires { ⌜ start + (s .lo + s .n) ≤ length (now seen) ⌝ }
+    ensures is { λ r. ⌜ leadsTo (drop start (now (seen .entry))) id r ≡ leadsTo (drop start (now (seen .entry))) id s ⌝ }
+    ensures within { λ r. ⌜ r .lo + r .n ≤ s .lo + s .n ⌝ }
+{
+    let a = halve_two(seen, start, s, id);
+    halve_two(seen, start, a, id)
 }
 
 // As many as are left.
@@ -65,7 +87,7 @@ fn halve_on(seen: &[u64], start: usize, s: Span, id: u64) -> usize
     lo
 }
 
-// The place of id among the `count` ids from `start` on. Twelve halvings stand in a row: they are enough below 4,096 ids.
+// The place of id among the `count` ids from `start` on. Twelve halvings stand in a row: they leave at most one below 4,096 ids.
 pub fn find(seen: &[u64], start: usize, count: usize, id: u64) -> usize
     requires { ⌜ start + count ≤ length (now seen) ⌝ }
     ensures is { λ r. ⌜ r ≡ position id (idsOf (now (seen .entry)) start count) ⌝ }

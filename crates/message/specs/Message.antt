@@ -1,4 +1,4 @@
--- What the id of an entry is made from.
+-- Document 01, network: what the id of an entry is made from.
 use Prim.Native.Nat.{ℕ, _+_, _*_, _^_, _≤_, _<_}
 use mathlib.Core.Path.{_≡_}
 use mathlib.Core.List.{List, _++_}

@@ -1,4 +1,4 @@
--- Computed runs, on the tables: document 01's marked lines and tempting errors, which the theorem alone would not see where book and tables err alike.
+-- Computed runs, on the tables: document 01's tempting errors and edges, which the theorem alone would not see where book and tables err alike.
 -- Draws here are toys, so that each run is short: a fraction is a percentage that follows from the word count. The crate `runs` has runs with the real ones.
 use mathlib.Core.Path.{_≡_, refl}
 use Prim.Native.Nat.{ℕ, suc, _+_, _*_, _%_}
@@ -166,9 +166,6 @@ abbrev always : List ℕ
 always = 1 ∷ 1 ∷ []
 
 pub record Accepts : Type 0 where
-  -- marked: three tills, third down, rates 0, global from the first: sent 1, partition 1; the same again: deduplicated 1, partition 1
-  pub third-down : counts (reply (takeDown 2 ∷ []) hello) ≡ five 1 0 1 0 0
-  pub third-down-again : counts (reply (takeDown 2 ∷ hello ∷ []) hello) ≡ five 0 1 1 0 0
   -- a sender that is down reaches nobody; the sender is no recipient; to shard 0 from till 0, till 1 alone is selected
   pub sender-down : counts (reply (takeDown 0 ∷ []) hello) ≡ five 0 0 2 0 0
   pub to-shard : counts (reply [] (accept (entry 0 1000 0 5) true)) ≡ five 1 0 0 0 0
@@ -289,7 +286,7 @@ unfolding real.chance fraction.hitsAt fraction.hitWords ieee.lt admitted.latency
 runs = record {
   rates = record { at-zero = λ key words. refl; at-minus-zero = λ key words. refl; above-zero = λ key words. refl };
   numbers = record { opens = refl; key-short = refl; never-opened = refl; no-till = refl; no-shard = refl; too-late = refl; no-mark-free = refl; no-row = refl; bad-card = refl; not-opening = refl };
-  accepts = record { third-down = refl; third-down-again = refl; sender-down = refl; to-shard = refl; blocked-now = refl; blocked-words = refl; no-loss-draw = refl; in-window = refl; before-window = refl; after-window = refl; fault-unmarked = refl; fault-resent = refl; fired = refl; gone = refl };
+  accepts = record { sender-down = refl; to-shard = refl; blocked-now = refl; blocked-words = refl; no-loss-draw = refl; in-window = refl; before-window = refl; after-window = refl; fault-unmarked = refl; fault-resent = refl; fired = refl; gone = refl };
   losses = record { lost = refl; lost-words = refl; resent = refl; resent-words = refl };
   echoes = record { kinds = refl; sequences = refl; ids = refl; first-words = refl; second-words = refl; ring = refl; in-transit = refl; log-of-one = refl; forced-out = refl; drained-short = refl; drained-empty = refl };
   flushes = record { lands = refl; delivered = refl; dropped = refl; mark-gone = refl; sent-again = refl; window-ends = refl; down-in-flight = refl; up-again = refl; unhandled = refl; sender-gone = refl; two-wait = refl; second-unmarked = refl; host-shard = refl; host-global = refl; not-due = refl; next = refl; unblock-all = refl; is-blocked = refl; end-open = refl };

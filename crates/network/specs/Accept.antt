@@ -1,4 +1,4 @@
--- Accept: each recipient in host order.
+-- Document 01, 'The book', Accept: each recipient in host order.
 use Prim.Native.Nat.{ℕ, _+_}
 use mathlib.Core.Bool.{Bool, true, false, cond, not, _&&_, _||_}
 use mathlib.Core.List.{List, [], _∷_, _++_}

@@ -1,10 +1,8 @@
--- The calls: what each does to the live part, and what it answers.
+-- Document 01, 'The book', the calls of the list: what each does to the live part, and what it answers.
 use Prim.Native.Nat.{ℕ, suc}
 use mathlib.Core.Bool.{Bool, true, false, not}
 use mathlib.Core.List.{List, [], _∷_, _++_}
 use lib.ListN.{getD, set}
-use Rattle.digest.specs.Blake3.{digestOf}
-use Rattle.digest.specs.declared.Hashed.{Hashed}
 use Rattle.rule.specs.declared.DropSpec.{DropSpec}
 use Rattle.card.specs.Card.{fieldsOf}
 use Rattle.rules.specs.declared.Reading as rules
@@ -191,8 +189,3 @@ dropsIn (tallied t) = 0
 dropsIn (drained l) = 0
 dropsIn (copies cs) = 0
 dropsIn (ids is) = 0
-
--- ---- The digest by itself: no table is lent, and nothing of the network is asked. 6: is the input at most 65,700 bytes?
-
-abbrev pub digestReply : List ℕ → Hashed
-digestReply input = digestOf input

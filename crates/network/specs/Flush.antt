@@ -1,4 +1,4 @@
--- Flush, the log, and its drain.
+-- Document 01, 'The book', Flush, and network: the rows and the log.
 use Prim.Native.Nat.{ℕ, _+_}
 use mathlib.Core.Bool.{Bool, cond, not, _&&_}
 use mathlib.Core.List.{List, [], _∷_, map}

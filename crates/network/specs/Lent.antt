@@ -1,4 +1,4 @@
--- Question 1: do the lent tables have the opening's sizes, with counts, hosts, types and classes in range? A call is lent the tables that concern it.
+-- Document 01, question 1: do the lent tables have the opening's sizes, with counts, hosts, types and classes in range? A call is lent the tables that concern it.
 -- Tables that no accepted opening left, so that a call on them would have no meaning, are answered "no" as well.
 use Prim.Native.Nat.{ℕ, _+_, _*_}
 use mathlib.Core.Bool.{Bool, true, cond, _&&_}

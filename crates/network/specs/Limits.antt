@@ -1,4 +1,4 @@
--- Questions 2 and 3: the sizes, names, latency, fraction and rates that an opening admits.
+-- Document 01, 'Limits' and questions 2 and 3: the sizes, names, latency, fraction and rates that an opening admits.
 use Prim.Native.Nat.{ℕ}
 use mathlib.Core.Bool.{Bool}
 use mathlib.Core.List.{List, [], _∷_}

@@ -1,4 +1,4 @@
--- What of the book the calls go by.
+-- Document 01, 'The book': what of it the calls go by.
 use Prim.Native.Nat.{ℕ, suc, _*_}
 use mathlib.Core.Bool.{Bool, not, _||_}
 use mathlib.Core.List.{List, [], _∷_}

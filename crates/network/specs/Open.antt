@@ -1,4 +1,4 @@
--- The opening: its questions 1, 2, 3 and 5, and the tables that it leaves.
+-- Document 01, 'The book', Opening: its questions 1, 2, 3 and 5, and the tables that it leaves.
 use Prim.Native.Nat.{ℕ, zero, suc, _+_, _*_}
 use mathlib.Core.Bool.{Bool}
 use mathlib.Core.List.{List, [], _∷_, _++_}

@@ -1,4 +1,4 @@
--- The draws that an opening has: link streams, latencies, the fault stream and ids, from the crates below.
+-- Document 01, 'Parts': the draws that an opening has, link streams, latencies, the fault stream and ids, from the crates below.
 use Prim.Native.Nat.{ℕ, _+_, _*_, _/_, _%_, _^_}
 use mathlib.Core.Bool.{Bool, cond, not, _||_}
 use mathlib.Core.List.{List, [], _∷_, _++_}

@@ -1,4 +1,4 @@
--- The lent tables: their cells by name, and what of the book they hold.
+-- Document 01, 'What changes shape': the lent tables, their cells by name, and what of the book they hold.
 use Prim.Native.Nat.{ℕ, suc, _+_, _*_}
 use mathlib.Core.List.{List, [], _∷_}
 use lib.ListN.{getD, take, drop}

@@ -1,4 +1,4 @@
--- What a call writes, table by table; decisions are taken from what the tables hold. THE CONTRACTS of the public calls are `callTables`, `callReply` and `callOutput`.
+-- Document 01, 'The book', on the lent tables: what a call writes, table by table; decisions are taken from what the tables hold. THE CONTRACTS of the public calls are `callTables`, `callReply` and `callOutput`.
 use Prim.Native.Nat.{ℕ, zero, suc, _*_}
 use mathlib.Core.Bool.{Bool, true, false, cond, _&&_}
 use mathlib.Core.List.{List, [], _∷_, _++_}

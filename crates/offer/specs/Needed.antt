@@ -1,5 +1,5 @@
--- What a decision on one recipient needs of the lent tables and of the message: question 1 and questions 4 to 8 leave it.
-use Prim.Native.Nat.{ℕ, _+_, _*_, _^_, _≤_, _<_}
+-- Document 01, questions 1 and 4 to 8: what a decision on one recipient needs of the lent tables and of the message: question 1 and questions 4 to 8 leave it.
+use Prim.Native.Nat.{ℕ, _+_, _*_, _≤_, _<_}
 use mathlib.Core.Path.{_≡_}
 use mathlib.Core.List.{List}
 use lib.ListN.{length}

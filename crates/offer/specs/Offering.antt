@@ -1,4 +1,4 @@
--- What an offer says: the class of one recipient, and the draws that count for it, as `Accept` has them.
+-- Document 01, 'The book', Accept: what an offer says, the class of one recipient, and the draws that count for it, as `Accept` has them.
 use Prim.Native.Nat.{ℕ, _+_, _*_, _≤_}
 use mathlib.Core.Path.{_≡_}
 use mathlib.Core.Bool.{Bool, true, false, cond, not, _&&_, _||_}
@@ -16,11 +16,12 @@ use Rattle.rings.specs.Rings.{none}
 use Rattle.blocks.specs.Blocks.{blocked, blocksOf}
 use Rattle.waiting.specs.declared.Copy.{Copy}
 use Rattle.link_draws.specs.Drawing.{delayDraw}
+use Rattle.held.specs.Lending.{tablesOf}
 use Rattle.network.specs.Lists.{bitAt}
 use Rattle.network.specs.Opening.{Draw, Opening, Settings, global, longestWire}
 use Rattle.network.specs.Live.{Carried, Live, marked, stopped}
 use Rattle.network.specs.Limits.{rateOf}
-use Rattle.network.specs.Tables.{cell, Tables, live, sizesAt, tillForm, blocksAt}
+use Rattle.network.specs.Tables.{cell, live, sizesAt, tillForm, blocksAt}
 use Rattle.network.specs.Real.{chance, faultKeyOf, idOf, openingAt}
 use Rattle.network.specs.Accept as accept
 use Rattle.network.specs.Accept.{Drawn, drawn, echo, carriedOf, deduplicated, partition, loss, fault, sent, classOf}
@@ -113,24 +114,6 @@ Answers o m s t Partition = classOf o m s t ≡ partition
 Answers o m s t (Loss n) = (classOf o m s t ≡ loss) × (drawn o m t s .loss .words ≡ n)
 Answers o m s t (Fault f) = (classOf o m s t ≡ fault) × (drawn o m t s .latency .words ≡ f .words) × (drawn o m t s .verdict ≡ record { drops = true; place = f .place; words = f .fault })
 Answers o m s t (Sent x) = (classOf o m s t ≡ sent) × Sends m t (drawn o m t s) x
-
--- the tables of which these are lent
-abbrev pub tablesOf : (setup net names tills words keys prices seen waiting rings rules blocks log : List ℕ) → Tables
-tablesOf setup net names tills words keys prices seen waiting rings rules blocks log = record {
-  setup = setup;
-  net = net;
-  names = names;
-  tills = tills;
-  words = words;
-  keys = keys;
-  prices = prices;
-  seen = seen;
-  waiting = waiting;
-  rings = rings;
-  rules = rules;
-  blocks = blocks;
-  log = log;
-}
 
 -- so it is for a recipient that no mark and no partition stops, whatever the tables hold that are not lent
 unfoldable pub Draws : (setup net words keys prices rings rules : List ℕ) → Message → ℕ → Offer → Type 0

@@ -26,7 +26,7 @@ pub struct Message {
     pub now: u64,
     pub kind: u64,
     pub class: u64,
-    // the shard, or 16 for a global entry
+    // the shard, or `held::GLOBAL`
     pub scope: u64,
     pub wire: u64,
     pub id: u64,
@@ -85,7 +85,7 @@ pub fn selects(tills: &[u64], scope: u64, from: u64, to: usize) -> bool
     if to as u64 == from {
         return false;
     }
-    if scope == 16 {
+    if scope == held::GLOBAL {
         return true;
     }
     (tills[to * held::TILL_WIDTH + 3] >> scope) % 2 == 1
@@ -284,7 +284,7 @@ fn drawn(
         setup[held::TILLS] as usize,
         from,
         to,
-        words[from * 64 + to],
+        words[from * held::LINK_ROW + to],
     );
     let l = link_draws::chance(setup, held::LOSS, start);
     let first = l.next;

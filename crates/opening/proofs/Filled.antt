@@ -4,8 +4,8 @@ use mathlib.Core.List.{List, [], _∷_, _++_, append-assoc, append-nil}
 use Prim.Native.Nat.{ℕ, zero, suc, _+_, _*_, _≤_, _<_}
 use native.Mathlib.Nat.{suc-mul, zero-mul}
 use native.Mathlib.Omega.{arith}
-use lib.ListN.{length, getD, take, drop, set, replicate, length-append, length-take, length-replicate, replicate-append-replicate, drop-of-length-le}
-use lib.Seq.{drop-cons, set-at, append-snoc, take-suc, take-all, take-at, drop-append-add, drop-drop}
+use lib.ListN.{length, getD, take, drop, set, replicate, length-append, length-replicate, replicate-append-replicate, drop-of-length-le}
+use lib.Seq.{drop-cons, set-at, append-snoc, take-all, take-at, drop-append-add, drop-drop}
 use Rattle.rows.specs.Rows.{flat}
 use Rattle.rows.specs.Lists.{upTo}
 use Rattle.shift.specs.Shift.{putWords}
@@ -29,12 +29,6 @@ module _ (l now : List ℕ) (i : ℕ) where
 
 -- the cells of another list
 module _ (l now cells : List ℕ) (i : ℕ) where
-  pub copy-more : i < length l → i < length cells → now ≡ take i cells ++ drop i l → set now i (getD cells i 0) ≡ take (i + 1) cells ++ drop (i + 1) l
-  copy-more h k e =
-      let s : suc i ≡ i + 1 = omega arith in
-      cell-more (take i cells) l now i (getD cells i 0) (length-take i cells ∙ omega arith) h e
-      ∙ ap (λ (x : List ℕ). x ++ drop (i + 1) l) (sym (take-suc cells i 0 k) ∙ ap (λ (j : ℕ). take j cells) s)
-
   pub copy-all : length cells ≤ i → length l ≤ i → now ≡ take i cells ++ drop i l → now ≡ cells
   copy-all h k e = e ∙ (λ j. take-all i cells h j ++ drop-of-length-le l k j) ∙ append-nil cells
 

@@ -19,7 +19,8 @@ use Rattle.opening_tests.specs.Given.{settingsOf, keyWords, keyBytes}
 use Rattle.opening_tests.specs.Asked.{numberOf}
 use Rattle.opening_tests.proofs.Number.{Passed, passed, lengthsIn, number-is}
 use Rattle.opening_tests.proofs.Sums.{key-other}
-use Rattle.opening.specs.Opens.{tables, openedOf, Does, Settled, Begun, begunNet, begunTills, begunSeen, begunRings, begunLog}
+use Rattle.held.specs.Lending.{tablesOf}
+use Rattle.opening.specs.Opens.{openedOf, Does, Settled, Begun, begunNet, begunTills, begunSeen, begunRings, begunLog}
 
 -- the questions do not ask the seed
 seedless : (c : NetworkConfig) (z : NetworkSizes) (p : RegionPlan) (seed : ℕ) (key masks names : List ℕ) (n : TableSizes) → numberOf (settingsOf c z p 0 key) n masks names ≡ numberOf (settingsOf c z p seed key) n masks names
@@ -87,10 +88,10 @@ module _ (c : NetworkConfig) (z : NetworkSizes) (p : RegionPlan) (seed : ℕ) (k
   pub done : number ≡ 0 → (setup net tills words keys prices seen heads head : List ℕ)
       → (setup ≡ setupOf x) × (words ≡ replicate links 0) × (keys ≡ keysOf x) × (prices ≡ pricedBy x)
       → (net ≡ begunNet) × (tills ≡ begunTills z masks) × (seen ≡ begunSeen z (T .seen)) × (heads ≡ begunRings z (T .rings)) × (head ≡ begunLog (T .log))
-      → Does x masks T (tables setup net (T .names) tills words keys prices seen (T .waiting) heads (T .rules) (T .blocks) head) (openedOf number)
+      → Does x masks T (tablesOf setup net (T .names) tills words keys prices seen (T .waiting) heads (T .rules) (T .blocks) head) (openedOf number)
   unfolding Does
   done e setup net tills words keys prices seen heads head a b = (
     ap openedOf answer,
-    (λ j. tables (a .0 j) (b .0 j) (T .names) (b .1 j) (a .1 j) (a .2 j) (a .3 j) (b .2 j) (T .waiting) (b .3 j) (T .rules) (T .blocks) (b .4 j))
+    (λ j. tablesOf (a .0 j) (b .0 j) (T .names) (b .1 j) (a .1 j) (a .2 j) (a .3 j) (b .2 j) (T .waiting) (b .3 j) (T .rules) (T .blocks) (b .4 j))
         ∙ ap (openExit x masks T) (sym (sym answer ∙ e)),
   )

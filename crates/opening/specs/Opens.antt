@@ -1,4 +1,4 @@
--- The opening as a call on the lent tables, and what its parts write.
+-- Document 01, 'The book', Opening, with questions 1, 2, 3 and 5: the opening as a call on the lent tables, and what its parts write.
 use Prim.Native.Nat.{ℕ, _*_, _/_, _%_, _≤_}
 use mathlib.Core.Path.{_≡_}
 use mathlib.Core.Bool.{true, cond}
@@ -21,23 +21,6 @@ use Rattle.network.specs.Open.{openNumber, openCall}
 use Rattle.opening_tests.specs.declared.NetworkSizes.{NetworkSizes}
 use Rattle.opening_tests.specs.Given.{sizesOf, keyBytes}
 use Rattle.reply.specs.declared.Done.{Done}
-
-abbrev pub tables : (setup net names tills words keys prices seen waiting rings rules blocks log : List ℕ) → Tables
-tables setup net names tills words keys prices seen waiting rings rules blocks log = record {
-  setup = setup;
-  net = net;
-  names = names;
-  tills = tills;
-  words = words;
-  keys = keys;
-  prices = prices;
-  seen = seen;
-  waiting = waiting;
-  rings = rings;
-  rules = rules;
-  blocks = blocks;
-  log = log;
-}
 
 -- ---- The contract
 

@@ -1,12 +1,11 @@
 // Tables filled from the front.
 ghost use mathlib.Core.Path.{_≡_};
 ghost use mathlib.Core.List.{_++_};
-ghost use Prim.Native.Nat.{_+_, _*_, _≤_};
+ghost use Prim.Native.Nat.{_*_, _≤_};
 ghost use lib.ListN.{length, drop, replicate};
 ghost use Rattle.rows.specs.Rows.{flat};
-ghost use Rattle.shift.specs.Shift.{putWords};
 ghost use Rattle.network.specs.Opening.{links};
-ghost use Rattle.network.specs.Live.{upTill, openTills};
+ghost use Rattle.network.specs.Live.{openTills};
 ghost use Rattle.network.specs.Tables.{tillForm};
 
 // The first n cells at 0.
@@ -26,11 +25,7 @@ pub fn copy(s: &mut [u64], cells: &[u64])
     requires { ⌜ length (now cells) ≡ length (now s) ⌝ }
     ensures { λ _. ⌜ now (s .exit) ≡ now (cells .entry) ⌝ }
 {
-    let mut i: usize = 0;
-    while i < cells.len() {
-        s[i] = cells[i];
-        i += 1;
-    }
+    held::copy_front(cells, 0, cells.len(), s);
 }
 
 // The word counts of the 64 by 64 ordered pairs of tills.
@@ -42,17 +37,6 @@ pub fn clear_words(words: &mut [u64])
     copy(words, &zeros);
 }
 
-// A till that is up, with these shards and no handlers, from b on.
-fn put_till(tills: &mut [u64], b: usize, shards: u64)
-    requires { ⌜ b + tillForm .width ≤ length (now tills) ⌝ }
-    ensures { λ _. ⌜ now (tills .exit) ≡ putWords (now (tills .entry)) b (tillForm .words (upTill shards)) ⌝ }
-{
-    tills[b] = 1;
-    tills[b + 1] = 0;
-    tills[b + 2] = 0;
-    tills[b + 3] = shards;
-}
-
 // All tills up, a mask of shards for each.
 pub fn write_tills(tills: &mut [u64], masks: &[u64])
     requires { ⌜ length (now tills) ≡ length (now masks) * tillForm .width ⌝ }
@@ -60,7 +44,7 @@ pub fn write_tills(tills: &mut [u64], masks: &[u64])
 {
     let mut t: usize = 0;
     while t < masks.len() {
-        put_till(tills, t * held::TILL_WIDTH, masks[t]);
+        held::put_till(tills, t * held::TILL_WIDTH, 1, 0, 0, masks[t]);
         t += 1;
     }
 }

@@ -4,8 +4,9 @@ ghost use lib.ListN.{replicate};
 ghost use Rattle.network.specs.Opening.{links};
 ghost use Rattle.network.specs.Tables.{setupOf};
 ghost use Rattle.network.specs.Real.{keysOf, pricedBy};
+ghost use Rattle.held.specs.Lending.{tablesOf};
 ghost use Rattle.opening_tests.specs.Given.{settingsOf};
-ghost use Rattle.opening.specs.Opens.{tables, Does, Settled, Begun, begunNet, begunTills, begunSeen, begunRings, begunLog};
+ghost use Rattle.opening.specs.Opens.{Does, Settled, Begun, begunNet, begunTills, begunSeen, begunRings, begunLog};
 use opening_tests::NetworkConfig;
 use opening_tests::NetworkSizes;
 use opening_tests::RegionPlan;
@@ -16,9 +17,6 @@ mod fill;
 mod links;
 mod prices;
 mod settings;
-
-// Cells of a ring's head.
-const HEAD: usize = 2;
 
 // What the opening alone writes: settings, word counts, link keys, prices.
 fn write_settled(
@@ -57,7 +55,7 @@ fn write_begun(
     fill::clear(net, held::NET_WIDTH);
     fill::write_tills(tills, masks);
     fill::clear(seen, sizes.tills as usize);
-    fill::clear(rings, sizes.types as usize * rings::SCOPES * HEAD);
+    fill::clear(rings, sizes.types as usize * rings::SCOPES * rings::HEAD);
     fill::clear(log, log::RECORDS);
 }
 
@@ -84,8 +82,8 @@ pub fn open_network(
     log: &mut [u64],
 ) -> Done
     ensures { λ r. ⌜ Does (settingsOf config sizes plan seed (now (key .entry))) (now (masks .entry))
-        (tables (now (setup .entry)) (now (net .entry)) (now (names .entry)) (now (tills .entry)) (now (words .entry)) (now (keys .entry)) (now (prices .entry)) (now (seen .entry)) (now (waiting .entry)) (now (rings .entry)) (now (rules .entry)) (now (blocks .entry)) (now (log .entry)))
-        (tables (now (setup .exit)) (now (net .exit)) (now (names .entry)) (now (tills .exit)) (now (words .exit)) (now (keys .exit)) (now (prices .exit)) (now (seen .exit)) (now (waiting .entry)) (now (rings .exit)) (now (rules .entry)) (now (blocks .entry)) (now (log .exit)))
+        (tablesOf (now (setup .entry)) (now (net .entry)) (now (names .entry)) (now (tills .entry)) (now (words .entry)) (now (keys .entry)) (now (prices .entry)) (now (seen .entry)) (now (waiting .entry)) (now (rings .entry)) (now (rules .entry)) (now (blocks .entry)) (now (log .entry)))
+        (tablesOf (now (setup .exit)) (now (net .exit)) (now (names .entry)) (now (tills .exit)) (now (words .exit)) (now (keys .exit)) (now (prices .exit)) (now (seen .exit)) (now (waiting .entry)) (now (rings .exit)) (now (rules .entry)) (now (blocks .entry)) (now (log .exit)))
         r ⌝ }
 {
     let lengths = TableSizes {

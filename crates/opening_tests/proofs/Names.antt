@@ -1,11 +1,11 @@
 -- Texts in the table of names: their bytes, and their places. Assumes nothing.
 use mathlib.Core.Path.{_≡_, refl, sym, ap, _∙_}
 use mathlib.Core.List.{List, [], _∷_}
-use Prim.Native.Nat.{ℕ, suc, _+_, _-_, _*_, _≤_, _<_}
+use Prim.Native.Nat.{ℕ, suc, _+_, _*_, _≤_, _<_}
 use native.Mathlib.Nat.{mul-le-mul-right, suc-mul, zero-add}
 use native.Mathlib.Omega.{arith}
 use lib.Dec.{leb}
-use borrow.Author.Tests.{le-leb, lt-leb, leb-true}
+use borrow.Author.Tests.{leb-true}
 use mathlib.Core.Bool.{Bool, true, false, _&&_}
 use lib.ListN.{length, getD, drop, length-take, length-drop}
 use lib.Seq.{getD-take, getD-drop}
@@ -46,14 +46,6 @@ module _ (names : List ℕ) (start stride n : ℕ) where
 
   pub text-at : (k : ℕ) → k < n → getD (textsFrom names start stride n) k [] ≡ textAt names (start + k * stride)
   text-at k q = getD-upTo n (λ k. textAt names (start + k * stride)) k [] q
-
-  -- the length of text k
-  module _ (most k : ℕ) (h : k < n) where
-    pub fits-at : cell names (start + k * stride) ≤ most → leb (cell names (start + getD (below n) k 0 * stride)) most ≡ true
-    fits-at e = ap (λ (j : ℕ). leb (cell names (start + j * stride)) most) (getD-upTo n (λ j. j) k 0 h) ∙ le-leb (cell names (start + k * stride)) most e
-
-    pub fits-not : most < cell names (start + k * stride) → leb (cell names (start + getD (below n) k 0 * stride)) most ≡ false
-    fits-not e = ap (λ (j : ℕ). leb (cell names (start + j * stride)) most) (getD-upTo n (λ j. j) k 0 h) ∙ lt-leb (cell names (start + k * stride)) most e
 
   -- a test of text k
   pub text-asked : (q : List ℕ → Bool) (k : ℕ) (r b : Bool) → k < n → r ≡ q (textAt names (start + k * stride)) → r ≡ b → q (getD (textsFrom names start stride n) k []) ≡ b

@@ -1,5 +1,5 @@
--- The opening's questions 1, 2, 3 and 5, of the lengths of the lent tables: `Open.openNumber` by what it reads of them (`Number.number-is`).
-use Prim.Native.Nat.{ℕ, _+_}
+-- Document 01, questions 1, 2, 3 and 5 at the opening, of the lengths of the lent tables: `Open.openNumber` by what it reads of them (`Number.number-is`).
+use Prim.Native.Nat.{ℕ}
 use mathlib.Core.Bool.{Bool}
 use mathlib.Core.List.{List, [], _∷_, _++_}
 use lib.Dec.{eqb}
@@ -19,11 +19,18 @@ unfoldable pub fitsPrices : ℕ → RegionPlan → ℕ → Bool
 fitsPrices n p tills = eqb n (pricesWidth (planOf p) tills)
 
 -- the tables have lengths m
-abbrev pub tableTests : Lengths → TableSizes → List Bool
-tableTests m n =
+abbrev pub frontTests : Lengths → TableSizes → List Bool
+frontTests m n =
     eqb (n .setup) (m .setup) ∷ eqb (n .net) (m .net) ∷ eqb (n .names) (m .names) ∷ eqb (n .tills) (m .tills) ∷ eqb (n .words) (m .words)
-    ∷ eqb (n .keys) (m .keys) ∷ eqb (n .prices) (m .prices) ∷ eqb (n .seen) (m .seen) ∷ eqb (n .waiting) (m .waiting) ∷ eqb (n .rings) (m .rings)
-    ∷ eqb (n .rules) (m .rules) ∷ eqb (n .blocks) (m .blocks) ∷ eqb (n .log) (m .log) ∷ []
+    ∷ eqb (n .keys) (m .keys) ∷ eqb (n .prices) (m .prices) ∷ []
+
+abbrev pub backTests : Lengths → TableSizes → List Bool
+backTests m n =
+    eqb (n .seen) (m .seen) ∷ eqb (n .waiting) (m .waiting) ∷ eqb (n .rings) (m .rings) ∷ eqb (n .rules) (m .rules) ∷ eqb (n .blocks) (m .blocks)
+    ∷ eqb (n .log) (m .log) ∷ []
+
+abbrev pub tableTests : Lengths → TableSizes → List Bool
+tableTests m n = frontTests m n ++ backTests m n
 
 -- the fault stream's key has 8 words, and there is a mask for each till
 abbrev pub givenTests : (tills : ℕ) → (key masks : List ℕ) → List Bool

@@ -1,4 +1,4 @@
--- The opening's parameters as they are lent, and the settings that they stand for.
+-- Document 01, 'Limits' and `NetworkConfig`: the opening's parameters as they are lent, and the settings that they stand for.
 use Prim.Native.Nat.{ℕ, _*_}
 use mathlib.Core.Bool.{cond}
 use mathlib.Core.List.{List, []}

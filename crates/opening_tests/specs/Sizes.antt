@@ -1,4 +1,4 @@
--- How long the tables of an opening are, for a caller that lends them: zeros where the sizes are not within limits.
+-- Document 01, question 1 (the opening's sizes): how long the tables of an opening are, for a caller that lends them: zeros where the sizes are not within limits.
 use mathlib.Core.Bool.{cond}
 use Rattle.network.specs.Lists.{every}
 use Rattle.network.specs.Opening.{Settings}

@@ -1,4 +1,4 @@
--- Texts in the table of names: a length and so many bytes, `stride` bytes apart.
+-- Document 01, question 2 (type names and shard keys): texts in the table of names: a length and so many bytes, `stride` bytes apart.
 use Prim.Native.Nat.{ℕ, _+_, _*_, _≤_, _<_}
 use mathlib.Core.Path.{_≡_}
 use mathlib.Core.List.{List}

@@ -5,7 +5,7 @@ ghost use lib.Dec.{eqb};
 ghost use Rattle.network.specs.Lists.{every};
 ghost use Rattle.network.specs.Open.{lengthsOf};
 ghost use Rattle.opening_tests.specs.Given.{sized, keyWords};
-ghost use Rattle.opening_tests.specs.Asked.{tableTests, givenTests, fitsPrices};
+ghost use Rattle.opening_tests.specs.Asked.{frontTests, backTests, tableTests, givenTests, fitsPrices};
 use crate::NetworkSizes;
 use crate::RegionPlan;
 use crate::TableSizes;
@@ -63,9 +63,9 @@ fn prices_fit(n: u64, plan: RegionPlan, tills: u64) -> bool
     )
 }
 
-// The tables' lengths.
-pub fn tables_fit(sizes: NetworkSizes, plan: RegionPlan, n: TableSizes) -> bool
-    ensures { λ r. ⌜ r ≡ every (tableTests (lengthsOf (sized sizes plan)) n) ⌝ }
+// The lengths of the tables from `setup` to `prices`.
+fn front_fit(sizes: NetworkSizes, plan: RegionPlan, n: TableSizes) -> bool
+    ensures { λ r. ⌜ r ≡ every (frontTests (lengthsOf (sized sizes plan)) n) ⌝ }
 {
     if n.setup != held::SETUP_WIDTH as u64 {
         return false;
@@ -85,9 +85,13 @@ pub fn tables_fit(sizes: NetworkSizes, plan: RegionPlan, n: TableSizes) -> bool
     if !is_sum(n.keys, 0, held::KEY_WIDTH, sizes.tills, sizes.tills) {
         return false;
     }
-    if !prices_fit(n.prices, plan, sizes.tills) {
-        return false;
-    }
+    prices_fit(n.prices, plan, sizes.tills)
+}
+
+// And from `seen` to `log`.
+fn back_fit(sizes: NetworkSizes, plan: RegionPlan, n: TableSizes) -> bool
+    ensures { λ r. ⌜ r ≡ every (backTests (lengthsOf (sized sizes plan)) n) ⌝ }
+{
     if !is_sum(n.seen, sizes.tills, 1, sizes.tills, sizes.seen) {
         return false;
     }
@@ -110,6 +114,16 @@ pub fn tables_fit(sizes: NetworkSizes, plan: RegionPlan, n: TableSizes) -> bool
         sizes.log,
         1,
     )
+}
+
+// The tables' lengths.
+pub fn tables_fit(sizes: NetworkSizes, plan: RegionPlan, n: TableSizes) -> bool
+    ensures { λ r. ⌜ r ≡ every (tableTests (lengthsOf (sized sizes plan)) n) ⌝ }
+{
+    if !front_fit(sizes, plan, n) {
+        return false;
+    }
+    back_fit(sizes, plan, n)
 }
 
 // The fault stream's key, and a mask for each till.

@@ -10,32 +10,14 @@ use crate::RegionPlan;
 pub fn sizes_admitted(sizes: NetworkSizes, plan: RegionPlan) -> bool
     ensures { λ r. ⌜ r ≡ every (sizeTests (sized sizes plan)) ⌝ }
 {
-    if held::MOST_TILLS < sizes.tills {
-        return false;
-    }
-    if held::MOST_TYPES < sizes.types {
-        return false;
-    }
-    if held::MOST_CLASSES < sizes.classes {
-        return false;
-    }
-    if held::MOST_SHARDS < sizes.shards {
-        return false;
-    }
-    if sizes.waiting < 1 {
-        return false;
-    }
-    if held::MOST_SLOTS < sizes.waiting {
-        return false;
-    }
-    if sizes.seen < 1 {
-        return false;
-    }
-    if held::MOST_SLOTS < sizes.seen {
-        return false;
-    }
-    if held::MOST_SLOTS < sizes.log {
-        return false;
-    }
-    plan.regions <= held::MOST_REGIONS
+    held::sizes_within(
+        sizes.tills,
+        sizes.types,
+        sizes.classes,
+        sizes.shards,
+        sizes.seen,
+        sizes.waiting,
+        sizes.log,
+        plan.regions,
+    )
 }

@@ -12,11 +12,6 @@ ghost use Rattle.opening_tests.specs.Given.{sizesOf};
 ghost use Rattle.opening_tests.specs.Texts.{Laid, Short, NamesHeld, textsFrom, Inside};
 use crate::NetworkSizes;
 
-// The longest type name and shard key.
-const LONGEST_NAME: u8 = 64;
-
-const LONGEST_KEY: u8 = 16;
-
 fn wide(x: u8) -> usize
     ensures { λ r. ⌜ (r ≡ x) × (r < 256) ⌝ }
 {
@@ -28,14 +23,7 @@ fn lengths_fit(names: &[u8], start: usize, stride: usize, n: usize, most: u8) ->
     requires { ⌜ Laid (now names) start stride n ⌝ }
     ensures { λ r. ⌜ r ≡ allOf (λ k. leb (cell (now (names .entry)) (start + k * stride)) most) (below n) ⌝ }
 {
-    let mut k: usize = 0;
-    while k < n {
-        if most < names[start + k * stride] {
-            return false;
-        }
-        k += 1;
-    }
-    true
+    held_rows::lengths_within(names, start, stride, n, most)
 }
 
 // Are the texts at i and j alike?
@@ -94,7 +82,7 @@ pub fn names_admitted(names: &[u8], sizes: NetworkSizes) -> bool
 {
     let types = sizes.types as usize;
     let shards = sizes.shards as usize;
-    if !lengths_fit(names, 0, held_rows::NAME_WIDTH, types, LONGEST_NAME) {
+    if !lengths_fit(names, 0, held_rows::NAME_WIDTH, types, held::LONGEST_NAME) {
         return false;
     }
     if !lengths_fit(
@@ -102,7 +90,7 @@ pub fn names_admitted(names: &[u8], sizes: NetworkSizes) -> bool
         held_rows::KEYS,
         held_rows::KEY_WIDTH,
         shards,
-        LONGEST_KEY,
+        held::LONGEST_KEY,
     ) {
         return false;
     }

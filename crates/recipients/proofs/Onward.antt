@@ -1,5 +1,5 @@
 -- The turns one after the other. Assumes nothing.
-use Prim.Native.Nat.{ℕ, suc, _+_, _-_, _≤_, _<_}
+use Prim.Native.Nat.{ℕ, suc, _+_, _≤_, _<_}
 use mathlib.Core.Path.{_≡_, refl, sym, ap, subst, _∙_}
 use mathlib.Core.Bool.{Bool, true, false}
 use mathlib.Core.List.{List, [], _∷_}
@@ -18,19 +18,18 @@ use Rattle.network.specs.Opening.{Opening, Sizes, link, longestWire, mostWords}
 use Rattle.network.specs.Live.{Live, Carried, idsAt, marked, stopped, ringsOf}
 use Rattle.network.specs.Tables.{cell, Tables, live, sizesAt, idsStart, waitingAt, sequenceAt, faultWordsAt}
 use Rattle.network.specs.Real.{openingAt}
-use Rattle.network.specs.Accept as accept
 use Rattle.network.specs.Accept.{Drawn, drawn, loss, sent, classOf, offered, effect}
 use Rattle.network.specs.Writes.{setLog, offeredT}
 use Rattle.book.proofs.Formed.{Formed}
 use Rattle.book.proofs.Fitting.{NearMessage}
 use Rattle.book.proofs.Sound.{sent-unmarked}
+use Rattle.held.specs.Lending.{tablesOf}
 use Rattle.offer.specs.declared.Message.{Message}
 use Rattle.offer.specs.declared.Offer.the-variants.{Sent}
 use Rattle.offer.specs.declared.Sending.{Sending}
 use Rattle.offer.specs.Needed.{Fixed, Ranged}
-use Rattle.offer.specs.Offering.{told, selectsAt, tablesOf, Answers}
+use Rattle.offer.specs.Offering.{told, selectsAt, Answers}
 use Rattle.offer.proofs.Readings.{marked-is, marks-in, ring-below}
-use Rattle.schedule.specs.declared.Counts as counts
 use Rattle.schedule.specs.Writing.{Sendable}
 use Rattle.recipients.specs.Turning.{left, Going}
 use Rattle.recipients.proofs.Simulated.{quiet, quiet-formed, after-formed, after-live}

@@ -1,5 +1,5 @@
 -- One turn, and all of them. Assumes nothing.
-use Prim.Native.Nat.{ℕ, _+_, _-_, _≤_, _<_}
+use Prim.Native.Nat.{ℕ, _+_, _≤_, _<_}
 use mathlib.Core.Path.{_≡_, refl, sym, ap, subst, _∙_}
 use mathlib.Core.Bool.{Bool, true, false, cond}
 use mathlib.Core.List.{List, [], _∷_}
@@ -9,13 +9,13 @@ use Rattle.network.specs.Opening.{Opening}
 use Rattle.network.specs.Live.{Live}
 use Rattle.network.specs.Tables.{Tables, live, sizesAt}
 use Rattle.network.specs.Real.{openingAt}
-use Rattle.network.specs.Accept as accept
 use Rattle.network.specs.Accept.{Class, deduplicated, partition, loss, fault, sent, classOf, offered, Counts, booked, tally, noCounts, add, isClass, total}
 use Rattle.network.specs.Writes.{offeredT, acceptT}
+use Rattle.held.specs.Lending.{tablesOf}
 use Rattle.offer.specs.declared.Message.{Message}
 use Rattle.offer.specs.declared.Offer.{Offer}
 use Rattle.offer.specs.Needed.{Fixed, Ranged}
-use Rattle.offer.specs.Offering.{told, selectsAt, tablesOf, Answers, Offers}
+use Rattle.offer.specs.Offering.{told, selectsAt, Answers, Offers}
 use Rattle.schedule.specs.declared.Counts as counts
 use Rattle.schedule.specs.Writing.{Applicable, Applies, classIn, countsOf}
 use Rattle.schedule.proofs.Applying.{answers-write}

@@ -1,4 +1,4 @@
--- The recipients in host order: what is left to be done, what it needs, and what one turn does.
+-- Document 01, 'The book', Accept: the recipients in host order: what is left to be done, what it needs, and what one turn does.
 use Prim.Native.Nat.{ℕ, _+_, _-_, _*_, _≤_, _<_}
 use mathlib.Core.Path.{_≡_}
 use mathlib.Core.Bool.{Bool, true, false, cond}
@@ -14,9 +14,10 @@ use Rattle.network.specs.Tables.{cell, live, sizesAt, idsStart, sequenceAt, wai
 use Rattle.network.specs.Real.{openingAt}
 use Rattle.network.specs.Accept.{classOf, booked, tally, add}
 use Rattle.network.specs.Writes.{offeredT, acceptT}
+use Rattle.held.specs.Lending.{tablesOf}
 use Rattle.offer.specs.declared.Message.{Message}
 use Rattle.offer.specs.Needed.{State}
-use Rattle.offer.specs.Offering.{told, selectsAt, tablesOf}
+use Rattle.offer.specs.Offering.{told, selectsAt}
 use Rattle.schedule.specs.declared.Counts.{Counts}
 use Rattle.schedule.specs.Writing.{countsOf}
 

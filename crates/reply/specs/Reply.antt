@@ -1,4 +1,4 @@
--- The fields of a reply, for each case of an answer.
+-- Document 01, 'Questions' (a "no" returns the number with all counts 0): the fields of a reply, for each case of an answer.
 use Prim.Native.Nat.{ℕ}
 use Rattle.network.specs.Calls.{Answer, silent, counted, moved, number, tallied, drained, copies, ids}
 use Rattle.network.specs.Writes.{Reply}

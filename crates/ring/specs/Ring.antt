@@ -1,4 +1,4 @@
--- A ring of `m` slots: its oldest entry stands in the slot `first`, the others behind it, round the end.
+-- Document 01, network (a ring gives up its oldest first): a ring of `m` slots; its oldest entry stands in the slot `first`, the others behind it, round the end.
 -- In a table of words its count and first slot stand at h and h + 1, its slots from `base` on.
 use mathlib.Core.List.{List, [], _∷_, _++_}
 use mathlib.Core.Bool.{Bool, cond, _&&_}

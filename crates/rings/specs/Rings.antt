@@ -1,4 +1,4 @@
--- The rings of carried messages: one for each type and scope. In one table stand the heads of all rings, then their entries.
+-- Document 01, network (a ring of 64 for type and shard or global): the rings of carried messages: one for each type and scope. In one table stand the heads of all rings, then their entries.
 use mathlib.Core.List.{List, [], _∷_}
 use Prim.Native.Nat.{ℕ, _+_, _*_, _≤_, _<_}
 use lib.ListN.{length, getD}

@@ -13,7 +13,7 @@ pub const SLOTS: usize = 64;
 // Words of an entry, of a head, of a ring's entries.
 pub const WIDTH: usize = 3;
 
-const HEAD: usize = 2;
+pub const HEAD: usize = 2;
 
 const SPAN: usize = SLOTS * WIDTH;
 

@@ -55,14 +55,6 @@ module _ {R : Type 0} (f : Form R) (x : Exact f) where
   unfolding over
   length-over rs ws h = let a = length-words rs in let b = length-drop (length rs * f .width) ws in length-append (flat (f .words) rs) (drop (length rs * f .width) ws) ∙ omega (arith, a, b)
 
-  -- a table's own rows change nothing
-  pub over-same : (ws : List ℕ) (n : ℕ) → n * f .width ≤ length ws → over f (rowsOf f ws n) ws ≡ ws
-  unfolding over
-  over-same ws n h =
-      ap (λ (w : List ℕ). w ++ drop (length (rowsOf f ws n) * f .width) ws) (flat-rows n ws h)
-      ∙ ap (λ (k : ℕ). take (n * f .width) ws ++ drop (k * f .width) ws) (length-rows (f .width) (f .read) n ws)
-      ∙ take-append-drop (n * f .width) ws
-
   length-inserted-rows : (rs : List R) (e : R) (p : ℕ) → p ≤ length rs → length (take p rs ++ (e ∷ drop p rs)) ≡ suc (length rs)
   length-inserted-rows rs e p h = simp (length-append, length-take, length-drop) (omega arith)
 

@@ -1,4 +1,4 @@
--- Small functions on the lists that tables hold.
+-- Of no passage: small functions on the lists that tables hold.
 use mathlib.Core.List.{List, [], _∷_}
 use mathlib.Core.Bool.{Bool, cond}
 use Prim.Native.Nat.{ℕ, zero, suc}

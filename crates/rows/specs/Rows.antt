@@ -1,4 +1,4 @@
--- A table of rows of S words each, whatever a row is: `read` reads the row at the head of a list of words.
+-- Document 01, 'What changes shape' (maps, heap and rings become tables): a table of rows of S words each, whatever a row is: `read` reads the row at the head of a list of words.
 use mathlib.Core.List.{List, [], _∷_, _++_}
 use mathlib.Core.Bool.{Bool, true, false, _&&_}
 use Prim.Native.Nat.{ℕ, zero, suc, _*_}

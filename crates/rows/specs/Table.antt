@@ -1,4 +1,4 @@
--- A record as a row of words, the rows of a table, and rows written over its front.
+-- Document 01, 'What changes shape' (maps, heap and rings become tables): a record as a row of words, the rows of a table, and rows written over its front.
 use mathlib.Core.Path.{_≡_}
 use mathlib.Core.List.{List, _++_}
 use Prim.Native.Nat.{ℕ, _*_, _≤_}

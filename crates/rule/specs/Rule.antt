@@ -1,4 +1,4 @@
--- A drop rule, as document 01 has it: its window, its filters and its action.
+-- Document 01, fault engine: a drop rule, its window, its filters and its action.
 use mathlib.Core.Bool.{Bool, true, cond, _&&_}
 use Prim.Native.Nat.{ℕ, _/_, _%_, _^_}
 use lib.Dec.{leb, ltb, eqb}

@@ -1,4 +1,4 @@
--- THE CONTRACTS of the rule calls. Of the tables `setup`, `net` and `rules` are lent; the others hold whatever they hold, and stay.
+-- Document 01, fault engine (`install_spec`, `remove`, `decide`), with questions 1, 4, 5, 7, 8, 12 and 13: THE CONTRACTS of the rule calls. Of the tables `setup`, `net` and `rules` are lent; the others hold whatever they hold, and stay.
 use mathlib.Core.Path.{_≡_}
 use mathlib.Core.Bool.{Bool, true, cond, _&&_}
 use mathlib.Core.List.{List}

@@ -5,12 +5,8 @@ use card::Card;
 use reply::Value;
 use rule::Message;
 
-// The latest time, 2^60; the words that a stream may have given, 2^40; the last tier.
-pub const LATEST: u64 = 1152921504606846976;
-
-pub const MOST_WORDS: u64 = 1099511627776;
-
-pub const LAST_TIER: u64 = 3;
+// The tiers are numbered from 0.
+const LAST_TIER: u64 = 3;
 
 // Question 1.
 fn lent(setup: &[u64], net: &[u64], rules: &[u64]) -> bool
@@ -140,10 +136,10 @@ fn decide_refusal(setup: &[u64], net: &[u64], rules: &[u64], m: Message) -> u64
     if LAST_TIER < m.tier {
         return 5;
     }
-    if LATEST < m.now {
+    if held::LATEST < m.now {
         return 7;
     }
-    if MOST_WORDS <= held::cell(net, held::FAULT_WORDS) {
+    if held::MOST_WORDS <= held::cell(net, held::FAULT_WORDS) {
         return 8;
     }
     0

@@ -4,16 +4,15 @@ use mathlib.Core.Bool.{Bool, true, false, cond, _&&_}
 use mathlib.Core.List.{List, [], _∷_, _++_}
 use Prim.Native.Nat.{ℕ, zero, suc, _+_, _*_, _-_, _%_, _^_, _≤_, _<_}
 use native.Mathlib.Omega.{arith}
-use lib.Dec.{eqb, ltb, lit<}
-use borrow.Author.Tests.{eq-eqb, eqb-true, ltb-true, ltb-false}
-use lib.ListN.{length, getD, take, drop, set, length-set, length-drop, take-append-drop}
+use lib.Dec.{ltb, lit<}
+use borrow.Author.Tests.{eq-eqb, ltb-true, ltb-false}
+use lib.ListN.{length, getD, take, drop, set, length-drop, take-append-drop}
 use lib.Seq.{getD-set-same, getD-set-other, length-take-le}
 use Rattle.rule.proofs.Laws.{yes, no}
 use Rattle.card.specs.Card.{exact, fieldsOf}
 use Rattle.rows.proofs.Rows.{rows-snoc, rows-close}
-use Rattle.rows.proofs.Writes.{rows-set, chosen-length}
+use Rattle.rows.proofs.Writes.{rows-set}
 use Rattle.shift.specs.Shift.{putWords, closed}
-use Rattle.shift.proofs.Laws.{length-put, length-closed}
 use Rattle.rules.specs.declared.FaultRule.{FaultRule}
 use Rattle.rules.specs.Rules.{ruleWidth, firedWord, ruleSlots, mostRules, ruleAt, words, putAt, firstRule, rulesOf, newRule, withRule, without, firedMore, fireAt, installNumber, installTable, indexOf, removeTable, fireTable}
 use Rattle.rules.proofs.Laws.{alone, rules-from, length-rules, rule-drop, index-le, without-at, stays, fewer}
@@ -99,18 +98,3 @@ rules-fired ws n p h room =
     ∙ fired-is p (rulesOf ws n) _ (ruleAt ws (p * ruleWidth)) (rules-from ws n p h)
 
 -- ---- each write leaves the table as long as it was
-pub install-length : (ws : List ℕ) (n ever : ℕ) (bytes : List ℕ) → ruleSlots * ruleWidth ≤ length ws → length (installTable ws n ever bytes) ≡ length ws
-unfolding installTable putAt
-install-length ws n ever bytes room =
-    chosen-length (eqb (installNumber n ever bytes) 0) _ ws
-    (λ t. let f = install-room n ever bytes (eqb-true (installNumber n ever bytes) 0 t) in length-put ws (n * ruleWidth) (words (newRule ever (fieldsOf bytes))) (omega (arith, f)))
-
-pub remove-length : (ws : List ℕ) (n id : ℕ) → n * ruleWidth ≤ length ws → length (removeTable ws n id) ≡ length ws
-unfolding removeTable
-remove-length ws n id room =
-    chosen-length (ltb (indexOf id (rulesOf ws n)) n) _ ws
-    (λ t. let h = ltb-true (indexOf id (rulesOf ws n)) n t in length-closed ws ((indexOf id (rulesOf ws n) + 1) * ruleWidth) (n * ruleWidth) ruleWidth (omega arith) (omega (arith, h)) room)
-
-pub fire-length : (ws : List ℕ) (p : ℕ) → length (fireTable ws p) ≡ length ws
-unfolding fireTable
-fire-length ws p = length-set ws (p * ruleWidth + firedWord) _

@@ -1,4 +1,4 @@
--- The rule table, the list of rules that it holds, and what the calls make of each.
+-- Document 01, fault engine (`install_spec`, `remove`): the rule table, the list of rules that it holds, and what the calls make of each.
 use mathlib.Core.Bool.{cond, _&&_}
 use mathlib.Core.List.{List, [], _∷_, _++_}
 use Prim.Native.Nat.{ℕ, zero, suc, _+_, _*_, _%_, _^_, _≤_, _<_}

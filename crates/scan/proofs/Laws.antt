@@ -3,7 +3,7 @@ use mathlib.Core.Path.{_≡_, refl, sym, ap, _∙_}
 use mathlib.Core.List.{List, [], _∷_}
 use mathlib.Core.Bool.{Bool, true, false, _&&_, false≢true}
 use Prim.Native.Nat.{ℕ, zero, suc, _+_, _*_, _-_, _≤_, _<_}
-use native.Mathlib.Nat.{zero-add, add-mul, mul-le-mul-right, zero-mul, add-zero}
+use native.Mathlib.Nat.{add-mul, mul-le-mul-right, zero-mul, add-zero}
 use native.Mathlib.Omega.{arith}
 use lib.Dec.{ltb, leb}
 use lib.ListN.{length, getD, take, drop}
@@ -19,12 +19,12 @@ use Rattle.delivery.specs.Delivery as delivery
 use Rattle.waiting.specs.declared.Copy.{Copy}
 use Rattle.waiting.specs.Waiting as waiting
 use Rattle.ring.specs.Ring.{soundAt, countAt, firstAt, slotAt}
-use Rattle.ring.proofs.Laws.{ring-at, length-from}
+use Rattle.ring.proofs.Laws.{length-from}
 use Rattle.ring.proofs.Table.{true-sound}
 use Rattle.rings.specs.declared.Entry.{Entry}
 use Rattle.rings.specs.Rings.{slots, headOf, baseOf, countOf, none, form, SoundRing, entries, entryOf}
 use Rattle.rings.proofs.Laws.{get-oldest}
-use Rattle.log.specs.Log.{recordsAt, recordsOf, recordAt, soundLog, SoundLog}
+use Rattle.log.specs.Log.{recordsAt, recordsOf, soundLog, SoundLog}
 use Rattle.log.proofs.Writing.{sound-log}
 use Rattle.scan.specs.declared.Limits.{Limits}
 use Rattle.scan.specs.Scan.{near, nearEntry, copiesNear, logNear, ringNear, ringsNear, column, columnWithin}
@@ -76,10 +76,6 @@ copy-row ws n i c h e = row-at waiting.form ws n i c h ∙ sym e
 
 pub copies-long : (ws : List ℕ) (n : ℕ) → length (waiting.copies ws n) ≡ n
 copies-long ws n = length-rows waiting.width waiting.read n ws
-
-pub record-row : (m : ℕ) (ws : List ℕ) (i : ℕ) (d : Delivery) → i < countAt 0 ws → d ≡ recordAt m ws i → getD (recordsOf m ws) i d ≡ d
-record-row m ws i d h e =
-    ring-at (slotAt delivery.form m 0 recordsAt ws) m (firstAt 0 ws) 0 (countAt 0 ws) i d h ∙ ap (recordAt m ws) (zero-add i) ∙ sym e
 
 pub records-long : (m : ℕ) (ws : List ℕ) → length (recordsOf m ws) ≡ countAt 0 ws
 records-long m ws = length-from (slotAt delivery.form m 0 recordsAt ws) m (firstAt 0 ws) 0 (countAt 0 ws)
@@ -173,9 +169,3 @@ rings-say l rings ws r e h =
     let p = pass-at (ringNear l rings ws) r (upTo rings (λ (k : ℕ). k)) r (let q = numbers-long rings in omega arith) e in
     let a = both (soundAt slots (headOf r) ws) (allOf (nearEntry l) (entries rings ws r)) (ap (ringNear l rings ws) (sym at) ∙ p) in
     (true-sound slots (headOf r) ws (a .0), a .1)
-
-pub column-says : (ws : List ℕ) (start stride n limit i : ℕ) → columnWithin ws start stride n limit ≡ true → i < n → getD ws (start + i * stride) 0 ≤ limit
-unfolding columnWithin
-column-says ws start stride n limit i e h =
-    let p = pass-at (λ (c : ℕ). leb c limit) 0 (column ws start stride n) i (let q = column-long ws start stride n in omega arith) e in
-    leb-true (getD ws (start + i * stride) 0) limit (ap (λ (c : ℕ). leb c limit) (sym (getD-upTo n (λ k. getD ws (start + k * stride) 0) i 0 h)) ∙ p)

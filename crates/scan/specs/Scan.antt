@@ -1,4 +1,4 @@
--- Question 1's range tests over the rows in use.
+-- Document 01, question 1: the range tests over the rows in use.
 use mathlib.Core.List.{List}
 use mathlib.Core.Bool.{Bool, _&&_}
 use Prim.Native.Nat.{ℕ, _+_, _*_}

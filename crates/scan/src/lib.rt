@@ -1,8 +1,10 @@
 // Question 1's range tests: one pass over the rows in use of waiting, rings and log, and over a column of counts.
 ghost use mathlib.Core.Path.{_≡_};
 ghost use Prim.Native.Nat.{_+_, _*_, _≤_};
-ghost use lib.ListN.{length};
+ghost use lib.ListN.{length, drop};
 ghost use Rattle.rows.specs.Rows.{allOf};
+ghost use Rattle.rows.specs.Table.{rowsOf};
+ghost use Rattle.delivery.specs.Delivery as delivery;
 ghost use Rattle.waiting.specs.Waiting.{width};
 ghost use Rattle.ring.specs.Ring.{most};
 ghost use Rattle.rings.specs.Rings.{headWidth, span, Fits, SoundRing, entries};
@@ -61,21 +63,41 @@ pub fn copies_near(ws: &[u64], n: usize, l: Limits) -> bool
     true
 }
 
-// Are the records of a log in range?
-fn records_near(ws: &[u64], capacity: usize, l: Limits) -> bool
-    requires { ⌜ (capacity ≤ most) × (sizeOf capacity ≤ length (now ws)) × (SoundLog capacity (now ws)) ⌝ }
-    ensures { λ r. ⌜ r ≡ allOf (near l) (recordsOf capacity (now (ws .entry))) ⌝ }
+// Are the n deliveries from word `at` on in range?
+fn run_near(ws: &[u64], at: usize, n: usize, l: Limits) -> bool
+    requires { ⌜ at + n * delivery.width ≤ length (now ws) ⌝ }
+    ensures { λ r. ⌜ r ≡ allOf (near l) (rowsOf delivery.form (drop at (now (ws .entry))) n) ⌝ }
 {
-    let count = log::count(ws) as usize;
     let mut i: usize = 0;
-    while i < count {
-        let d = log::oldest(ws, capacity, i);
+    while i < n {
+        let d = delivery::get(ws, at + i * delivery::WIDTH);
         if !is_near(l, d) {
             return false;
         }
         i += 1;
     }
     true
+}
+
+// Are the records of a log in range? They stand in one run, or in two: from the first slot to the last, then from slot 0 on.
+fn records_near(ws: &[u64], capacity: usize, l: Limits) -> bool
+    requires { ⌜ (capacity ≤ most) × (sizeOf capacity ≤ length (now ws)) × (SoundLog capacity (now ws)) ⌝ }
+    ensures { λ r. ⌜ r ≡ allOf (near l) (recordsOf capacity (now (ws .entry))) ⌝ }
+{
+    let count = ws[0] as usize;
+    if count == 0 {
+        return true;
+    }
+    let first = ws[1] as usize;
+    let ahead = capacity - first;
+    let start = log::RECORDS + first * delivery::WIDTH;
+    if count <= ahead {
+        return run_near(ws, start, count, l);
+    }
+    if !run_near(ws, start, ahead, l) {
+        return false;
+    }
+    run_near(ws, log::RECORDS, count - ahead, l)
 }
 
 // Are a log's count, first slot and records in range?

@@ -19,13 +19,13 @@ use Rattle.network.specs.Real.{drawsOf, openingAt}
 use Rattle.network.specs.Accept as accept
 use Rattle.network.specs.Accept.{Drawn, drawn, original, echo, carriedOf, Class, sent, classOf, add}
 use Rattle.network.specs.Writes.{setRings, setRules, wordsT, netT, ruledT, marksT, pushT, rememberT, effectT, offeredT}
+use Rattle.held.specs.Lending.{tablesOf}
 use Rattle.offer.specs.declared.Message.{Message}
 use Rattle.offer.specs.declared.Faulted.{Faulted}
 use Rattle.offer.specs.declared.Sending.{Sending}
 use Rattle.offer.specs.declared.Offer.{Offer}
 use Rattle.offer.specs.declared.Offer.the-variants.{Deduplicated, Partition, Loss, Fault, Sent}
-use Rattle.offer.specs.Offering as offering
-use Rattle.offer.specs.Offering.{told, echoesIn, tablesOf, Answers}
+use Rattle.offer.specs.Offering.{told, echoesIn, Answers}
 use Rattle.schedule.specs.declared.Counts.{Counts}
 use Rattle.schedule.specs.Writing.{markedSeen, pushedNet, pushedWaiting, remembered, sentT, offerT, Sends, Applies, classIn, countsOf}
 use Rattle.schedule.proofs.Pushing.{after, push-three}

@@ -1,4 +1,4 @@
--- What an offer writes, table by table, in the terms of `Writes`.
+-- Document 01, 'The book', Accept: what an offer writes, table by table, in the terms of `Writes`.
 use Prim.Native.Nat.{ℕ, suc, _+_, _*_, _≤_, _<_}
 use mathlib.Core.Path.{_≡_}
 use mathlib.Core.Bool.{Bool, true, cond}
@@ -18,12 +18,13 @@ use Rattle.network.specs.Accept as accept
 use Rattle.network.specs.Accept.{original, carriedOf, Class, deduplicated, partition, loss, fault, sent}
 use Rattle.network.specs.Writes.{wordsT, netT, ruledT, marksT, pushT, rememberT}
 use Rattle.network.specs.Real.{openingAt}
+use Rattle.held.specs.Lending.{tablesOf}
 use Rattle.offer.specs.declared.Message.{Message}
 use Rattle.offer.specs.declared.Sending.{Sending}
 use Rattle.offer.specs.declared.Offer.{Offer}
 use Rattle.offer.specs.declared.Offer.the-variants.{Deduplicated, Partition, Loss, Fault, Sent}
 use Rattle.offer.specs.Needed.{Ranged, RingsHeld, SeenHeld}
-use Rattle.offer.specs.Offering.{told, echoingAt, echoesIn, tablesOf}
+use Rattle.offer.specs.Offering.{told, echoingAt, echoesIn}
 use Rattle.schedule.specs.declared.Counts.{Counts}
 
 -- ---- One leaf each

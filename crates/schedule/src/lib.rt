@@ -157,7 +157,7 @@ fn send(
         wire: m.wire,
         tag: m.tag,
     };
-    words[m.from as usize * 64 + to] = e.words;
+    words[m.from as usize * held::LINK_ROW + to] = e.words;
     net[held::FAULT_WORDS] = x.fault;
     mark(setup, seen, to, m.id);
     push_if(true, net, waiting, original(m, to, x.latency));
@@ -187,7 +187,7 @@ pub fn apply(
     requires { ⌜ Applicable (now setup) (now net) (now words) (now seen) (now waiting) (now rings) m to r ⌝ }
     ensures { λ _. ⌜ Applies m to r (now (setup .entry)) (now (net .entry)) (now (words .entry)) (now (seen .entry)) (now (waiting .entry)) (now (rings .entry)) (now (rules .entry)) (now (net .exit)) (now (words .exit)) (now (seen .exit)) (now (waiting .exit)) (now (rings .exit)) (now (rules .exit)) ⌝ }
 {
-    let link = m.from as usize * 64 + to;
+    let link = m.from as usize * held::LINK_ROW + to;
     match r {
         Offer::Deduplicated => {}
         Offer::Partition => {}

@@ -1,11 +1,11 @@
 -- Moves of words, a block at a time: a block, and moves that follow one another. Assumes nothing.
 use mathlib.Core.Path.{_≡_, refl, sym, ap, _∙_}
-use mathlib.Core.List.{List, [], _∷_, _++_, append-assoc}
+use mathlib.Core.List.{List, [], _∷_, _++_, append-assoc, append-nil}
 use Prim.Native.Nat.{ℕ, zero, suc, _+_, _-_, _≤_}
 use native.Mathlib.Nat.{add-zero}
 use native.Mathlib.Omega.{arith}
 use lib.ListN.{length, getD, take, drop, length-append, length-drop}
-use lib.Seq.{drop-cons, length-take-le, take-append-le, drop-append-le, take-take, drop-at, take-at, take-add, drop-drop}
+use lib.Seq.{drop-cons, length-take-le, take-append-le, drop-append-le, take-take, drop-at, take-at, take-add, drop-drop, take-all, drop-length}
 use Rattle.shift.specs.Shift.{opened, closed, putWords}
 use Rattle.shift.proofs.Laws.{drop-take, closed-behind, length-put, stores, stores-eq}
 
@@ -76,6 +76,29 @@ pub up-part : (l : List ℕ) (k m z by : ℕ) → k + m ≤ z → z + by ≤ len
     → length (opened l (k + m) z by) ≡ length l
     → putWords (opened l (k + m) z by) (k + by) (take m (drop k (opened l (k + m) z by))) ≡ opened l k z by
 up-part l k m z by h room long = up-block (opened l (k + m) z by) k m by (omega arith) ∙ up-join l k (k + m) z by (omega arith) h room
+
+-- a move up in the part from a on
+pub up-tail : (l ys : List ℕ) (a z by : ℕ) → a ≤ z → z + by ≤ length l → ys ≡ opened (take (length l - a) (drop a l)) 0 (z - a) by
+    → take a l ++ (ys ++ drop (length l - a) (drop a l)) ≡ opened l a z by
+unfolding opened
+up-tail l ys a z by h room e =
+    let t : List ℕ = drop a l in
+    let m : ℕ = length l - a in
+    let lt : length t ≡ m = length-drop a l in
+    let whole : take m t ≡ t = take-all m t (omega arith) in
+    let rest : drop m t ≡ [] = ap (λ (j : ℕ). drop j t) (sym lt) ∙ drop-length t in
+    let n1 : 0 + by ≡ by = omega arith in
+    let n2 : z - a - 0 ≡ z - a = omega arith in
+    let n3 : a + (z - a + by) ≡ z + by = omega arith in
+    let is : ys ≡ take by t ++ (take (z - a) t ++ drop (z - a + by) t)
+    = e ∙ ap (λ (x : List ℕ). take (0 + by) x ++ (take (z - a - 0) x ++ drop (z - a + by) x)) whole
+    ∙ ap (λ (j : ℕ). take j t ++ (take (z - a - 0) t ++ drop (z - a + by) t)) n1
+    ∙ ap (λ (j : ℕ). take by t ++ (take j t ++ drop (z - a + by) t)) n2 in
+    ap (λ (x : List ℕ). take a l ++ (ys ++ x)) rest
+    ∙ ap (λ (x : List ℕ). take a l ++ x) (append-nil ys ∙ is)
+    ∙ sym (append-assoc (take a l) (take by t) (take (z - a) t ++ drop (z - a + by) t))
+    ∙ ap (λ (x : List ℕ). x ++ (take (z - a) t ++ drop (z - a + by) t)) (sym (take-add a by l))
+    ∙ ap (λ (x : List ℕ). take (a + by) l ++ (take (z - a) t ++ x)) (drop-drop (z - a + by) a l ∙ ap (λ (j : ℕ). drop j l) n3)
 
 -- DOWN: the same
 pub down-block : (l : List ℕ) (k m by : ℕ) → by ≤ k → k + m ≤ length l → putWords l (k - by) (take m (drop k l)) ≡ closed l k (k + m) by

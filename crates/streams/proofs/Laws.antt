@@ -41,9 +41,33 @@ taken-moved c c′ h k n e b =
           b ∙ h .1 ∙ ap₂ blockOf (sym k) x;
     }
 
+-- two words are taken out of it
+pub both-words : (c : Cursor) {v : ℕ} → keepsBlock c → c .count % 16 < 15 → v ≡ getD (c .block) (c .count % 16) 0 + 2 ^ 32 * getD (c .block) (c .count % 16 + 1) 0
+    → v ≡ wordPair (c .key) (c .count)
+unfolding keepsBlock wordAt wordPair
+both-words c h l p =
+    let m : c .count % 16 + 1 ≡ (c .count + 1) % 16 = omega arith in
+    let d : c .count / 16 ≡ (c .count + 1) / 16 = omega arith in
+    p ∙ ap (λ b. getD b (c .count % 16) 0 + 2 ^ 32 * getD b (c .count % 16 + 1) 0) (h .1)
+    ∙ ap₂ (λ j k. getD (blockOf (c .key) (c .count / 16)) (c .count % 16) 0 + 2 ^ 32 * getD (blockOf (c .key) j) k 0) d m
+
+pub both-moved : (c c′ : Cursor) → keepsBlock c → c′ .key ≡ c .key → c′ .count ≡ c .count + 2 → c′ .held ≡ c .held → c′ .block ≡ c .block → Moved c 2 c′
+unfolding keepsBlock Holds
+both-moved c c′ h k n e b =
+    record {
+      key = k;
+      count = n;
+      holds = λ m q.
+          let x : c .count / 16 ≡ m = omega (arith, h .0) in
+          b ∙ h .1 ∙ ap₂ blockOf (sym k) x;
+    }
+
 -- a cursor that equals another in key and count gives the same word
 pub word-same : (c d : Cursor) {v : ℕ} → d .key ≡ c .key → d .count ≡ c .count → v ≡ wordAt (d .key) (d .count) → v ≡ wordAt (c .key) (c .count)
 word-same c d p q r = r ∙ ap₂ wordAt p q
+
+pub pair-same : (c d : Cursor) {v : ℕ} → d .key ≡ c .key → d .count ≡ c .count → v ≡ wordPair (d .key) (d .count) → v ≡ wordPair (c .key) (c .count)
+pair-same c d p q r = r ∙ ap₂ wordPair p q
 
 pub moved-same : (c d e : Cursor) (n : ℕ) → d .key ≡ c .key → d .count ≡ c .count → Moved d n e → Moved c n e
 moved-same c d e n p q m = record { key = m .key ∙ p; count = m .count ∙ ap (λ k. k + n) q; holds = m .holds }

@@ -1,14 +1,13 @@
 -- What the questions passed say of the tables, and the small laws of the workers. Assumes nothing.
-use mathlib.Core.Path.{_≡_, sym, ap, _∙_}
+use mathlib.Core.Path.{_≡_, ap, _∙_}
 use mathlib.Core.Bool.{true, false, cond}
-use mathlib.Core.List.{List, [], _∷_, _++_, append-assoc}
-use Prim.Native.Nat.{ℕ, suc, _+_, _*_, _≤_, _<_}
+use mathlib.Core.List.{List, [], _++_}
+use Prim.Native.Nat.{ℕ, _+_, _*_, _≤_, _<_}
 use native.Mathlib.Nat.{add-zero, add-mul, mul-le-mul, mul-le-mul-right}
-use native.Mathlib.Numerals.{add-one}
 use native.Mathlib.Omega.{arith}
 use lib.Dec.{leb, ltb}
-use lib.ListN.{length, getD, set, take, drop, length-append, length-drop, take-append-drop}
-use lib.Seq.{length-take-le, take-suc, drop-cons, set-at, getD-drop}
+use lib.ListN.{length, getD, take, drop, take-append-drop}
+use lib.Seq.{getD-drop}
 use borrow.Author.Tests.{le-leb, lt-leb, lt-ltb, le-ltb, leb-true, ltb-true}
 use Rattle.shift.specs.Shift.{putWords}
 use Rattle.network.specs.Opening.{mostTills, mostSlots}
@@ -117,26 +116,3 @@ put-none ws b = ap (λ (k : ℕ). take b ws ++ drop k ws) (add-zero b) ∙ take-
 -- a till's words, by their places
 pub words-at : (a : List ℕ) (b k : ℕ) → getD (drop b a) k 0 ≡ getD a (b + k) 0
 words-at a b k = getD-drop b a k 0
-
--- one word more at the front of the output
-module _ (from out : List ℕ) (start n : ℕ) (long : start + n ≤ length from) (room : n ≤ length out) where
-  abbrev pub copied : ℕ → List ℕ
-  copied i = take i (drop start from) ++ drop i out
-
-  pub copied-length : (i : ℕ) → i ≤ n → length (copied i) ≡ length out
-  copied-length i h =
-      let d = length-drop start from in
-      let a : length (take i (drop start from)) ≡ i = length-take-le i (drop start from) (omega arith) in
-      length-append (take i (drop start from)) (drop i out) ∙ (let b = length-drop i out in omega (arith, a, b))
-
-  pub copied-more : (i : ℕ) → i < n → set (copied i) i (getD from (start + i) 0) ≡ copied (i + 1)
-  copied-more i h =
-      let x : List ℕ = drop start from in
-      let d = length-drop start from in
-      let a : length (take i x) ≡ i = length-take-le i x (omega arith) in
-      ap (λ (l : List ℕ). set (take i x ++ l) i (getD from (start + i) 0)) (drop-cons out i 0 (omega arith))
-      ∙ set-at (take i x) (getD out i 0) (drop (suc i) out) (getD from (start + i) 0) i a
-      ∙ ap (λ (v : ℕ). take i x ++ (v ∷ drop (suc i) out)) (sym (getD-drop start from i 0))
-      ∙ sym (append-assoc (take i x) (getD x i 0 ∷ []) (drop (suc i) out))
-      ∙ ap (λ (l : List ℕ). l ++ drop (suc i) out) (sym (take-suc x i 0 (omega arith)))
-      ∙ ap (λ (k : ℕ). take k x ++ drop k out) (sym (add-one i))

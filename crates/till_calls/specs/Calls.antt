@@ -1,4 +1,4 @@
--- THE CONTRACTS of the calls on tills and marks. Of the tables `setup` and `tills`, `seen` or both are lent; the others hold whatever they hold, and stay.
+-- Document 01, network (`take_down`, `bring_up`) and 'What changes shape' (handlers), with questions 1, 4 and 5: THE CONTRACTS of the calls on tills and marks. Of the tables `setup` and `tills`, `seen` or both are lent; the others hold whatever they hold, and stay.
 use mathlib.Core.Path.{_≡_}
 use mathlib.Core.Bool.{Bool, true, cond, _&&_}
 use mathlib.Core.List.{List, []}

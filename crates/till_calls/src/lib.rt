@@ -1,10 +1,5 @@
 // The calls on tills and marks: take_down, bring_up, set_handlers, is_down, marks_of.
 ghost use mathlib.Core.Path.{_≡_};
-ghost use mathlib.Core.List.{_∷_, [], _++_};
-ghost use Prim.Native.Nat.{_+_, _≤_};
-ghost use lib.ListN.{length, take, drop};
-ghost use Rattle.shift.specs.Shift.{putWords};
-ghost use Rattle.network.specs.Tables.{tillForm};
 ghost use Rattle.till_calls.specs.Calls.{DoesTakeDown, DoesBringUp, DoesSetHandlers, DoesIsDown, DoesMarksOf, tillsLent, seenLent, bothLent, downNumber, readNumber, upNumber, handlersNumber, marksNumber};
 use reply::Done;
 use reply::Value;
@@ -123,29 +118,6 @@ fn marks_refusal(setup: &[u64], seen: &[u64], places: u64, t: u64) -> u64
     0
 }
 
-// The till whose words start at b.
-fn put_till(tills: &mut [u64], b: usize, up: u64, gossip: u64, host: u64, shards: u64)
-    requires { ⌜ b + tillForm .width ≤ length (now tills) ⌝ }
-    ensures { λ _. ⌜ now (tills .exit) ≡ putWords (now (tills .entry)) b (up ∷ gossip ∷ host ∷ shards ∷ []) ⌝ }
-{
-    tills[b] = up;
-    tills[b + 1] = gossip;
-    tills[b + 2] = host;
-    tills[b + 3] = shards;
-}
-
-// n words of `from`, at the front of `out`.
-fn copy_front(from: &[u64], start: usize, n: usize, out: &mut [u64])
-    requires { ⌜ (start + n ≤ length (now «from»)) × (n ≤ length (now out)) ⌝ }
-    ensures { λ _. ⌜ now (out .exit) ≡ take n (drop start (now («from» .entry))) ++ drop n (now (out .entry)) ⌝ }
-{
-    let mut i: usize = 0;
-    while i < n {
-        out[i] = from[start + i];
-        i += 1;
-    }
-}
-
 // The till is down; its marks, handlers and shards go, its waiting copies stay.
 pub fn take_down(setup: &[u64], tills: &mut [u64], seen: &mut [u64], t: u64) -> Done
     ensures { λ r. ⌜ DoesTakeDown (now (setup .entry)) (now (tills .entry)) (now (seen .entry)) (now (tills .exit)) (now (seen .exit)) t r ⌝ }
@@ -154,7 +126,7 @@ pub fn take_down(setup: &[u64], tills: &mut [u64], seen: &mut [u64], t: u64) -> 
     if number != 0 {
         return Done { number };
     }
-    put_till(tills, t as usize * held::TILL_WIDTH, 0, 0, 0, 0);
+    held::put_till(tills, t as usize * held::TILL_WIDTH, 0, 0, 0, 0);
     held::put(seen, t as usize, 0);
     Done { number: 0 }
 }
@@ -167,7 +139,7 @@ pub fn bring_up(setup: &[u64], tills: &mut [u64], t: u64, shards: u64) -> Done
     if number != 0 {
         return Done { number };
     }
-    put_till(tills, t as usize * held::TILL_WIDTH, 1, 0, 0, shards);
+    held::put_till(tills, t as usize * held::TILL_WIDTH, 1, 0, 0, shards);
     Done { number: 0 }
 }
 
@@ -182,7 +154,7 @@ pub fn set_handlers(setup: &[u64], tills: &mut [u64], t: u64, gossip: u64, host:
     let b = t as usize * held::TILL_WIDTH;
     let up = tills[b];
     let shards = tills[b + 3];
-    put_till(tills, b, up, gossip, host, shards);
+    held::put_till(tills, b, up, gossip, host, shards);
     Done { number: 0 }
 }
 
@@ -218,6 +190,6 @@ pub fn marks_of(setup: &[u64], seen: &[u64], t: u64, out: &mut [u64]) -> Marks
     }
     let count = seen[t as usize];
     let start = setup[held::TILLS] as usize + t as usize * setup[held::SEEN_SLOTS] as usize;
-    copy_front(seen, start, count as usize, out);
+    held::copy_front(seen, start, count as usize, out);
     Marks { number: 0, count }
 }

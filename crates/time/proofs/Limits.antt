@@ -1,13 +1,13 @@
 -- The least and the most that `nanos` gives: from 0.001 s a millisecond, up to p s p seconds.
-use mathlib.Core.Path.{_≡_, refl, sym, ap, _∙_, subst}
-use Prim.Native.Nat.{ℕ, _*_, _/_, _%_, _^_, _≤_, _<_, compare, Ordering·lt}
+use mathlib.Core.Path.{_≡_, ap}
+use Prim.Native.Nat.{ℕ, _*_, _/_, _%_, _^_, _≤_, compare, Ordering·lt}
 use native.Mathlib.Nat.{le-trans, le-of-eq, le-of-lt, mul-one, mul-le-mul-right, mul-right-comm, zero-lt-suc}
 use native.Mathlib.Omega.{arith}
 use lib.Dec.{T}
-use lib.Ieee.{Float, le, lt, nearest}
+use lib.Ieee.{Float, le, nearest}
 use lib.Ieee.Nearest.{closest, closest-mono}
 use lib.Ieee.Positive.{num, den, den-pos, positive, le→cross}
-use Rattle.time.specs.Seconds.{second, millisecond, nanos, milli, top, InRange}
+use Rattle.time.specs.Seconds.{second, millisecond, nanos, milli, InRange}
 use Rattle.time.proofs.Rounding.{is-lt}
 use Rattle.time.proofs.Pattern.{within}
 

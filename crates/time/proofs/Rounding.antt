@@ -1,7 +1,7 @@
 -- The arithmetic of `rounded`: d * 10 ^ 9 / 2 ^ (k + 26), rounded by halves.
 use mathlib.Core.Path.{_≡_, refl, sym, ap, _∙_, subst}
 use Prim.Native.Nat.{ℕ, zero, suc, _+_, _-_, _*_, _/_, _%_, _^_, _≤_, _<_, compare, Ordering, Ordering·lt, Ordering·eq, Ordering·gt}
-use native.Mathlib.Nat.{one-mul, mod-lt, pow-suc, lt-of-le-of-lt, lt-irrefl, mul-assoc, mul-comm, add-comm}
+use native.Mathlib.Nat.{one-mul, pow-suc, lt-of-le-of-lt, lt-irrefl, add-comm}
 use native.Mathlib.Omega.{arith}
 use native.Mathlib.Numerals.{add-one}
 use mathlib.Core.Bool.{not}
@@ -66,9 +66,6 @@ low-small d = omega (arith, mask-lt d 26)
 
 pub whole-small : (d : ℕ) → d < 2 ^ 53 → whole d < 2 ^ 58
 whole-small d h = omega (arith, mask-lt d 26)
-
-pub upper-small : (d : ℕ) → d < 2 ^ 53 → d / 2 ^ 26 * second < 2 ^ 57
-upper-small d h = omega arith
 
 halves : (d : ℕ) → d * second ≡ whole d * 2 ^ 26 + rest d
 halves d = go (bitAnd d (2 ^ 26 - 1)) (rest d) (and-mask d 26) (and-mask (low d) 26)

@@ -1,4 +1,4 @@
--- Waiting copies: rows of a delivery and four words more, in the order of time, then sequence.
+-- Document 01, network (flush runs by time, then sequence): waiting copies, rows of a delivery and four words more, in the order of time, then sequence.
 use mathlib.Core.List.{List, [], _∷_, _++_}
 use mathlib.Core.Bool.{Bool, false, cond, not, _&&_, _||_}
 use mathlib.Core.Path.{_≡_}

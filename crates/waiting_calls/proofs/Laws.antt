@@ -28,7 +28,7 @@ use Rattle.reply.specs.declared.Value.{Value}
 use Rattle.reply.specs.Reply.{refusedBy}
 use Rattle.reply.proofs.Laws as reply
 use Rattle.waiting_calls.specs.declared.Copied.{Copied}
-use Rattle.waiting_calls.specs.Call.{lend, Reads, copiedOf, copiesCall, DoesCopies, waitingLent, lentNumber, tillNumber, outNumber, transitOf, wordsOver, notCopied}
+use Rattle.waiting_calls.specs.Call.{lend, Reads, copiedOf, copiesCall, DoesCopies, waitingLent, lentNumber, tillNumber, outNumber, transitOf, notCopied}
 use Rattle.waiting_calls.proofs.Work.{first-none, first-some}
 
 -- ---- The ladders
@@ -176,14 +176,13 @@ module _ (s n w out : List ℕ) (r : ℕ) (e : r ≡ lentNumber s n w (outNumber
     words-are : flat waiting.words (waiting.copies w (cell n waitingAt)) ≡ take (cell n waitingAt * waiting.width) w
     words-are = flat-rows waiting.form waiting-laws.exact (cell n waitingAt) w (copies-room .0)
 
-    front : wordsOver w (cell n waitingAt * waiting.width) out ≡ flat waiting.words (waiting.copies w (cell n waitingAt)) ++ drop (length (flat waiting.words (waiting.copies w (cell n waitingAt)))) out
-    unfolding wordsOver
+    front : take (cell n waitingAt * waiting.width) w ++ drop (cell n waitingAt * waiting.width) out ≡ flat waiting.words (waiting.copies w (cell n waitingAt)) ++ drop (length (flat waiting.words (waiting.copies w (cell n waitingAt)))) out
     front =
         let m : ℕ = cell n waitingAt * waiting.width in
         ap (λ (i : ℕ). take (cell n waitingAt * waiting.width) w ++ drop i out) (sym (length-take-le (cell n waitingAt * waiting.width) w (copies-room .0)))
         ∙ ap (λ (x : List ℕ). x ++ drop (length x) out) (sym words-are)
 
-    pub copies-done : (out′ : List ℕ) → out′ ≡ wordsOver w (cell n waitingAt * waiting.width) out → DoesCopies s n w out out′ (record { number = 0; copies = cell n waitingAt })
+    pub copies-done : (out′ : List ℕ) → out′ ≡ take (cell n waitingAt * waiting.width) w ++ drop (cell n waitingAt * waiting.width) out → DoesCopies s n w out out′ (record { number = 0; copies = cell n waitingAt })
     unfolding DoesCopies
     copies-done out′ q = λ T.
         let same = sym h ∙ e ∙ copies-number T in

@@ -1,12 +1,11 @@
 -- The loops: copies counted by their till, words copied, and the first copy's time. Assumes nothing.
 use mathlib.Core.Path.{_≡_, refl, sym, ap, _∙_}
-use mathlib.Core.List.{List, _++_}
+use mathlib.Core.List.{List}
 use Prim.Native.Nat.{ℕ, zero, suc, _+_, _*_, _-_, _≤_, _<_}
 use native.Mathlib.Nat.{zero-add, add-zero, add-assoc}
 use native.Mathlib.Omega.{arith}
 use lib.Dec.{eqb}
-use lib.ListN.{length, getD, set, take, drop}
-use lib.Seq.{take-suc, drop-cons, set-at, append-snoc, length-take-le}
+use lib.ListN.{drop}
 use borrow.Author.Tests.{eq-eqb, ne-eqb}
 use Rattle.rows.proofs.Rows.{rows-first, rows-next, rows-end}
 use Rattle.delivery.specs.declared.Delivery.{Delivery}
@@ -15,7 +14,7 @@ use Rattle.waiting.specs.declared.Copy.{Copy}
 use Rattle.waiting.specs.Waiting as waiting
 use Rattle.network.specs.Lists.{bit, count}
 use Rattle.network.specs.Calls.{number, firstTime}
-use Rattle.waiting_calls.specs.Call.{transitOf, wordsOver}
+use Rattle.waiting_calls.specs.Call.{transitOf}
 
 pub same-yes : (a b : ℕ) → a ≡ b → 1 ≡ bit (eqb a b)
 same-yes a b e = ap bit (sym (eq-eqb a b e))
@@ -44,24 +43,6 @@ module _ (t : ℕ) (w : List ℕ) (n : ℕ) where
   pub transit-end : (i k : ℕ) → n ≤ i → transitOf t w n ≡ k + left i → k ≡ transitOf t w n
   unfolding left
   transit-end i k h e = sym (e ∙ ap (λ (l : List Copy). k + count (λ (c : Copy). eqb (c .delivery .to) t) l) (rows-end waiting.width waiting.read w n i h) ∙ add-zero k)
-
--- ---- Words
-
-module _ (ws out : List ℕ) where
-  pub words-none : out ≡ wordsOver ws 0 out
-  unfolding wordsOver
-  words-none = refl
-
-  pub words-more : (i : ℕ) (l : List ℕ) → i < length ws → i < length out → l ≡ wordsOver ws i out → set l i (getD ws i 0) ≡ wordsOver ws (i + 1) out
-  unfolding wordsOver
-  words-more i l h k e =
-      let n : suc i ≡ i + 1 = omega arith in
-      let v : ℕ = getD ws i 0 in
-      ap (λ (x : List ℕ). set x i v) (e ∙ ap (λ (x : List ℕ). take i ws ++ x) (drop-cons out i 0 k))
-      ∙ set-at (take i ws) (getD out i 0) (drop (suc i) out) v i (length-take-le i ws (omega arith))
-      ∙ sym (append-snoc (take i ws) v (drop (suc i) out))
-      ∙ ap (λ (x : List ℕ). x ++ drop (suc i) out) (sym (take-suc ws i 0 h))
-      ∙ ap (λ (j : ℕ). take j ws ++ drop j out) n
 
 -- ---- The first copy
 

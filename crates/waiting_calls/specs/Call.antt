@@ -1,10 +1,10 @@
--- THE CONTRACTS of in_transit, next_time and waiting_copies. Of the tables `setup`, `net` and `waiting` are lent; the others hold whatever they hold. All stay.
+-- Document 01, network (in transit) and 'The book' (readings, waiting copies), with questions 1 and 4: THE CONTRACTS of in_transit, next_time and waiting_copies. Of the tables `setup`, `net` and `waiting` are lent; the others hold whatever they hold. All stay.
 use mathlib.Core.Path.{_≡_}
 use mathlib.Core.Bool.{Bool, true, cond, _&&_}
-use mathlib.Core.List.{List, _++_}
+use mathlib.Core.List.{List}
 use Prim.Native.Nat.{ℕ, _/_}
 use lib.Dec.{eqb, leb, ltb}
-use lib.ListN.{length, take, drop}
+use lib.ListN.{length}
 use Rattle.waiting.specs.declared.Copy.{Copy}
 use Rattle.waiting.specs.Waiting as waiting
 use Rattle.network.specs.Lists.{count}
@@ -76,10 +76,6 @@ outNumber s rows = cond (leb (sizesAt s .waitSlots) rows) 0 1
 -- how many of the first n copies go to a till
 unfoldable pub transitOf : ℕ → List ℕ → ℕ → ℕ
 transitOf t w n = count (λ (c : Copy). eqb (c .delivery .to) t) (waiting.copies w n)
-
--- m words of ws over the front of out
-unfoldable pub wordsOver : List ℕ → ℕ → List ℕ → List ℕ
-wordsOver ws m out = take m ws ++ drop m out
 
 abbrev pub notCopied : ℕ → Copied
 notCopied n = record { number = n; copies = 0 }

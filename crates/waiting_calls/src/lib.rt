@@ -5,7 +5,7 @@ ghost use lib.Dec.{eqb};
 ghost use lib.ListN.{length};
 ghost use Rattle.waiting.specs.Waiting.{width};
 ghost use Rattle.network.specs.Lists.{bit};
-ghost use Rattle.waiting_calls.specs.Call.{DoesTransit, DoesNextTime, DoesCopies, waitingLent, lentNumber, tillNumber, outNumber, transitOf, wordsOver, notCopied};
+ghost use Rattle.waiting_calls.specs.Call.{DoesTransit, DoesNextTime, DoesCopies, waitingLent, lentNumber, tillNumber, outNumber, transitOf, notCopied};
 use reply::Value;
 
 // The number of the question that refused the call, or 0; how many copies were copied out.
@@ -80,18 +80,6 @@ fn count_to(waiting: &[u64], n: usize, t: u64) -> u64
     k
 }
 
-// The first m words to the front of out.
-fn copy_words(ws: &[u64], m: usize, out: &mut [u64])
-    requires { ⌜ (m ≤ length (now ws)) × (m ≤ length (now out)) ⌝ }
-    ensures { λ r. ⌜ now (out .exit) ≡ wordsOver (now (ws .entry)) m (now (out .entry)) ⌝ }
-{
-    let mut i: usize = 0;
-    while i < m {
-        out[i] = ws[i];
-        i += 1;
-    }
-}
-
 // How many copies wait for a till.
 pub fn in_transit(setup: &[u64], net: &[u64], waiting: &[u64], t: u64) -> Value
     ensures { λ r. ⌜ DoesTransit (now (setup .entry)) (now (net .entry)) (now (waiting .entry)) t r ⌝ }
@@ -145,6 +133,6 @@ pub fn waiting_copies(setup: &[u64], net: &[u64], waiting: &[u64], out: &mut [u6
         return refused(number);
     }
     let copies = net[held::WAITING];
-    copy_words(waiting, copies as usize * waiting::WIDTH, out);
+    held::copy_front(waiting, 0, copies as usize * waiting::WIDTH, out);
     Copied { number: 0, copies }
 }

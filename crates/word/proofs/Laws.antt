@@ -1,7 +1,7 @@
 -- the product of two numbers of 64 bits by its halves of 32, and the bounds that the code asks for
 use mathlib.Core.Path.{_≡_, sym, ap, _∙_}
-use Prim.Native.Nat.{ℕ, zero, suc, _+_, _*_, _/_, _%_, _^_, _<_, _≤_}
-use native.Mathlib.Nat.{le-trans, le-of-suc-le-suc, mul-le-mul-left, mul-le-mul-right, div-add-mod'}
+use Prim.Native.Nat.{ℕ, _+_, _*_, _/_, _%_, _^_, _<_, _≤_}
+use native.Mathlib.Nat.{le-trans, mul-le-mul-left, mul-le-mul-right, div-add-mod'}
 use native.Mathlib.Omega.{arith}
 use lib.Pow.{pow-pos}
 use Rattle.word.proofs.Columns.{upper-digits, lower-digits, middle, next}

@@ -3,125 +3,87 @@ use Rattle.held.proofs.Ladder.{on, off, last, is-no, is-yes}
 use borrow.Author.Needs.{needs}
 use Rattle.accept_questions.proofs.lent.Statement.{statement}
 use Rattle.accept_questions.proofs.lent.Tie as tie
-use Rattle.accept_questions.proofs.lent.Reads as reads
-use Rattle.accept_questions.proofs.lent.Lts as lts
-use Rattle.held.proofs.blocks_held.Reads as blocks-held-reads
-use Rattle.held.proofs.keys_held.Reads as keys-held-reads
-use Rattle.held.proofs.net_held.Reads as net-held-reads
-use Rattle.held.proofs.rules_held.Reads as rules-held-reads
-use Rattle.held.proofs.seen_held.Reads as seen-held-reads
-use Rattle.held.proofs.setup_held.Reads as setup-held-reads
-use Rattle.held.proofs.tills_held.Reads as tills-held-reads
-use Rattle.held.proofs.words_held.Reads as words-held-reads
-use Rattle.held_rows.proofs.names_held.Reads as names-held-reads
-use Rattle.held_rows.proofs.prices_held.Reads as prices-held-reads
-use Rattle.held_rows.proofs.rings_held.Reads as rings-held-reads
-use Rattle.held_rows.proofs.waiting_held.Reads as waiting-held-reads
 
--- src/lib.rt:20:9
 setup-held-requires : tie.Need-setup-held-requires
 setup-held-requires c κs = search needs
 
--- src/lib.rt:21:9
 returns : tie.Need-returns
 unfolding acceptLent
 returns c = off _ _ (is-no _ _ (c .before .setup-held .ensures) (c .if1 .taken))
 
--- src/lib.rt:23:9
 net-held-requires : tie.Need-net-held-requires
 net-held-requires c κs = search needs
 
--- src/lib.rt:24:9
 returns-2 : tie.Need-returns-2
 unfolding acceptLent
 returns-2 c = on _ _ _ (is-yes _ _ (c .before .before .before .setup-held .ensures) (c .before .before .if1 .left)) (off _ _ (is-no _ _ (c .before .net-held .ensures) (c .if2 .taken)))
 
--- src/lib.rt:26:9
 names-held-requires : tie.Need-names-held-requires
 names-held-requires c κs = (is-yes _ _ (c .before .before .before .setup-held .ensures) (c .before .before .if1 .left))
 
--- src/lib.rt:27:9
 returns-3 : tie.Need-returns-3
 unfolding acceptLent
 returns-3 c = on _ _ _ (is-yes _ _ (c .before .before .before .before .before .setup-held .ensures) (c .before .before .before .before .if1 .left)) (on _ _ _ (is-yes _ _ (c .before .before .before .net-held .ensures) (c .before .before .if2 .left)) (off _ _ (is-no _ _ (c .before .names-held .ensures) (c .if3 .taken))))
 
--- src/lib.rt:29:9
 tills-held-requires : tie.Need-tills-held-requires
 tills-held-requires c κs = (is-yes _ _ (c .before .before .before .before .before .setup-held .ensures) (c .before .before .before .before .if1 .left))
 
--- src/lib.rt:30:9
 returns-4 : tie.Need-returns-4
 unfolding acceptLent
 returns-4 c = on _ _ _ (is-yes _ _ (c .before .before .before .before .before .before .before .setup-held .ensures) (c .before .before .before .before .before .before .if1 .left)) (on _ _ _ (is-yes _ _ (c .before .before .before .before .before .net-held .ensures) (c .before .before .before .before .if2 .left)) (on _ _ _ (is-yes _ _ (c .before .before .before .names-held .ensures) (c .before .before .if3 .left)) (off _ _ (is-no _ _ (c .before .tills-held .ensures) (c .if4 .taken)))))
 
--- src/lib.rt:32:9
 words-held-requires : tie.Need-words-held-requires
 words-held-requires c κs = search needs
 
--- src/lib.rt:33:9
 returns-5 : tie.Need-returns-5
 unfolding acceptLent
 returns-5 c = on _ _ _ (is-yes _ _ (c .before .before .before .before .before .before .before .before .before .setup-held .ensures) (c .before .before .before .before .before .before .before .before .if1 .left)) (on _ _ _ (is-yes _ _ (c .before .before .before .before .before .before .before .net-held .ensures) (c .before .before .before .before .before .before .if2 .left)) (on _ _ _ (is-yes _ _ (c .before .before .before .before .before .names-held .ensures) (c .before .before .before .before .if3 .left)) (on _ _ _ (is-yes _ _ (c .before .before .before .tills-held .ensures) (c .before .before .if4 .left)) (off _ _ (is-no _ _ (c .before .words-held .ensures) (c .if5 .taken))))))
 
--- src/lib.rt:35:9
 keys-held-requires : tie.Need-keys-held-requires
 keys-held-requires c κs = (is-yes _ _ (c .before .before .before .before .before .before .before .before .before .setup-held .ensures) (c .before .before .before .before .before .before .before .before .if1 .left))
 
--- src/lib.rt:36:9
 returns-6 : tie.Need-returns-6
 unfolding acceptLent
 returns-6 c = on _ _ _ (is-yes _ _ (c .before .before .before .before .before .before .before .before .before .before .before .setup-held .ensures) (c .before .before .before .before .before .before .before .before .before .before .if1 .left)) (on _ _ _ (is-yes _ _ (c .before .before .before .before .before .before .before .before .before .net-held .ensures) (c .before .before .before .before .before .before .before .before .if2 .left)) (on _ _ _ (is-yes _ _ (c .before .before .before .before .before .before .before .names-held .ensures) (c .before .before .before .before .before .before .if3 .left)) (on _ _ _ (is-yes _ _ (c .before .before .before .before .before .tills-held .ensures) (c .before .before .before .before .if4 .left)) (on _ _ _ (is-yes _ _ (c .before .before .before .words-held .ensures) (c .before .before .if5 .left)) (off _ _ (is-no _ _ (c .before .keys-held .ensures) (c .if6 .taken)))))))
 
--- src/lib.rt:38:9
 prices-held-requires : tie.Need-prices-held-requires
 prices-held-requires c κs = (is-yes _ _ (c .before .before .before .before .before .before .before .before .before .before .before .setup-held .ensures) (c .before .before .before .before .before .before .before .before .before .before .if1 .left))
 
--- src/lib.rt:39:9
 returns-7 : tie.Need-returns-7
 unfolding acceptLent
 returns-7 c = on _ _ _ (is-yes _ _ (c .before .before .before .before .before .before .before .before .before .before .before .before .before .setup-held .ensures) (c .before .before .before .before .before .before .before .before .before .before .before .before .if1 .left)) (on _ _ _ (is-yes _ _ (c .before .before .before .before .before .before .before .before .before .before .before .net-held .ensures) (c .before .before .before .before .before .before .before .before .before .before .if2 .left)) (on _ _ _ (is-yes _ _ (c .before .before .before .before .before .before .before .before .before .names-held .ensures) (c .before .before .before .before .before .before .before .before .if3 .left)) (on _ _ _ (is-yes _ _ (c .before .before .before .before .before .before .before .tills-held .ensures) (c .before .before .before .before .before .before .if4 .left)) (on _ _ _ (is-yes _ _ (c .before .before .before .before .before .words-held .ensures) (c .before .before .before .before .if5 .left)) (on _ _ _ (is-yes _ _ (c .before .before .before .keys-held .ensures) (c .before .before .if6 .left)) (off _ _ (is-no _ _ (c .before .prices-held .ensures) (c .if7 .taken))))))))
 
--- src/lib.rt:41:9
 seen-held-requires : tie.Need-seen-held-requires
 seen-held-requires c κs = (is-yes _ _ (c .before .before .before .before .before .before .before .before .before .before .before .before .before .setup-held .ensures) (c .before .before .before .before .before .before .before .before .before .before .before .before .if1 .left))
 
--- src/lib.rt:42:9
 returns-8 : tie.Need-returns-8
 unfolding acceptLent
 returns-8 c = on _ _ _ (is-yes _ _ (c .before .before .before .before .before .before .before .before .before .before .before .before .before .before .before .setup-held .ensures) (c .before .before .before .before .before .before .before .before .before .before .before .before .before .before .if1 .left)) (on _ _ _ (is-yes _ _ (c .before .before .before .before .before .before .before .before .before .before .before .before .before .net-held .ensures) (c .before .before .before .before .before .before .before .before .before .before .before .before .if2 .left)) (on _ _ _ (is-yes _ _ (c .before .before .before .before .before .before .before .before .before .before .before .names-held .ensures) (c .before .before .before .before .before .before .before .before .before .before .if3 .left)) (on _ _ _ (is-yes _ _ (c .before .before .before .before .before .before .before .before .before .tills-held .ensures) (c .before .before .before .before .before .before .before .before .if4 .left)) (on _ _ _ (is-yes _ _ (c .before .before .before .before .before .before .before .words-held .ensures) (c .before .before .before .before .before .before .if5 .left)) (on _ _ _ (is-yes _ _ (c .before .before .before .before .before .keys-held .ensures) (c .before .before .before .before .if6 .left)) (on _ _ _ (is-yes _ _ (c .before .before .before .prices-held .ensures) (c .before .before .if7 .left)) (off _ _ (is-no _ _ (c .before .seen-held .ensures) (c .if8 .taken)))))))))
 
--- src/lib.rt:44:9
 waiting-held-requires : tie.Need-waiting-held-requires
 waiting-held-requires c κs = ((is-yes _ _ (c .before .before .before .before .before .before .before .before .before .before .before .before .before .before .before .setup-held .ensures) (c .before .before .before .before .before .before .before .before .before .before .before .before .before .before .if1 .left)), (is-yes _ _ (c .before .before .before .before .before .before .before .before .before .before .before .before .before .net-held .ensures) (c .before .before .before .before .before .before .before .before .before .before .before .before .if2 .left)))
 
--- src/lib.rt:45:9
 returns-9 : tie.Need-returns-9
 unfolding acceptLent
 returns-9 c = on _ _ _ (is-yes _ _ (c .before .before .before .before .before .before .before .before .before .before .before .before .before .before .before .before .before .setup-held .ensures) (c .before .before .before .before .before .before .before .before .before .before .before .before .before .before .before .before .if1 .left)) (on _ _ _ (is-yes _ _ (c .before .before .before .before .before .before .before .before .before .before .before .before .before .before .before .net-held .ensures) (c .before .before .before .before .before .before .before .before .before .before .before .before .before .before .if2 .left)) (on _ _ _ (is-yes _ _ (c .before .before .before .before .before .before .before .before .before .before .before .before .before .names-held .ensures) (c .before .before .before .before .before .before .before .before .before .before .before .before .if3 .left)) (on _ _ _ (is-yes _ _ (c .before .before .before .before .before .before .before .before .before .before .before .tills-held .ensures) (c .before .before .before .before .before .before .before .before .before .before .if4 .left)) (on _ _ _ (is-yes _ _ (c .before .before .before .before .before .before .before .before .before .words-held .ensures) (c .before .before .before .before .before .before .before .before .if5 .left)) (on _ _ _ (is-yes _ _ (c .before .before .before .before .before .before .before .keys-held .ensures) (c .before .before .before .before .before .before .if6 .left)) (on _ _ _ (is-yes _ _ (c .before .before .before .before .before .prices-held .ensures) (c .before .before .before .before .if7 .left)) (on _ _ _ (is-yes _ _ (c .before .before .before .seen-held .ensures) (c .before .before .if8 .left)) (off _ _ (is-no _ _ (c .before .waiting-held .ensures) (c .if9 .taken))))))))))
 
--- src/lib.rt:47:9
 rings-held-requires : tie.Need-rings-held-requires
 rings-held-requires c κs = (is-yes _ _ (c .before .before .before .before .before .before .before .before .before .before .before .before .before .before .before .before .before .setup-held .ensures) (c .before .before .before .before .before .before .before .before .before .before .before .before .before .before .before .before .if1 .left))
 
--- src/lib.rt:48:9
 returns-10 : tie.Need-returns-10
 unfolding acceptLent
 returns-10 c = on _ _ _ (is-yes _ _ (c .before .before .before .before .before .before .before .before .before .before .before .before .before .before .before .before .before .before .before .setup-held .ensures) (c .before .before .before .before .before .before .before .before .before .before .before .before .before .before .before .before .before .before .if1 .left)) (on _ _ _ (is-yes _ _ (c .before .before .before .before .before .before .before .before .before .before .before .before .before .before .before .before .before .net-held .ensures) (c .before .before .before .before .before .before .before .before .before .before .before .before .before .before .before .before .if2 .left)) (on _ _ _ (is-yes _ _ (c .before .before .before .before .before .before .before .before .before .before .before .before .before .before .before .names-held .ensures) (c .before .before .before .before .before .before .before .before .before .before .before .before .before .before .if3 .left)) (on _ _ _ (is-yes _ _ (c .before .before .before .before .before .before .before .before .before .before .before .before .before .tills-held .ensures) (c .before .before .before .before .before .before .before .before .before .before .before .before .if4 .left)) (on _ _ _ (is-yes _ _ (c .before .before .before .before .before .before .before .before .before .before .before .words-held .ensures) (c .before .before .before .before .before .before .before .before .before .before .if5 .left)) (on _ _ _ (is-yes _ _ (c .before .before .before .before .before .before .before .before .before .keys-held .ensures) (c .before .before .before .before .before .before .before .before .if6 .left)) (on _ _ _ (is-yes _ _ (c .before .before .before .before .before .before .before .prices-held .ensures) (c .before .before .before .before .before .before .if7 .left)) (on _ _ _ (is-yes _ _ (c .before .before .before .before .before .seen-held .ensures) (c .before .before .before .before .if8 .left)) (on _ _ _ (is-yes _ _ (c .before .before .before .waiting-held .ensures) (c .before .before .if9 .left)) (off _ _ (is-no _ _ (c .before .rings-held .ensures) (c .if10 .taken)))))))))))
 
--- src/lib.rt:50:9
 rules-held-requires : tie.Need-rules-held-requires
 rules-held-requires c κs = search needs
 
--- src/lib.rt:51:9
 returns-11 : tie.Need-returns-11
 unfolding acceptLent
 returns-11 c = on _ _ _ (is-yes _ _ (c .before .before .before .before .before .before .before .before .before .before .before .before .before .before .before .before .before .before .before .before .before .setup-held .ensures) (c .before .before .before .before .before .before .before .before .before .before .before .before .before .before .before .before .before .before .before .before .if1 .left)) (on _ _ _ (is-yes _ _ (c .before .before .before .before .before .before .before .before .before .before .before .before .before .before .before .before .before .before .before .net-held .ensures) (c .before .before .before .before .before .before .before .before .before .before .before .before .before .before .before .before .before .before .if2 .left)) (on _ _ _ (is-yes _ _ (c .before .before .before .before .before .before .before .before .before .before .before .before .before .before .before .before .before .names-held .ensures) (c .before .before .before .before .before .before .before .before .before .before .before .before .before .before .before .before .if3 .left)) (on _ _ _ (is-yes _ _ (c .before .before .before .before .before .before .before .before .before .before .before .before .before .before .before .tills-held .ensures) (c .before .before .before .before .before .before .before .before .before .before .before .before .before .before .if4 .left)) (on _ _ _ (is-yes _ _ (c .before .before .before .before .before .before .before .before .before .before .before .before .before .words-held .ensures) (c .before .before .before .before .before .before .before .before .before .before .before .before .if5 .left)) (on _ _ _ (is-yes _ _ (c .before .before .before .before .before .before .before .before .before .before .before .keys-held .ensures) (c .before .before .before .before .before .before .before .before .before .before .if6 .left)) (on _ _ _ (is-yes _ _ (c .before .before .before .before .before .before .before .before .before .prices-held .ensures) (c .before .before .before .before .before .before .before .before .if7 .left)) (on _ _ _ (is-yes _ _ (c .before .before .before .before .before .before .before .seen-held .ensures) (c .before .before .before .before .before .before .if8 .left)) (on _ _ _ (is-yes _ _ (c .before .before .before .before .before .waiting-held .ensures) (c .before .before .before .before .if9 .left)) (on _ _ _ (is-yes _ _ (c .before .before .before .rings-held .ensures) (c .before .before .if10 .left)) (off _ _ (is-no _ _ (c .before .rules-held .ensures) (c .if11 .taken))))))))))))
 
--- src/lib.rt:53:5
 blocks-held-requires : tie.Need-blocks-held-requires
 blocks-held-requires c κs = ((is-yes _ _ (c .before .before .before .before .before .before .before .before .before .before .before .before .before .before .before .before .before .before .before .before .before .setup-held .ensures) (c .before .before .before .before .before .before .before .before .before .before .before .before .before .before .before .before .before .before .before .before .if1 .left)), (is-yes _ _ (c .before .before .before .before .before .before .before .before .before .before .before .before .before .before .before .before .before .before .before .net-held .ensures) (c .before .before .before .before .before .before .before .before .before .before .before .before .before .before .before .before .before .before .if2 .left)))
 
--- src/lib.rt:17:1
 returns-12 : tie.Need-returns-12
 unfolding acceptLent
 returns-12 c = on _ _ _ (is-yes _ _ (c .before .before .before .before .before .before .before .before .before .before .before .before .before .before .before .before .before .before .before .before .before .before .setup-held .ensures) (c .before .before .before .before .before .before .before .before .before .before .before .before .before .before .before .before .before .before .before .before .before .if1 .left)) (on _ _ _ (is-yes _ _ (c .before .before .before .before .before .before .before .before .before .before .before .before .before .before .before .before .before .before .before .before .net-held .ensures) (c .before .before .before .before .before .before .before .before .before .before .before .before .before .before .before .before .before .before .before .if2 .left)) (on _ _ _ (is-yes _ _ (c .before .before .before .before .before .before .before .before .before .before .before .before .before .before .before .before .before .before .names-held .ensures) (c .before .before .before .before .before .before .before .before .before .before .before .before .before .before .before .before .before .if3 .left)) (on _ _ _ (is-yes _ _ (c .before .before .before .before .before .before .before .before .before .before .before .before .before .before .before .before .tills-held .ensures) (c .before .before .before .before .before .before .before .before .before .before .before .before .before .before .before .if4 .left)) (on _ _ _ (is-yes _ _ (c .before .before .before .before .before .before .before .before .before .before .before .before .before .before .words-held .ensures) (c .before .before .before .before .before .before .before .before .before .before .before .before .before .if5 .left)) (on _ _ _ (is-yes _ _ (c .before .before .before .before .before .before .before .before .before .before .before .before .keys-held .ensures) (c .before .before .before .before .before .before .before .before .before .before .before .if6 .left)) (on _ _ _ (is-yes _ _ (c .before .before .before .before .before .before .before .before .before .before .prices-held .ensures) (c .before .before .before .before .before .before .before .before .before .if7 .left)) (on _ _ _ (is-yes _ _ (c .before .before .before .before .before .before .before .before .seen-held .ensures) (c .before .before .before .before .before .before .before .if8 .left)) (on _ _ _ (is-yes _ _ (c .before .before .before .before .before .before .waiting-held .ensures) (c .before .before .before .before .before .if9 .left)) (on _ _ _ (is-yes _ _ (c .before .before .before .before .rings-held .ensures) (c .before .before .before .if10 .left)) (on _ _ _ (is-yes _ _ (c .before .before .rules-held .ensures) (c .before .if11 .left)) (last _ _ (c .blocks-held .ensures))))))))))))

@@ -10,9 +10,6 @@ use Rattle.recipients.specs.Turning.{left}
 use Rattle.network.specs.Tables.{sizesAt}
 use Rattle.accept_questions.proofs.links_fresh.Statement.{statement}
 use Rattle.accept_questions.proofs.links_fresh.Tie as tie
-use Rattle.accept_questions.proofs.links_fresh.Reads as reads
-use Rattle.accept_questions.proofs.links_fresh.Lts as lts
-use Rattle.accept_questions.proofs.link_fresh.Reads as link-fresh-reads
 
 abbrev Inv-loop : tie.InvT-loop
 Inv-loop setup tills words m n to₀ to = (to ≤ n) × (allOf (freshAt words m) (left setup tills m 0) ≡ allOf (freshAt words m) (left setup tills m to))
@@ -20,35 +17,27 @@ Inv-loop setup tills words m n to₀ to = (to ≤ n) × (allOf (freshAt words m)
 abbrev μ-loop : tie.MeasureT-loop
 μ-loop setup tills words m n to₀ to = n - to
 
--- src/lib.rt:108:13
 shared-slice-read-n : tie.Need-shared-slice-read-n Inv-loop μ-loop
 shared-slice-read-n c = omega (arith, c .before .before .before .before .pre .0 .setupSize)
 
--- src/lib.rt:110:5
 loop-holds : tie.Need-loop-holds Inv-loop μ-loop
 loop-holds c = (omega arith, refl)
 
--- src/lib.rt:111:13
 link-fresh-requires : tie.Need-link-fresh-requires Inv-loop μ-loop
 link-fresh-requires c κs = (c .before .before .before .before .before .before .pre .0, c .before .before .before .before .before .before .pre .1, omega (arith, c .loop-test .taken))
 
--- src/lib.rt:112:13
 returns : tie.Need-returns Inv-loop μ-loop
 returns c = scan-off (λ t. selectsAt (c .before .before .before .before .before .before .before .before .args .tills .now) (c .before .before .before .before .before .before .before .before .args .m .scope) (c .before .before .before .before .before .before .before .before .args .m .from) t) (freshAt (c .before .before .before .before .before .before .before .before .args .words .now) (c .before .before .before .before .before .before .before .before .args .m)) (sizesAt (c .before .before .before .before .before .before .before .before .args .setup .now) .tills) (c .before .before .before .loop .to) (c .before .link-fresh .result) (omega (arith, c .before .before .loop-test .taken)) (c .before .link-fresh .ensures) (not-true _ (c .if1 .taken)) ∙ sym (c .before .before .before .loop .inv .1)
 
--- src/lib.rt:114:9
 add-to : tie.Need-add-to Inv-loop μ-loop
 add-to c = omega (arith, c .before .before .loop-test .taken, c .before .before .before .before .before .before .before .before .pre .0 .few)
 
--- src/lib.rt:110:5
 loop-less : tie.Need-loop-less Inv-loop μ-loop
 loop-less c = omega (arith, c .before .before .loop-test .taken)
 
--- src/lib.rt:110:5
 loop-again : tie.Need-loop-again Inv-loop μ-loop
 loop-again c = (omega (arith, c .before .before .loop-test .taken), c .before .before .before .loop .inv .1 ∙ scan-on (λ t. selectsAt (c .before .before .before .before .before .before .before .before .args .tills .now) (c .before .before .before .before .before .before .before .before .args .m .scope) (c .before .before .before .before .before .before .before .before .args .m .from) t) (freshAt (c .before .before .before .before .before .before .before .before .args .words .now) (c .before .before .before .before .before .before .before .before .args .m)) (sizesAt (c .before .before .before .before .before .before .before .before .args .setup .now) .tills) (c .before .before .before .loop .to) (c .before .link-fresh .result) (omega (arith, c .before .before .loop-test .taken)) (c .before .link-fresh .ensures) (not-false _ (c .if1 .left)))
 
--- src/lib.rt:104:1
 returns-2 : tie.Need-returns-2 Inv-loop μ-loop
 returns-2 c = scan-end (λ t. selectsAt (c .before .before .before .before .before .before .args .tills .now) (c .before .before .before .before .before .before .args .m .scope) (c .before .before .before .before .before .before .args .m .from) t) (freshAt (c .before .before .before .before .before .before .args .words .now) (c .before .before .before .before .before .before .args .m)) (sizesAt (c .before .before .before .before .before .before .args .setup .now) .tills) (c .before .loop .to) (omega (arith, c .loop-test .left)) ∙ sym (c .before .loop .inv .1)
 

@@ -2,18 +2,13 @@ use Rattle.accept_questions.proofs.Ways.{scope-global, scope-shard}
 use borrow.Author.Needs.{needs}
 use Rattle.accept_questions.proofs.scope_exists.Statement.{statement}
 use Rattle.accept_questions.proofs.scope_exists.Tie as tie
-use Rattle.accept_questions.proofs.scope_exists.Reads as reads
-use Rattle.accept_questions.proofs.scope_exists.Lts as lts
 
--- src/lib.rt:62:9
 returns : tie.Need-returns
 returns c = scope-global (c .before .args .setup .now) (c .before .args .scope) (c .if1 .taken)
 
--- src/lib.rt:64:13
 shared-slice-read-result : tie.Need-shared-slice-read-result
 shared-slice-read-result c = search needs
 
--- src/lib.rt:57:1
 returns-2 : tie.Need-returns-2
 returns-2 c = scope-shard (c .before .before .args .setup .now) (c .before .before .args .scope) (c .before .if1 .left)
 

@@ -10,9 +10,6 @@ use Rattle.recipients.specs.Turning.{left}
 use Rattle.network.specs.Tables.{sizesAt}
 use Rattle.accept_questions.proofs.slots_free.Statement.{statement}
 use Rattle.accept_questions.proofs.slots_free.Tie as tie
-use Rattle.accept_questions.proofs.slots_free.Reads as reads
-use Rattle.accept_questions.proofs.slots_free.Lts as lts
-use Rattle.accept_questions.proofs.slot_free.Reads as slot-free-reads
 
 abbrev Inv-loop : tie.InvT-loop
 Inv-loop setup tills seen m n to₀ to = (to ≤ n) × (allOf (freeAt setup seen m) (left setup tills m 0) ≡ allOf (freeAt setup seen m) (left setup tills m to))
@@ -20,35 +17,27 @@ Inv-loop setup tills seen m n to₀ to = (to ≤ n) × (allOf (freeAt setup seen
 abbrev μ-loop : tie.MeasureT-loop
 μ-loop setup tills seen m n to₀ to = n - to
 
--- src/lib.rt:137:13
 shared-slice-read-n : tie.Need-shared-slice-read-n Inv-loop μ-loop
 shared-slice-read-n c = omega (arith, c .before .before .before .before .pre .0 .setupSize)
 
--- src/lib.rt:139:5
 loop-holds : tie.Need-loop-holds Inv-loop μ-loop
 loop-holds c = (omega arith, refl)
 
--- src/lib.rt:140:13
 slot-free-requires : tie.Need-slot-free-requires Inv-loop μ-loop
 slot-free-requires c κs = (c .before .before .before .before .before .before .pre .0, c .before .before .before .before .before .before .pre .1, omega (arith, c .loop-test .taken))
 
--- src/lib.rt:141:13
 returns : tie.Need-returns Inv-loop μ-loop
 returns c = scan-off (λ t. selectsAt (c .before .before .before .before .before .before .before .before .args .tills .now) (c .before .before .before .before .before .before .before .before .args .m .scope) (c .before .before .before .before .before .before .before .before .args .m .from) t) (freeAt (c .before .before .before .before .before .before .before .before .args .setup .now) (c .before .before .before .before .before .before .before .before .args .seen .now) (c .before .before .before .before .before .before .before .before .args .m)) (sizesAt (c .before .before .before .before .before .before .before .before .args .setup .now) .tills) (c .before .before .before .loop .to) (c .before .slot-free .result) (omega (arith, c .before .before .loop-test .taken)) (c .before .slot-free .ensures) (not-true _ (c .if1 .taken)) ∙ sym (c .before .before .before .loop .inv .1)
 
--- src/lib.rt:143:9
 add-to : tie.Need-add-to Inv-loop μ-loop
 add-to c = omega (arith, c .before .before .loop-test .taken, c .before .before .before .before .before .before .before .before .pre .0 .few)
 
--- src/lib.rt:139:5
 loop-less : tie.Need-loop-less Inv-loop μ-loop
 loop-less c = omega (arith, c .before .before .loop-test .taken)
 
--- src/lib.rt:139:5
 loop-again : tie.Need-loop-again Inv-loop μ-loop
 loop-again c = (omega (arith, c .before .before .loop-test .taken), c .before .before .before .loop .inv .1 ∙ scan-on (λ t. selectsAt (c .before .before .before .before .before .before .before .before .args .tills .now) (c .before .before .before .before .before .before .before .before .args .m .scope) (c .before .before .before .before .before .before .before .before .args .m .from) t) (freeAt (c .before .before .before .before .before .before .before .before .args .setup .now) (c .before .before .before .before .before .before .before .before .args .seen .now) (c .before .before .before .before .before .before .before .before .args .m)) (sizesAt (c .before .before .before .before .before .before .before .before .args .setup .now) .tills) (c .before .before .before .loop .to) (c .before .slot-free .result) (omega (arith, c .before .before .loop-test .taken)) (c .before .slot-free .ensures) (not-false _ (c .if1 .left)))
 
--- src/lib.rt:133:1
 returns-2 : tie.Need-returns-2 Inv-loop μ-loop
 returns-2 c = scan-end (λ t. selectsAt (c .before .before .before .before .before .before .args .tills .now) (c .before .before .before .before .before .before .args .m .scope) (c .before .before .before .before .before .before .args .m .from) t) (freeAt (c .before .before .before .before .before .before .args .setup .now) (c .before .before .before .before .before .before .args .seen .now) (c .before .before .before .before .before .before .args .m)) (sizesAt (c .before .before .before .before .before .before .args .setup .now) .tills) (c .before .loop .to) (omega (arith, c .loop-test .left)) ∙ sym (c .before .loop .inv .1)
 

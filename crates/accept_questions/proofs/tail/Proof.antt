@@ -4,81 +4,58 @@ use native.Mathlib.Omega.{arith}
 use borrow.Author.Needs.{needs}
 use Rattle.accept_questions.proofs.tail.Statement.{statement}
 use Rattle.accept_questions.proofs.tail.Tie as tie
-use Rattle.accept_questions.proofs.tail.Reads as reads
-use Rattle.accept_questions.proofs.tail.Lts as lts
-use Rattle.accept_questions.proofs.links_fresh.Reads as links-fresh-reads
-use Rattle.accept_questions.proofs.selected.Reads as selected-reads
-use Rattle.accept_questions.proofs.slots_free.Reads as slots-free-reads
 
--- src/lib.rt:179:25
 shared-slice-read-if1 : tie.Need-shared-slice-read-if1
 shared-slice-read-if1 c = search needs
 
--- src/lib.rt:180:9
 returns : tie.Need-returns
-returns c = old-fault (c .before .before .before .before .before .before .before .args .setup .now) (c .before .before .before .before .before .before .before .args .net .now) (c .before .before .before .before .before .before .before .args .tills .now) (c .before .before .before .before .before .before .before .args .words .now) (c .before .before .before .before .before .before .before .args .seen .now) (c .before .before .before .before .before .before .before .args .m) (c .if1 .taken)
+returns c = let a = c .before .before .before .before .before .before .before .args in old-fault (a .setup .now) (a .net .now) (a .tills .now) (a .words .now) (a .seen .now) (a .m) (c .if1 .taken)
 
--- src/lib.rt:182:9
 links-fresh-requires : tie.Need-links-fresh-requires
 links-fresh-requires c κs = search needs
 
--- src/lib.rt:183:9
 returns-2 : tie.Need-returns-2
-returns-2 c = old-link (c .before .before .before .before .before .before .before .before .before .args .setup .now) (c .before .before .before .before .before .before .before .before .before .args .net .now) (c .before .before .before .before .before .before .before .before .before .args .tills .now) (c .before .before .before .before .before .before .before .before .before .args .words .now) (c .before .before .before .before .before .before .before .before .before .args .seen .now) (c .before .before .before .before .before .before .before .before .before .args .m) (c .before .before .if1 .left) (is-no _ _ (c .before .links-fresh .ensures) (c .if2 .taken))
+returns-2 c = let a = c .before .before .before .before .before .before .before .before .before .args in old-link (a .setup .now) (a .net .now) (a .tills .now) (a .words .now) (a .seen .now) (a .m) (c .before .before .if1 .left) (is-no _ _ (c .before .links-fresh .ensures) (c .if2 .taken))
 
--- src/lib.rt:185:20
 selected-requires : tie.Need-selected-requires
 selected-requires c κs = search needs
 
--- src/lib.rt:185:16
 mul-more : tie.Need-mul-more
 mul-more c = search needs
 
--- src/lib.rt:186:8
 sub-if3 : tie.Need-sub-if3
 sub-if3 c = search needs
 
--- src/lib.rt:186:28
 shared-slice-read-if3 : tie.Need-shared-slice-read-if3
 shared-slice-read-if3 c = search needs
 
--- src/lib.rt:187:9
 returns-3 : tie.Need-returns-3
 returns-3 c = no-number (c .before .before .before .before .before .before .before .before .before .before .before .before .args .setup .now) (c .before .before .before .before .before .before .before .before .before .before .before .before .args .net .now) (c .before .before .before .before .before .before .before .before .before .before .before .before .args .tills .now) (c .before .before .before .before .before .before .before .before .before .before .before .before .args .words .now) (c .before .before .before .before .before .before .before .before .before .before .before .before .args .seen .now) (c .before .before .before .before .before .before .before .before .before .before .before .before .args .m) (c .before .before .before .before .before .if1 .left) (is-yes _ _ (c .before .before .before .before .links-fresh .ensures) (c .before .before .before .if2 .left)) (omega (arith, c .before .before .selected .ensures .0, c .before .before .selected .ensures .1, c .if3 .taken))
 
--- src/lib.rt:189:9
 slots-free-requires : tie.Need-slots-free-requires
 slots-free-requires c κs = search needs
 
--- src/lib.rt:190:9
 returns-4 : tie.Need-returns-4
 returns-4 c = no-mark (c .before .before .before .before .before .before .before .before .before .before .before .before .before .before .args .setup .now) (c .before .before .before .before .before .before .before .before .before .before .before .before .before .before .args .net .now) (c .before .before .before .before .before .before .before .before .before .before .before .before .before .before .args .tills .now) (c .before .before .before .before .before .before .before .before .before .before .before .before .before .before .args .words .now) (c .before .before .before .before .before .before .before .before .before .before .before .before .before .before .args .seen .now) (c .before .before .before .before .before .before .before .before .before .before .before .before .before .before .args .m) (c .before .before .before .before .before .before .before .if1 .left) (is-yes _ _ (c .before .before .before .before .before .before .links-fresh .ensures) (c .before .before .before .before .before .if2 .left)) (omega (arith, c .before .before .before .before .selected .ensures .0, c .before .before .before .before .selected .ensures .1, c .before .before .if3 .left)) (is-no _ _ (c .before .slots-free .ensures) (c .if4 .taken))
 
--- src/lib.rt:192:8
 shared-slice-read-if5 : tie.Need-shared-slice-read-if5
 shared-slice-read-if5 c = search needs
 
--- src/lib.rt:193:9
 returns-5 : tie.Need-returns-5
 returns-5 c = no-room (c .before .before .before .before .before .before .before .before .before .before .before .before .before .before .before .before .args .setup .now) (c .before .before .before .before .before .before .before .before .before .before .before .before .before .before .before .before .args .net .now) (c .before .before .before .before .before .before .before .before .before .before .before .before .before .before .before .before .args .tills .now) (c .before .before .before .before .before .before .before .before .before .before .before .before .before .before .before .before .args .words .now) (c .before .before .before .before .before .before .before .before .before .before .before .before .before .before .before .before .args .seen .now) (c .before .before .before .before .before .before .before .before .before .before .before .before .before .before .before .before .args .m) (c .before .before .before .before .before .before .before .before .before .if1 .left) (is-yes _ _ (c .before .before .before .before .before .before .before .before .links-fresh .ensures) (c .before .before .before .before .before .before .before .if2 .left)) (omega (arith, c .before .before .before .before .before .before .selected .ensures .0, c .before .before .before .before .before .before .selected .ensures .1, c .before .before .before .before .if3 .left)) (is-yes _ _ (c .before .before .before .slots-free .ensures) (c .before .before .if4 .left)) (omega (arith, c .before .before .before .before .before .before .selected .ensures .0, c .if5 .taken))
 
--- src/lib.rt:195:8
 shared-slice-read-if6 : tie.Need-shared-slice-read-if6
 shared-slice-read-if6 c = search needs
 
--- src/lib.rt:195:8
 sub-if6 : tie.Need-sub-if6
 sub-if6 c = search needs
 
--- src/lib.rt:195:41
 shared-slice-read-if6-2 : tie.Need-shared-slice-read-if6-2
 shared-slice-read-if6-2 c = search needs
 
--- src/lib.rt:196:9
 returns-6 : tie.Need-returns-6
 returns-6 c = no-room (c .before .before .before .before .before .before .before .before .before .before .before .before .before .before .before .before .before .before .before .args .setup .now) (c .before .before .before .before .before .before .before .before .before .before .before .before .before .before .before .before .before .before .before .args .net .now) (c .before .before .before .before .before .before .before .before .before .before .before .before .before .before .before .before .before .before .before .args .tills .now) (c .before .before .before .before .before .before .before .before .before .before .before .before .before .before .before .before .before .before .before .args .words .now) (c .before .before .before .before .before .before .before .before .before .before .before .before .before .before .before .before .before .before .before .args .seen .now) (c .before .before .before .before .before .before .before .before .before .before .before .before .before .before .before .before .before .before .before .args .m) (c .before .before .before .before .before .before .before .before .before .before .before .before .if1 .left) (is-yes _ _ (c .before .before .before .before .before .before .before .before .before .before .before .links-fresh .ensures) (c .before .before .before .before .before .before .before .before .before .before .if2 .left)) (omega (arith, c .before .before .before .before .before .before .before .before .before .selected .ensures .0, c .before .before .before .before .before .before .before .before .before .selected .ensures .1, c .before .before .before .before .before .before .before .if3 .left)) (is-yes _ _ (c .before .before .before .before .before .before .slots-free .ensures) (c .before .before .before .before .before .if4 .left)) (omega (arith, c .before .before .before .before .before .before .before .before .before .selected .ensures .0, c .before .before .before .if5 .left, c .if6 .taken))
 
--- src/lib.rt:175:1
 returns-7 : tie.Need-returns-7
 returns-7 c = all-fit (c .before .before .before .before .before .before .before .before .before .before .before .before .before .before .before .before .before .before .before .args .setup .now) (c .before .before .before .before .before .before .before .before .before .before .before .before .before .before .before .before .before .before .before .args .net .now) (c .before .before .before .before .before .before .before .before .before .before .before .before .before .before .before .before .before .before .before .args .tills .now) (c .before .before .before .before .before .before .before .before .before .before .before .before .before .before .before .before .before .before .before .args .words .now) (c .before .before .before .before .before .before .before .before .before .before .before .before .before .before .before .before .before .before .before .args .seen .now) (c .before .before .before .before .before .before .before .before .before .before .before .before .before .before .before .before .before .before .before .args .m) (c .before .before .before .before .before .before .before .before .before .before .before .before .if1 .left) (is-yes _ _ (c .before .before .before .before .before .before .before .before .before .before .before .links-fresh .ensures) (c .before .before .before .before .before .before .before .before .before .before .if2 .left)) (omega (arith, c .before .before .before .before .before .before .before .before .before .selected .ensures .0, c .before .before .before .before .before .before .before .before .before .selected .ensures .1, c .before .before .before .before .before .before .before .if3 .left)) (is-yes _ _ (c .before .before .before .before .before .before .slots-free .ensures) (c .before .before .before .before .before .if4 .left)) (omega (arith, c .before .before .before .before .before .before .before .before .before .selected .ensures .0, c .before .before .before .if5 .left, c .if6 .left))
 

@@ -15,7 +15,7 @@ same-length-2 : tie.Need-same-length-2
 same-length-2 c = search needs
 
 returns : tie.Need-returns
-returns c = block-refused (c .before .before .before .before .before .before .before .args .setup .now) (c .before .before .before .before .before .before .before .args .net .now) (c .before .before .before .before .before .before .before .args .blocks .now) (c .before .before .before .before .before .before .before .args .from) (c .before .before .before .before .before .before .before .args .to) _ (c .before .block-refusal .ensures) (c .if1 .taken)
+returns c = let a = c .before .before .before .before .before .before .before .args in block-refused (a .setup .now) (a .net .now) (a .blocks .now) (a .from) (a .to) _ (c .before .block-refusal .ensures) (c .if1 .taken)
 
 slice-read-n : tie.Need-slice-read-n
 slice-read-n c = let p = passed _ _ _ _ _ _ (sym (c .before .before .block-refusal .ensures) ∙ c .before .if1 .left) .0 in omega (arith, p .net)
@@ -36,7 +36,7 @@ same-length-4 : tie.Need-same-length-4
 same-length-4 c = search needs
 
 returns-2 : tie.Need-returns-2
-returns-2 c = block-done (c .before .before .before .before .before .before .before .before .before .before .before .before .args .setup .now) (c .before .before .before .before .before .before .before .before .before .before .before .before .args .net .now) (c .before .before .before .before .before .before .before .before .before .before .before .before .args .blocks .now) (c .before .before .before .before .before .before .before .before .before .before .before .before .args .from) (c .before .before .before .before .before .before .before .before .before .before .before .before .args .to) _ _ refl _ _ (c .before .before .before .before .before .before .block-refusal .ensures) (c .before .before .before .before .before .if1 .left) refl (c .before .before .block .ensures .1)
+returns-2 c = let a = c .before .before .before .before .before .before .before .before .before .before .before .before .args in block-done (a .setup .now) (a .net .now) (a .blocks .now) (a .from) (a .to) _ _ refl _ _ (c .before .before .before .before .before .before .block-refusal .ensures) (c .before .before .before .before .before .if1 .left) refl (c .before .before .block .ensures .1)
 
 pub block-spec : {M : Type 1} → statement M
 block-spec =

@@ -27,7 +27,7 @@ is-stopping-requires : tie.Need-is-stopping-requires Inv-loop μ-loop
 is-stopping-requires c κs = search needs
 
 returns : tie.Need-returns Inv-loop μ-loop
-returns c = blocked-here (c .before .before .before .before .before .before .args .from) (c .before .before .before .before .before .before .args .to) (c .before .before .before .before .before .before .args .at) (c .before .before .before .before .before .before .args .ws .now) (c .before .before .before .before .before .before .args .n) (c .before .before .before .before .loop .i) (c .before .before .before .loop-test .taken) _ _ (c .before .before .get .ensures) (c .before .is-stopping .ensures) (c .if1 .taken) ∙ sym (c .before .before .before .before .loop .inv .1)
+returns c = let a = c .before .before .before .before .before .before .args in blocked-here (a .from) (a .to) (a .at) (a .ws .now) (a .n) (c .before .before .before .before .loop .i) (c .before .before .before .loop-test .taken) _ _ (c .before .before .get .ensures) (c .before .is-stopping .ensures) (c .if1 .taken) ∙ sym (c .before .before .before .before .loop .inv .1)
 
 add-i : tie.Need-add-i Inv-loop μ-loop
 add-i c = omega arith

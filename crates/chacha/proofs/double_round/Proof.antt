@@ -3,43 +3,31 @@ use Rattle.chacha.specs.Words.{listOf}
 use borrow.Author.Needs.{needs}
 use Rattle.chacha.proofs.double_round.Statement.{statement}
 use Rattle.chacha.proofs.double_round.Tie as tie
-use Rattle.chacha.proofs.double_round.Reads as reads
-use Rattle.chacha.proofs.double_round.Lts as lts
-use Rattle.chacha.proofs.quarter.Reads as quarter-reads
 
--- src/lib.rt:60:9
 quarter-requires : tie.Need-quarter-requires
 quarter-requires c κs = search needs
 
--- src/lib.rt:66:9
 quarter-requires-2 : tie.Need-quarter-requires-2
 quarter-requires-2 c κs = search needs
 
--- src/lib.rt:72:9
 quarter-requires-3 : tie.Need-quarter-requires-3
 quarter-requires-3 c κs = search needs
 
--- src/lib.rt:78:9
 quarter-requires-4 : tie.Need-quarter-requires-4
 quarter-requires-4 c κs = search needs
 
--- src/lib.rt:84:9
 quarter-requires-5 : tie.Need-quarter-requires-5
 quarter-requires-5 c κs = search needs
 
--- src/lib.rt:90:9
 quarter-requires-6 : tie.Need-quarter-requires-6
 quarter-requires-6 c κs = search needs
 
--- src/lib.rt:96:9
 quarter-requires-7 : tie.Need-quarter-requires-7
 quarter-requires-7 c κs = search needs
 
--- src/lib.rt:102:9
 quarter-requires-8 : tie.Need-quarter-requires-8
 quarter-requires-8 c κs = search needs
 
--- src/lib.rt:57:1
 returns : tie.Need-returns
 unfolding listOf laid
 returns c = let v = c .before .before .before .before .before .before .before .before .args .v in

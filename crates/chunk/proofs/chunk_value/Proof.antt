@@ -8,13 +8,6 @@ use Rattle.chunk.proofs.Laws.{blocks-two, blocks-end, shorter}
 use borrow.Author.Needs.{needs}
 use Rattle.chunk.proofs.chunk_value.Statement.{statement}
 use Rattle.chunk.proofs.chunk_value.Tie as tie
-use Rattle.chunk.proofs.chunk_value.Reads as reads
-use Rattle.chunk.proofs.chunk_value.Lts as lts
-use Rattle.compress.proofs.compress.Reads as compress-reads
-use Rattle.parts.proofs.back.Reads as back-reads
-use Rattle.chunk.proofs.block_words.Reads as block-words-reads
-use Rattle.chunk.proofs.iv_words.Reads as iv-words-reads
-use Rattle.parts.proofs.less.Reads as less-reads
 
 abbrev Inv-loop : tie.InvT-loop
 Inv-loop head tail t e h₀ d₀ front₀ rest₀ h d front rest = (blocks ((length (front ++ rest) - 1) / 64) h (front ++ rest) t d e ≡ chunk (head ++ tail) t e) × ((length front + length rest ≤ 1024) × (d ≤ 1))
@@ -22,75 +15,58 @@ Inv-loop head tail t e h₀ d₀ front₀ rest₀ h d front rest = (blocks ((len
 abbrev μ-loop : tie.MeasureT-loop
 μ-loop head tail t e h₀ d₀ front₀ rest₀ h d front rest = length front + length rest
 
--- src/lib.rt:130:9
 iv-words-requires : tie.Need-iv-words-requires Inv-loop μ-loop
 iv-words-requires c κs = search needs
 
--- src/lib.rt:134:5
 loop-holds : tie.Need-loop-holds Inv-loop μ-loop
 unfolding chunk
 loop-holds c = let a = c .before .before .before .args in
     (ap (λ h. blocks ((length (a .head .now ++ a .tail .now) - 1) / 64) h (a .head .now ++ a .tail .now) (a .t) 1 (a .e)) (c .iv-words .ensures), omega arith)
 
--- src/lib.rt:134:16
 add-loop : tie.Need-add-loop Inv-loop μ-loop
 add-loop c = search needs
 
--- src/lib.rt:135:32
 block-words-requires : tie.Need-block-words-requires Inv-loop μ-loop
 block-words-requires c κs = search needs
 
--- src/lib.rt:135:13
 compress-requires : tie.Need-compress-requires Inv-loop μ-loop
 compress-requires c κs = search needs
 
--- src/lib.rt:138:13
 less-requires : tie.Need-less-requires Inv-loop μ-loop
 less-requires c κs = search needs
 
--- src/lib.rt:139:13
 back-requires : tie.Need-back-requires Inv-loop μ-loop
 back-requires c κs = search needs
 
--- src/lib.rt:141:13
 back-requires-2 : tie.Need-back-requires-2 Inv-loop μ-loop
 back-requires-2 c κs = search needs
 
--- src/lib.rt:134:5
 loop-less : tie.Need-loop-less Inv-loop μ-loop
 loop-less c = omega (arith, shorter (c .before .before .before .before .before .before .loop .front .now) (c .before .before .before .before .before .before .loop .rest .now) (c .before .before .less .result) (c .before .before .less .ensures) (c .before .back .ensures) (c .back2 .ensures))
 
--- src/lib.rt:134:5
 loop-again : tie.Need-loop-again Inv-loop μ-loop
 loop-again c = let l = c .before .before .before .before .before .before .loop in
     let a = c .before .before .before .before .before .before .before .before .before .before .args in
     (blocks-two (l .h) (l .front .now) (l .rest .now) (a .t) (l .d) (a .e) (c .before .before .less .result) (c .before .before .before .before .before .loop-test .taken) (c .before .before .less .ensures) (c .before .back .ensures) (c .back2 .ensures) (c .before .before .before .before .block-words .ensures) (c .before .before .before .compress .ensures) ∙ l .inv .0, omega (arith, shorter (l .front .now) (l .rest .now) (c .before .before .less .result) (c .before .before .less .ensures) (c .before .back .ensures) (c .back2 .ensures)))
 
--- src/lib.rt:144:14
 add-n : tie.Need-add-n Inv-loop μ-loop
 add-n c = search needs
 
--- src/lib.rt:144:13
 cast-n : tie.Need-cast-n Inv-loop μ-loop
 cast-n c = search needs
 
--- src/lib.rt:145:17
 block-words-requires-2 : tie.Need-block-words-requires-2 Inv-loop μ-loop
 block-words-requires-2 c κs = search needs
 
--- src/lib.rt:145:49
 add-compress : tie.Need-add-compress Inv-loop μ-loop
 add-compress c = search needs
 
--- src/lib.rt:145:49
 add-compress-2 : tie.Need-add-compress-2 Inv-loop μ-loop
 add-compress-2 c = search needs
 
--- src/lib.rt:145:5
 compress-requires-2 : tie.Need-compress-requires-2 Inv-loop μ-loop
 compress-requires-2 c κs = search needs
 
--- src/lib.rt:126:1
 returns : tie.Need-returns Inv-loop μ-loop
 returns c = let l = c .before .before .before .loop in
     let a = c .before .before .before .before .before .before .before .args in

@@ -2,13 +2,9 @@ use mathlib.Core.Path.{_≡_, _∙_}
 use native.Mathlib.Omega.{arith}
 use borrow.Author.Needs.{needs}
 use Rattle.chunk.proofs.Copying.{Copied, copied-none, copied-turn, copied-placed}
-use lib.ListN.{length}
 use Prim.Native.Nat.{_≤_, _-_}
 use Rattle.chunk.proofs.copy_in.Statement.{statement}
 use Rattle.chunk.proofs.copy_in.Tie as tie
-use Rattle.chunk.proofs.copy_in.Reads as reads
-use Rattle.chunk.proofs.copy_in.Lts as lts
-use Rattle.chunk.proofs.least.Reads as least-reads
 
 abbrev Inv-loop : tie.InvT-loop
 Inv-loop p s n out₀ i₀ out i = (i ≤ n) × Copied out₀ p s i out
@@ -16,43 +12,33 @@ Inv-loop p s n out₀ i₀ out i = (i ≤ n) × Copied out₀ p s i out
 abbrev μ-loop : tie.MeasureT-loop
 μ-loop p s n out₀ i₀ out i = n - i
 
--- src/lib.rt:69:28
 sub-least : tie.Need-sub-least Inv-loop μ-loop
 sub-least c = search needs
 
--- src/lib.rt:69:9
 least-requires : tie.Need-least-requires Inv-loop μ-loop
 least-requires c κs = search needs
 
--- src/lib.rt:72:5
 loop-holds : tie.Need-loop-holds Inv-loop μ-loop
 loop-holds c = (omega arith, copied-none _ _ _ (search needs))
 
--- src/lib.rt:73:22
 shared-slice-read-out : tie.Need-shared-slice-read-out Inv-loop μ-loop
 shared-slice-read-out c = search needs
 
--- src/lib.rt:73:13
 add-out : tie.Need-add-out Inv-loop μ-loop
 add-out c = search needs
 
--- src/lib.rt:73:9
 array-write-out : tie.Need-array-write-out Inv-loop μ-loop
 array-write-out c = search needs
 
--- src/lib.rt:74:9
 add-i : tie.Need-add-i Inv-loop μ-loop
 add-i c = search needs
 
--- src/lib.rt:72:5
 loop-less : tie.Need-loop-less Inv-loop μ-loop
 loop-less c = search needs
 
--- src/lib.rt:72:5
 loop-again : tie.Need-loop-again Inv-loop μ-loop
 loop-again c = let l = c .before .before .loop in (omega arith, copied-turn _ _ _ (l .i) (l .out) (l .inv .1) (omega arith))
 
--- src/lib.rt:65:1
 returns : tie.Need-returns Inv-loop μ-loop
 returns c = let l = c .before .loop in
     let n = c .before .before .least .ensures in

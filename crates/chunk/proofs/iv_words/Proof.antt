@@ -2,10 +2,7 @@ use borrow.Author.Needs.{needs}
 use Rattle.compress.specs.Compress.{iv}
 use Rattle.chunk.proofs.iv_words.Statement.{statement}
 use Rattle.chunk.proofs.iv_words.Tie as tie
-use Rattle.chunk.proofs.iv_words.Reads as reads
-use Rattle.chunk.proofs.iv_words.Lts as lts
 
--- src/lib.rt:132:1
 returns : tie.Need-returns
 unfolding iv
 returns c = search needs

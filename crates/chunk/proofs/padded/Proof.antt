@@ -2,19 +2,13 @@ use Rattle.chunk.proofs.Copying.{padded-at}
 use borrow.Author.Needs.{needs}
 use Rattle.chunk.proofs.padded.Statement.{statement}
 use Rattle.chunk.proofs.padded.Tie as tie
-use Rattle.chunk.proofs.padded.Reads as reads
-use Rattle.chunk.proofs.padded.Lts as lts
-use Rattle.chunk.proofs.copy_in.Reads as copy-in-reads
 
--- src/lib.rt:84:9
 copy-in-requires : tie.Need-copy-in-requires
 copy-in-requires c κs = search needs
 
--- src/lib.rt:85:5
 copy-in-requires-2 : tie.Need-copy-in-requires-2
 copy-in-requires-2 c κs = search needs
 
--- src/lib.rt:80:1
 returns : tie.Need-returns
 returns c = padded-at _ _ (c .before .copy-in .result) (c .copy-in2 .result) (c .before .before .before .before .pre) (c .before .copy-in .ensures) (c .copy-in2 .ensures)
 

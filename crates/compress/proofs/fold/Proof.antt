@@ -4,10 +4,7 @@ use Rattle.word.specs.Word.{xor32}
 use Rattle.compress.specs.Compress.{folded}
 use Rattle.compress.proofs.fold.Statement.{statement}
 use Rattle.compress.proofs.fold.Tie as tie
-use Rattle.compress.proofs.fold.Reads as reads
-use Rattle.compress.proofs.fold.Lts as lts
 
--- src/lib.rt:288:1
 returns : tie.Need-returns
 unfolding folded xor32 listOf
 returns c = refl

@@ -2,41 +2,28 @@ use Rattle.compress.specs.Compress.{halfOf}
 use borrow.Author.Needs.{needs}
 use Rattle.compress.proofs.half.Statement.{statement}
 use Rattle.compress.proofs.half.Tie as tie
-use Rattle.compress.proofs.half.Reads as reads
-use Rattle.compress.proofs.half.Lts as lts
-use Rattle.word.proofs.add.Reads as add-reads
-use Rattle.word.proofs.rotr.Reads as rotr-reads
-use Rattle.word.proofs.xor.Reads as xor-reads
 
--- src/lib.rt:35:17
 add-requires : tie.Need-add-requires
 add-requires c κs = search needs
 
--- src/lib.rt:35:9
 add-requires-2 : tie.Need-add-requires-2
 add-requires-2 c κs = search needs
 
--- src/lib.rt:36:18
 xor-requires : tie.Need-xor-requires
 xor-requires c κs = search needs
 
--- src/lib.rt:36:9
 rotr-requires : tie.Need-rotr-requires
 rotr-requires c κs = search needs
 
--- src/lib.rt:37:9
 add-requires-3 : tie.Need-add-requires-3
 add-requires-3 c κs = search needs
 
--- src/lib.rt:38:18
 xor-requires-2 : tie.Need-xor-requires-2
 xor-requires-2 c κs = search needs
 
--- src/lib.rt:38:9
 rotr-requires-2 : tie.Need-rotr-requires-2
 rotr-requires-2 c κs = search needs
 
--- src/lib.rt:31:1
 returns : tie.Need-returns
 unfolding halfOf
 returns c = cc

@@ -2,19 +2,13 @@ use Rattle.compress.specs.Compress.{mixOf}
 use borrow.Author.Needs.{needs}
 use Rattle.compress.proofs.mix.Statement.{statement}
 use Rattle.compress.proofs.mix.Tie as tie
-use Rattle.compress.proofs.mix.Reads as reads
-use Rattle.compress.proofs.mix.Lts as lts
-use Rattle.compress.proofs.half.Reads as half-reads
 
--- src/lib.rt:45:10
 half-requires : tie.Need-half-requires
 half-requires c κs = search needs
 
--- src/lib.rt:45:5
 half-requires-2 : tie.Need-half-requires-2
 half-requires-2 c κs = search needs
 
--- src/lib.rt:42:1
 returns : tie.Need-returns
 unfolding mixOf
 returns c = cc

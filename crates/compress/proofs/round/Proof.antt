@@ -3,43 +3,31 @@ use Rattle.compress.proofs.Laws.{round-made, laid}
 use borrow.Author.Needs.{needs}
 use Rattle.compress.proofs.round.Statement.{statement}
 use Rattle.compress.proofs.round.Tie as tie
-use Rattle.compress.proofs.round.Reads as reads
-use Rattle.compress.proofs.round.Lts as lts
-use Rattle.compress.proofs.mix.Reads as mix-reads
 
--- src/lib.rt:51:9
 mix-requires : tie.Need-mix-requires
 mix-requires c κs = search needs
 
--- src/lib.rt:52:9
 mix-requires-2 : tie.Need-mix-requires-2
 mix-requires-2 c κs = search needs
 
--- src/lib.rt:53:9
 mix-requires-3 : tie.Need-mix-requires-3
 mix-requires-3 c κs = search needs
 
--- src/lib.rt:54:9
 mix-requires-4 : tie.Need-mix-requires-4
 mix-requires-4 c κs = search needs
 
--- src/lib.rt:55:9
 mix-requires-5 : tie.Need-mix-requires-5
 mix-requires-5 c κs = search needs
 
--- src/lib.rt:56:9
 mix-requires-6 : tie.Need-mix-requires-6
 mix-requires-6 c κs = search needs
 
--- src/lib.rt:57:9
 mix-requires-7 : tie.Need-mix-requires-7
 mix-requires-7 c κs = search needs
 
--- src/lib.rt:58:9
 mix-requires-8 : tie.Need-mix-requires-8
 mix-requires-8 c κs = search needs
 
--- src/lib.rt:48:1
 returns : tie.Need-returns
 unfolding listOf laid
 returns c = let v = c .before .before .before .before .before .before .before .before .args .v in

@@ -7,10 +7,6 @@ use Prim.Native.Nat.{_≤_, _-_}
 use borrow.Author.Needs.{needs}
 use Rattle.compress.proofs.seven_rounds.Statement.{statement}
 use Rattle.compress.proofs.seven_rounds.Tie as tie
-use Rattle.compress.proofs.seven_rounds.Reads as reads
-use Rattle.compress.proofs.seven_rounds.Lts as lts
-use Rattle.compress.proofs.permute.Reads as permute-reads
-use Rattle.compress.proofs.round.Reads as round-reads
 
 abbrev Inv-loop : tie.InvT-loop
 Inv-loop state₀ message₀ i₀ state message i = (i ≤ 7) × (rounds (7 - i) (listOf state) (listOf message) ≡ rounds 7 (listOf state₀) (listOf message₀))
@@ -18,32 +14,25 @@ Inv-loop state₀ message₀ i₀ state message i = (i ≤ 7) × (rounds (7 - i)
 abbrev μ-loop : tie.MeasureT-loop
 μ-loop state₀ message₀ i₀ state message i = 7 - i
 
--- src/lib.rt:191:5
 loop-holds : tie.Need-loop-holds Inv-loop μ-loop
 loop-holds c = (omega arith, refl)
 
--- src/lib.rt:192:13
 round-requires : tie.Need-round-requires Inv-loop μ-loop
 round-requires c κs = search needs
 
--- src/lib.rt:194:13
 permute-requires : tie.Need-permute-requires Inv-loop μ-loop
 permute-requires c κs = search needs
 
--- src/lib.rt:196:9
 add-i : tie.Need-add-i Inv-loop μ-loop
 add-i c = search needs
 
--- src/lib.rt:191:5
 loop-less : tie.Need-loop-less Inv-loop μ-loop
 loop-less c = search needs
 
--- src/lib.rt:191:5
 loop-again : tie.Need-loop-again Inv-loop μ-loop
 loop-again c = let l = c .before .before .before .loop in
     (omega arith, rounds-turn (l .i) (listOf (l .state)) (listOf (l .message)) (omega arith) (c .before .round .ensures) (c .permute .ensures) ∙ l .inv .1)
 
--- src/lib.rt:185:1
 returns : tie.Need-returns Inv-loop μ-loop
 returns c = let l = c .before .loop in
     rounds-done (l .i) (listOf (l .state)) (listOf (l .message)) (omega arith) (omega arith) (l .inv .1)

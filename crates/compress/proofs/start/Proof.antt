@@ -4,50 +4,37 @@ use Rattle.compress.specs.Compress.{initial, iv}
 use borrow.Author.Needs.{needs}
 use Rattle.compress.proofs.start.Statement.{statement}
 use Rattle.compress.proofs.start.Tie as tie
-use Rattle.compress.proofs.start.Reads as reads
-use Rattle.compress.proofs.start.Lts as lts
 
--- src/lib.rt:280:14
 cast-lo : tie.Need-cast-lo
 cast-lo c = search needs
 
--- src/lib.rt:281:14
 cast-hi : tie.Need-cast-hi
 cast-hi c = search needs
 
--- src/lib.rt:283:13
 array-read-t11 : tie.Need-array-read-t11
 array-read-t11 c = search needs
 
--- src/lib.rt:283:23
 array-read-t14 : tie.Need-array-read-t14
 array-read-t14 c = search needs
 
--- src/lib.rt:283:33
 array-read-t17 : tie.Need-array-read-t17
 array-read-t17 c = search needs
 
--- src/lib.rt:283:43
 array-read-t20 : tie.Need-array-read-t20
 array-read-t20 c = search needs
 
--- src/lib.rt:283:53
 array-read-t23 : tie.Need-array-read-t23
 array-read-t23 c = search needs
 
--- src/lib.rt:283:63
 array-read-t26 : tie.Need-array-read-t26
 array-read-t26 c = search needs
 
--- src/lib.rt:283:73
 array-read-t29 : tie.Need-array-read-t29
 array-read-t29 c = search needs
 
--- src/lib.rt:283:83
 array-read-t32 : tie.Need-array-read-t32
 array-read-t32 c = search needs
 
--- src/lib.rt:277:1
 returns : tie.Need-returns
 unfolding initial iv listOf
 returns c = refl

@@ -30,7 +30,7 @@ enum-told : tie.Need-enum-told Inv-loop μ-loop
 enum-told c = search needs
 
 returns : tie.Need-returns Inv-loop μ-loop
-returns c = plain (c .before .before .before .before .before .before .before .args .ws .now) (c .before .before .before .before .before .before .before .args .n) (c .before .before .before .before .before .before .before .args .m) (c .before .before .before .before .before .before .before .args .c) (c .before .before .before .before .loop .i) (c .before .before .before .before .loop .cursor) (c .before .before .before .before .loop .inv) (c .before .before .before .loop-test .taken) _ (c .before .before .action .ensures) (c .enum-told .given .1)
+returns c = let a = c .before .before .before .before .before .before .before .args in plain (a .ws .now) (a .n) (a .m) (a .c) (c .before .before .before .before .loop .i) (c .before .before .before .before .loop .cursor) (c .before .before .before .before .loop .inv) (c .before .before .before .loop-test .taken) _ (c .before .before .action .ensures) (c .enum-told .given .1)
 
 draw64-requires : tie.Need-draw64-requires Inv-loop μ-loop
 draw64-requires c κs = (omega (arith, c .before .before .before .before .before .loop .inv .few, c .before .before .before .before .loop-test .taken, c .before .before .before .before .before .before .before .before .pre .1), c .before .before .before .before .before .loop .inv .holds)

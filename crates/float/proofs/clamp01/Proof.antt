@@ -1,6 +1,6 @@
-use mathlib.Core.Path.{_≡_, refl, sym, ap, _∙_}
-use mathlib.Core.Bool.{Bool, true, false, cond}
-use lib.Ieee.{Float, lt, ofBits, binary64}
+use mathlib.Core.Path.{_≡_}
+use mathlib.Core.Bool.{true, false}
+use lib.Ieee.{Float, lt, ofBits}
 use Rattle.float.specs.Float.{clamped, zero64, one64}
 use Rattle.float.proofs.clamp01.Statement.{statement}
 use Rattle.float.proofs.clamp01.Tie as tie

@@ -1,7 +1,7 @@
 use mathlib.Core.Path.{_≡_, refl, ap}
-use mathlib.Core.Bool.{Bool, true, false, not, _&&_, _||_}
+use mathlib.Core.Bool.{Bool, true, false, not, _&&_}
 use Prim.Native.Nat.{_*_}
-use lib.Dec.{eqb, eqb-refl, T}
+use lib.Dec.{eqb, eqb-refl}
 use lib.Ieee.{Float, nan, inf, fin, up, down, ne, isNan}
 use lib.Ieee.Bits.{is-true}
 use Rattle.float.proofs.is_nan.Statement.{statement}

@@ -1,5 +1,5 @@
 -- every pattern of 64 bits as a float: nanBits-above says where the NaN patterns are
-use mathlib.Core.Path.{_≡_, refl, sym, ap, _∙_, subst}
+use mathlib.Core.Path.{_≡_, refl, sym, _∙_, subst}
 use mathlib.Core.Bool.{Bool, true, false, not}
 use Prim.Native.Nat.{ℕ, _%_, _^_, _<_, _≤_, _-_}
 use borrow.Author.Needs.{needs}

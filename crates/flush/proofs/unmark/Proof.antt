@@ -1,5 +1,6 @@
 use native.Mathlib.Omega.{arith}
-use Rattle.flush.proofs.Seen.{places-end, ids-room, unmark-made}
+use Rattle.marks.proofs.Tills.{places-end}
+use Rattle.flush.proofs.Seen.{ids-room, unmark-made}
 use borrow.Author.Needs.{needs}
 use Rattle.flush.proofs.unmark.Statement.{statement}
 use Rattle.flush.proofs.unmark.Tie as tie

@@ -3,23 +3,16 @@ use Rattle.flush_calls.proofs.Call.{not-lent, too-late, in-time}
 use borrow.Author.Needs.{needs}
 use Rattle.flush_calls.proofs.refusal.Statement.{statement}
 use Rattle.flush_calls.proofs.refusal.Tie as tie
-use Rattle.flush_calls.proofs.refusal.Reads as reads
-use Rattle.flush_calls.proofs.refusal.Lts as lts
-use Rattle.flush_calls.proofs.lent.Reads as lent-reads
 
--- src/lib.rt:82:9
 lent-requires : tie.Need-lent-requires
 lent-requires c κs = search needs
 
--- src/lib.rt:83:9
 returns : tie.Need-returns
 returns c = let a = c .before .before .before .before .before .before .before .before .before .args in not-lent (a .setup .now) (a .net .now) (a .tills .now) (a .seen .now) (a .waiting .now) (a .blocks .now) (a .log .now) (a .at) 0 (is-no _ _ (c .before .lent .ensures) (c .if1 .taken))
 
--- src/lib.rt:86:9
 returns-2 : tie.Need-returns-2
 returns-2 c = let a = c .before .before .before .before .before .before .before .before .before .before .args in too-late (a .setup .now) (a .net .now) (a .tills .now) (a .seen .now) (a .waiting .now) (a .blocks .now) (a .log .now) (a .at) 0 (is-yes _ _ (c .before .before .lent .ensures) (c .before .if1 .left)) (c .if2 .taken)
 
--- src/lib.rt:79:1
 returns-3 : tie.Need-returns-3
 returns-3 c = let a = c .before .before .before .before .before .before .before .before .before .before .args in in-time (a .setup .now) (a .net .now) (a .tills .now) (a .seen .now) (a .waiting .now) (a .blocks .now) (a .log .now) (a .at) 0 (is-yes _ _ (c .before .before .lent .ensures) (c .before .if1 .left)) (c .if2 .left)
 

@@ -3,33 +3,22 @@ use Rattle.flush_calls.proofs.Call.{no-waiting, no-blocks, last-log}
 use borrow.Author.Needs.{needs}
 use Rattle.flush_calls.proofs.rows_lent.Statement.{statement}
 use Rattle.flush_calls.proofs.rows_lent.Tie as tie
-use Rattle.flush_calls.proofs.rows_lent.Reads as reads
-use Rattle.flush_calls.proofs.rows_lent.Lts as lts
-use Rattle.held.proofs.blocks_held.Reads as blocks-held-reads
-use Rattle.held_rows.proofs.log_held.Reads as log-held-reads
-use Rattle.held_rows.proofs.waiting_held.Reads as waiting-held-reads
 
--- src/lib.rt:50:9
 waiting-held-requires : tie.Need-waiting-held-requires
 waiting-held-requires c κs = search needs
 
--- src/lib.rt:51:9
 returns : tie.Need-returns
 returns c = let a = c .before .before .before .before .before .before .before .args in no-waiting (a .setup .now) (a .net .now) (a .waiting .now) (a .blocks .now) (a .log .now) (is-no _ _ (c .before .waiting-held .ensures) (c .if1 .taken))
 
--- src/lib.rt:53:9
 blocks-held-requires : tie.Need-blocks-held-requires
 blocks-held-requires c κs = search needs
 
--- src/lib.rt:54:9
 returns-2 : tie.Need-returns-2
 returns-2 c = let a = c .before .before .before .before .before .before .before .before .before .args in no-blocks (a .setup .now) (a .net .now) (a .waiting .now) (a .blocks .now) (a .log .now) (is-yes _ _ (c .before .before .before .waiting-held .ensures) (c .before .before .if1 .left)) (is-no _ _ (c .before .blocks-held .ensures) (c .if2 .taken))
 
--- src/lib.rt:56:5
 log-held-requires : tie.Need-log-held-requires
 log-held-requires c κs = search needs
 
--- src/lib.rt:46:1
 returns-3 : tie.Need-returns-3
 returns-3 c = let a = c .before .before .before .before .before .before .before .before .before .before .args in last-log (a .setup .now) (a .net .now) (a .waiting .now) (a .blocks .now) (a .log .now) _ (is-yes _ _ (c .before .before .before .before .waiting-held .ensures) (c .before .before .before .if1 .left)) (is-yes _ _ (c .before .before .blocks-held .ensures) (c .before .if2 .left)) (c .log-held .ensures)
 

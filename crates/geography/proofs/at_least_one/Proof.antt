@@ -1,14 +1,10 @@
 use Rattle.geography.proofs.Laws.{one-none, one-some}
 use Rattle.geography.proofs.at_least_one.Statement.{statement}
 use Rattle.geography.proofs.at_least_one.Tie as tie
-use Rattle.geography.proofs.at_least_one.Reads as reads
-use Rattle.geography.proofs.at_least_one.Lts as lts
 
--- src/lib.rt:56:1
 returns : tie.Need-returns
 returns c = one-none (c .before .args .n) (c .if1 .taken)
 
--- src/lib.rt:56:1
 returns-2 : tie.Need-returns-2
 returns-2 c = one-some (c .before .args .n) (c .if1 .left)
 

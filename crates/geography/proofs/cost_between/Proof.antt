@@ -2,24 +2,16 @@ use Rattle.geography.proofs.Laws.{cost-planned, cost-plain}
 use borrow.Author.Needs.{needs}
 use Rattle.geography.proofs.cost_between.Statement.{statement}
 use Rattle.geography.proofs.cost_between.Tie as tie
-use Rattle.geography.proofs.cost_between.Reads as reads
-use Rattle.geography.proofs.cost_between.Lts as lts
-use Rattle.geography.proofs.link_between.Reads as link-between-reads
-use Rattle.geography.proofs.transmission.Reads as transmission-reads
 
--- src/lib.rt:259:13
 link-between-requires : tie.Need-link-between-requires
 link-between-requires c κs = search needs
 
--- src/lib.rt:261:13
 transmission-requires : tie.Need-transmission-requires
 transmission-requires c κs = search needs
 
--- src/lib.rt:262:9
 returns : tie.Need-returns
-returns c = cost-planned (c .before .before .before .before .before .args .prices .now) (c .before .before .before .before .before .args .regions) (c .before .before .before .before .before .args .a) (c .before .before .before .before .before .args .b) (c .before .before .before .before .before .args .latency .ns) (c .before .before .before .before .before .args .bytes) (c .before .before .link-between .result) (c .before .before .before .if1 .taken) (c .before .before .link-between .ensures) (c .transmission .ensures)
+returns c = let given = c .before .before .before .before .before .args in cost-planned (given .prices .now) (given .regions) (given .a) (given .b) (given .latency .ns) (given .bytes) (c .before .before .link-between .result) (c .before .before .before .if1 .taken) (c .before .before .link-between .ensures) (c .transmission .ensures)
 
--- src/lib.rt:254:1
 returns-2 : tie.Need-returns-2
 returns-2 c = cost-plain (c .before .before .args .prices .now) (c .before .before .args .regions) (c .before .before .args .a) (c .before .before .args .b) (c .before .before .args .latency .ns) (c .before .before .args .bytes) (c .if1 .left)
 

@@ -3,26 +3,19 @@ use Rattle.geography.specs.Bytes.{hostBytes}
 use borrow.Author.Needs.{needs}
 use Rattle.geography.proofs.host_bytes.Statement.{statement}
 use Rattle.geography.proofs.host_bytes.Tie as tie
-use Rattle.geography.proofs.host_bytes.Reads as reads
-use Rattle.geography.proofs.host_bytes.Lts as lts
 
--- src/lib.rt:77:33
 cast-t3 : tie.Need-cast-t3
 cast-t3 c = search needs
 
--- src/lib.rt:77:53
 cast-t6 : tie.Need-cast-t6
 cast-t6 c = search needs
 
--- src/lib.rt:77:79
 cast-t9 : tie.Need-cast-t9
 cast-t9 c = search needs
 
--- src/lib.rt:78:9
 cast-t12 : tie.Need-cast-t12
 cast-t12 c = search needs
 
--- src/lib.rt:73:1
 returns : tie.Need-returns
 unfolding hostBytes le4
 returns c = search needs

@@ -2,14 +2,10 @@ use borrow.Author.Tests.{le-leb, lt-leb}
 use Rattle.geography.proofs.Laws.{slow, long}
 use Rattle.geography.proofs.link_admitted.Statement.{statement}
 use Rattle.geography.proofs.link_admitted.Tie as tie
-use Rattle.geography.proofs.link_admitted.Reads as reads
-use Rattle.geography.proofs.link_admitted.Lts as lts
 
--- src/lib.rt:246:1
 returns : tie.Need-returns
 returns c = slow (c .before .before .before .before .args .l) (le-leb _ _ (c .before .if1 .taken))
 
--- src/lib.rt:246:1
 returns-2 : tie.Need-returns-2
 returns-2 c = long (c .before .before .before .args .l) (lt-leb _ _ (c .if1 .left))
 

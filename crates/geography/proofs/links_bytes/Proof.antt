@@ -3,10 +3,7 @@ use borrow.Author.Needs.{needs}
 use Rattle.geography.specs.Bytes.{linksBytes}
 use Rattle.geography.proofs.links_bytes.Statement.{statement}
 use Rattle.geography.proofs.links_bytes.Tie as tie
-use Rattle.geography.proofs.links_bytes.Reads as reads
-use Rattle.geography.proofs.links_bytes.Lts as lts
 
--- src/lib.rt:83:1
 returns : tie.Need-returns
 unfolding linksBytes le4
 returns c = search needs

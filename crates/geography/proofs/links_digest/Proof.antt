@@ -2,33 +2,22 @@ use Rattle.geography.proofs.Laws.{links-made}
 use borrow.Author.Needs.{needs}
 use Rattle.geography.proofs.links_digest.Statement.{statement}
 use Rattle.geography.proofs.links_digest.Tie as tie
-use Rattle.geography.proofs.links_digest.Reads as reads
-use Rattle.geography.proofs.links_digest.Lts as lts
-use Rattle.digest.proofs.hash_parts.Reads as hash-parts-reads
-use Rattle.geography.proofs.links_bytes.Reads as links-bytes-reads
-use Rattle.geography.proofs.seed_bytes.Reads as seed-bytes-reads
 
--- src/lib.rt:100:16
 seed-bytes-requires : tie.Need-seed-bytes-requires
 seed-bytes-requires c κs = search needs
 
--- src/lib.rt:101:16
 links-bytes-requires : tie.Need-links-bytes-requires
 links-bytes-requires c κs = search needs
 
--- src/lib.rt:102:24
 slice-aggregate-hash-parts : tie.Need-slice-aggregate-hash-parts
 slice-aggregate-hash-parts c = search needs
 
--- src/lib.rt:102:31
 slice-aggregate-hash-parts-2 : tie.Need-slice-aggregate-hash-parts-2
 slice-aggregate-hash-parts-2 c = search needs
 
--- src/lib.rt:102:5
 hash-parts-requires : tie.Need-hash-parts-requires
 hash-parts-requires c κs = search needs
 
--- src/lib.rt:97:1
 returns : tie.Need-returns
 returns c = links-made (c .before .before .before .before .before .args .seed) (c .before .before .before .before .seed-bytes .ensures .0) (c .before .before .before .links-bytes .ensures .0) (c .hash-parts .ensures)
 

@@ -2,23 +2,16 @@ use Rattle.geography.proofs.Laws.{band-near, band-far, of-band}
 use borrow.Author.Needs.{needs}
 use Rattle.geography.proofs.price.Statement.{statement}
 use Rattle.geography.proofs.price.Tie as tie
-use Rattle.geography.proofs.price.Reads as reads
-use Rattle.geography.proofs.price.Lts as lts
-use Rattle.geography.proofs.drawn_link.Reads as drawn-link-reads
 
--- src/lib.rt:153:9
 drawn-link-requires : tie.Need-drawn-link-requires
 drawn-link-requires c κs = search needs
 
--- src/lib.rt:153:9
 returns : tie.Need-returns
 returns c = of-band (c .before .before .args .c) (c .drawn-link .result .next) _ _ (band-near (c .before .before .args .a) (c .before .before .args .b) (c .before .if1 .taken)) (c .drawn-link .ensures)
 
--- src/lib.rt:155:5
 drawn-link-requires-2 : tie.Need-drawn-link-requires-2
 drawn-link-requires-2 c κs = search needs
 
--- src/lib.rt:148:1
 returns-2 : tie.Need-returns-2
 returns-2 c = of-band (c .before .before .args .c) (c .drawn-link2 .result .next) _ _ (band-far (c .before .before .args .a) (c .before .before .args .b) (c .before .if1 .left)) (c .drawn-link2 .ensures)
 

@@ -5,13 +5,9 @@ use borrow.Author.Needs.{needs}
 use lib.ListN.{length}
 use native.Mathlib.Omega.{arith}
 use mathlib.Core.Path.{_≡_, refl}
-use Prim.Native.Nat.{_+_, _-_, _≤_}
+use Prim.Native.Nat.{_-_, _≤_}
 use Rattle.geography.proofs.price_row.Statement.{statement}
 use Rattle.geography.proofs.price_row.Tie as tie
-use Rattle.geography.proofs.price_row.Reads as reads
-use Rattle.geography.proofs.price_row.Lts as lts
-use Rattle.geography.proofs.price.Reads as price-reads
-use Rattle.geography.proofs.put_pair.Reads as put-pair-reads
 
 abbrev Inv-loop : tie.InvT-loop
 Inv-loop prices₀ regions a d₀ b₀ prices d b = (a ≤ b) × ((b ≤ regions) × ((length prices ≡ length prices₀) × ((prices ≡ pricedRow (d₀ .key) regions a (b - a) prices₀) × Stands (d₀ .key) (rowCount (d₀ .key) a (d₀ .count) (b - a)) d)))
@@ -19,11 +15,9 @@ Inv-loop prices₀ regions a d₀ b₀ prices d b = (a ≤ b) × ((b ≤ regions
 abbrev μ-loop : tie.MeasureT-loop
 μ-loop prices₀ regions a d₀ b₀ prices d b = regions - b
 
--- src/lib.rt:192:5
 loop-holds : tie.Need-loop-holds Inv-loop μ-loop
 loop-holds c = (omega arith, (omega arith, (refl, (row-none _ _ _ _, row-start _ _ _ refl (c .before .pre .3)))))
 
--- src/lib.rt:193:13
 price-requires : tie.Need-price-requires Inv-loop μ-loop
 price-requires c κs = let i = c .before .loop .inv in
     let s = i .1 .1 .1 .1 in (
@@ -32,19 +26,15 @@ price-requires c κs = let i = c .before .loop .inv in
       s .holds,
     )
 
--- src/lib.rt:195:9
 put-pair-requires : tie.Need-put-pair-requires Inv-loop μ-loop
 put-pair-requires c κs = (omega arith, omega arith, omega arith)
 
--- src/lib.rt:197:9
 add-b : tie.Need-add-b Inv-loop μ-loop
 add-b c = search needs
 
--- src/lib.rt:192:5
 loop-less : tie.Need-loop-less Inv-loop μ-loop
 loop-less c = search needs
 
--- src/lib.rt:192:5
 loop-again : tie.Need-loop-again Inv-loop μ-loop
 loop-again c = let i = c .before .before .before .before .before .before .before .loop .inv in
     let s = i .1 .1 .1 .1 in (
@@ -61,11 +51,9 @@ loop-again c = let i = c .before .before .before .before .before .before .before
       ),
     )
 
--- src/lib.rt:186:1
 same-length : tie.Need-same-length Inv-loop μ-loop
 same-length c = search needs
 
--- src/lib.rt:186:1
 returns : tie.Need-returns Inv-loop μ-loop
 returns c = let i = c .before .loop .inv in (
   row-done (c .before .before .before .args .c .key) (c .before .before .before .args .regions) (c .before .before .before .args .a) (c .before .loop .b) (c .before .loop .prices) (c .before .before .before .args .prices .now) (i .1 .0) (omega arith) (i .1 .1 .1 .0),

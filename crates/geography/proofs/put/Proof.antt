@@ -3,26 +3,19 @@ use lib.Seq.{set-out}
 use borrow.Author.Needs.{needs}
 use Rattle.geography.proofs.put.Statement.{statement}
 use Rattle.geography.proofs.put.Tie as tie
-use Rattle.geography.proofs.put.Reads as reads
-use Rattle.geography.proofs.put.Lts as lts
 
--- src/lib.rt:162:9
 mul-s : tie.Need-mul-s
 mul-s c = search needs
 
--- src/lib.rt:162:9
 slice-write-s : tie.Need-slice-write-s
 slice-write-s c = search needs
 
--- src/lib.rt:158:1
 same-length : tie.Need-same-length
 same-length c = search needs
 
--- src/lib.rt:158:1
 returns : tie.Need-returns
 returns c = search needs
 
--- src/lib.rt:158:1
 returns-2 : tie.Need-returns-2
 returns-2 c = sym (set-out _ _ _ (c .if1 .left))
 

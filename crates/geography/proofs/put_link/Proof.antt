@@ -2,31 +2,22 @@ use Rattle.geography.proofs.Laws.{linked}
 use borrow.Author.Needs.{needs}
 use Rattle.geography.proofs.put_link.Statement.{statement}
 use Rattle.geography.proofs.put_link.Tie as tie
-use Rattle.geography.proofs.put_link.Reads as reads
-use Rattle.geography.proofs.put_link.Lts as lts
-use Rattle.geography.proofs.put.Reads as put-reads
 
--- src/lib.rt:170:15
 mul-at : tie.Need-mul-at
 mul-at c = search needs
 
--- src/lib.rt:172:5
 put-requires : tie.Need-put-requires
 put-requires c κs = search needs
 
--- src/lib.rt:173:17
 add-put : tie.Need-add-put
 add-put c = search needs
 
--- src/lib.rt:173:5
 put-requires-2 : tie.Need-put-requires-2
 put-requires-2 c κs = search needs
 
--- src/lib.rt:166:1
 same-length : tie.Need-same-length
 same-length c = search needs
 
--- src/lib.rt:166:1
 returns : tie.Need-returns
 returns c = linked _ (c .before .before .before .before .before .before .before .before .before .before .args .i) (c .before .before .before .before .before .before .before .before .before .before .args .l) (c .before .before .before .before .before .before .put .ensures) (c .before .before .put2 .ensures)
 

@@ -2,42 +2,31 @@ use Rattle.word.specs.Word.{le8}
 use borrow.Author.Needs.{needs}
 use Rattle.geography.proofs.seed_bytes.Statement.{statement}
 use Rattle.geography.proofs.seed_bytes.Tie as tie
-use Rattle.geography.proofs.seed_bytes.Reads as reads
-use Rattle.geography.proofs.seed_bytes.Lts as lts
 
--- src/lib.rt:66:9
 cast-t3 : tie.Need-cast-t3
 cast-t3 c = search needs
 
--- src/lib.rt:66:29
 cast-t6 : tie.Need-cast-t6
 cast-t6 c = search needs
 
--- src/lib.rt:66:55
 cast-t9 : tie.Need-cast-t9
 cast-t9 c = search needs
 
--- src/lib.rt:66:83
 cast-t12 : tie.Need-cast-t12
 cast-t12 c = search needs
 
--- src/lib.rt:67:9
 cast-t15 : tie.Need-cast-t15
 cast-t15 c = search needs
 
--- src/lib.rt:67:42
 cast-t18 : tie.Need-cast-t18
 cast-t18 c = search needs
 
--- src/lib.rt:67:78
 cast-t21 : tie.Need-cast-t21
 cast-t21 c = search needs
 
--- src/lib.rt:68:9
 cast-t24 : tie.Need-cast-t24
 cast-t24 c = search needs
 
--- src/lib.rt:62:1
 returns : tie.Need-returns
 unfolding le8
 returns c = search needs

@@ -38,7 +38,7 @@ all-masks-below-requires c κs = search needs
 
 returns-2 : tie.Need-returns-2
 unfolding tillsHeld masksBelow
-returns-2 c = on _ _ _ (eq-eqb _ _ (c .before .before .before .before .before .if1 .left)) (last _ _ (c .all-masks-below .ensures ∙ powers (sizesAt (c .before .before .before .before .before .before .before .before .before .args .setup .now) .types) (sizesAt (c .before .before .before .before .before .before .before .before .before .args .setup .now) .shards) _ _ (rowsOf tillForm (c .before .before .before .before .before .before .before .before .before .args .tills .now) (sizesAt (c .before .before .before .before .before .before .before .before .before .args .setup .now) .tills)) (c .before .before .before .power .ensures) (c .before .power2 .ensures)))
+returns-2 c = let a = c .before .before .before .before .before .before .before .before .before .args in on _ _ _ (eq-eqb _ _ (c .before .before .before .before .before .if1 .left)) (last _ _ (c .all-masks-below .ensures ∙ powers (sizesAt (a .setup .now) .types) (sizesAt (a .setup .now) .shards) _ _ (rowsOf tillForm (a .tills .now) (sizesAt (a .setup .now) .tills)) (c .before .before .before .power .ensures) (c .before .power2 .ensures)))
 
 pub tills-held-spec : {M : Type 1} → statement M
 tills-held-spec =

@@ -33,7 +33,7 @@ log-near-requires c κs = let p = setup-says (c .before .before .before .before 
 
 returns-2 : tie.Need-returns-2
 unfolding logHeld
-returns-2 c = on _ _ _ (eq-eqb _ _ (c .before .before .if1 .left)) (c .log-near .ensures ∙ ap (λ (l : Limits). logNear l (sizesAt (c .before .before .before .before .before .before .args .setup .now) .logSlots) (c .before .before .before .before .before .before .args .log .now)) (c .before .limits .ensures) ∙ log-near (sizesAt (c .before .before .before .before .before .before .args .setup .now)) (sizesAt (c .before .before .before .before .before .before .args .setup .now) .logSlots) (c .before .before .before .before .before .before .args .log .now))
+returns-2 c = let a = c .before .before .before .before .before .before .args in on _ _ _ (eq-eqb _ _ (c .before .before .if1 .left)) (c .log-near .ensures ∙ ap (λ (l : Limits). logNear l (sizesAt (a .setup .now) .logSlots) (a .log .now)) (c .before .limits .ensures) ∙ log-near (sizesAt (a .setup .now)) (sizesAt (a .setup .now) .logSlots) (a .log .now))
 
 pub log-held-spec : {M : Type 1} → statement M
 log-held-spec =

@@ -31,7 +31,7 @@ lengths-within-requires-2 c κs = let p = setup-says (c .before .before .before 
 
 returns-3 : tie.Need-returns-3
 unfolding namesHeld
-returns-3 c = on _ _ _ (eq-eqb _ _ (c .before .before .before .before .before .if1 .left)) (last _ _ (on _ _ _ (is-yes _ _ (c .before .before .before .lengths-within .ensures ∙ names-column (c .before .before .before .before .before .before .before .before .args .names .now) (sizesAt (c .before .before .before .before .before .before .before .before .args .setup .now) .types)) (c .before .before .if2 .left)) (last _ _ (c .lengths-within2 .ensures ∙ keys-column (c .before .before .before .before .before .before .before .before .args .names .now) (sizesAt (c .before .before .before .before .before .before .before .before .args .setup .now) .shards)))))
+returns-3 c = let a = c .before .before .before .before .before .before .before .before .args in on _ _ _ (eq-eqb _ _ (c .before .before .before .before .before .if1 .left)) (last _ _ (on _ _ _ (is-yes _ _ (c .before .before .before .lengths-within .ensures ∙ names-column (a .names .now) (sizesAt (a .setup .now) .types)) (c .before .before .if2 .left)) (last _ _ (c .lengths-within2 .ensures ∙ keys-column (a .names .now) (sizesAt (a .setup .now) .shards)))))
 
 pub names-held-spec : {M : Type 1} → statement M
 names-held-spec =

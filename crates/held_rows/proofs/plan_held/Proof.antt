@@ -41,7 +41,7 @@ column-within-requires c κs = search needs
 
 returns-3 : tie.Need-returns-3
 unfolding planHeld
-returns-3 c = on _ _ _ (eq-eqb _ _ (c .before .before .before .if1 .left)) (on _ _ _ (is-yes _ _ (c .before .before .links-admitted .ensures) (c .before .if2 .left)) (c .column-within .ensures ∙ regions-column (c .before .before .before .before .before .args .prices .now) (linkWidth * (c .before .before .before .before .before .args .regions * c .before .before .before .before .before .args .regions)) (c .before .before .before .before .before .args .tills) (c .before .before .before .before .before .args .regions) (c .before .before .before .before .before .pre .0)))
+returns-3 c = let a = c .before .before .before .before .before .args in on _ _ _ (eq-eqb _ _ (c .before .before .before .if1 .left)) (on _ _ _ (is-yes _ _ (c .before .before .links-admitted .ensures) (c .before .if2 .left)) (c .column-within .ensures ∙ regions-column (a .prices .now) (linkWidth * (a .regions * a .regions)) (a .tills) (a .regions) (c .before .before .before .before .before .pre .0)))
 
 pub plan-held-spec : {M : Type 1} → statement M
 plan-held-spec =

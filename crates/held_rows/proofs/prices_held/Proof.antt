@@ -29,7 +29,7 @@ plan-held-requires : tie.Need-plan-held-requires
 plan-held-requires c κs = let p = setup-says (c .before .before .before .before .before .before .before .args .setup .now) (c .before .before .before .before .before .before .before .pre) in (omega (arith, c .before .at-least-one .ensures .1), one-most (settingsAt (c .before .before .before .before .before .before .before .args .setup .now) .plan .regions) (p .sizes .regions) (c .before .at-least-one .ensures .0), p .sizes .tills)
 
 returns-2 : tie.Need-returns-2
-returns-2 c = c .plan-held .ensures ∙ ap (λ (k : ℕ). planHeld (c .before .before .before .before .before .before .before .before .args .prices .now) k (sizesAt (c .before .before .before .before .before .before .before .before .args .setup .now) .tills)) (c .before .before .at-least-one .ensures .0) ∙ by-plan (c .before .before .before .before .before .before .before .before .args .setup .now) (c .before .before .before .before .before .before .before .before .args .prices .now) (c .before .before .before .before .if1 .left)
+returns-2 c = let a = c .before .before .before .before .before .before .before .before .args in c .plan-held .ensures ∙ ap (λ (k : ℕ). planHeld (a .prices .now) k (sizesAt (a .setup .now) .tills)) (c .before .before .at-least-one .ensures .0) ∙ by-plan (a .setup .now) (a .prices .now) (c .before .before .before .before .if1 .left)
 
 pub prices-held-spec : {M : Type 1} → statement M
 prices-held-spec =

@@ -34,7 +34,7 @@ rings-near-requires c κs = search needs
 
 returns-2 : tie.Need-returns-2
 unfolding ringsHeld
-returns-2 c = on _ _ _ (eq-eqb _ _ (c .before .before .if1 .left)) (c .rings-near .ensures ∙ ap (λ (l : Limits). ringsNear l (ringsOf (sizesAt (c .before .before .before .before .before .before .args .setup .now))) (c .before .before .before .before .before .before .args .rings .now)) (c .before .limits .ensures) ∙ rings-near (sizesAt (c .before .before .before .before .before .before .args .setup .now)) (ringsOf (sizesAt (c .before .before .before .before .before .before .args .setup .now))) (c .before .before .before .before .before .before .args .rings .now))
+returns-2 c = let a = c .before .before .before .before .before .before .args in on _ _ _ (eq-eqb _ _ (c .before .before .if1 .left)) (c .rings-near .ensures ∙ ap (λ (l : Limits). ringsNear l (ringsOf (sizesAt (a .setup .now))) (a .rings .now)) (c .before .limits .ensures) ∙ rings-near (sizesAt (a .setup .now)) (ringsOf (sizesAt (a .setup .now))) (a .rings .now))
 
 pub rings-held-spec : {M : Type 1} → statement M
 rings-held-spec =

@@ -32,7 +32,7 @@ copies-near-requires c κs = let p = setup-says (c .before .before .before .befo
 
 returns-2 : tie.Need-returns-2
 unfolding waitingHeld
-returns-2 c = on _ _ _ (eq-eqb _ _ (c .before .before .before .if1 .left)) (last _ _ (c .copies-near .ensures ∙ ap (λ (l : Limits). copiesNear l (c .before .before .before .before .before .before .before .before .args .waiting .now) (cell (c .before .before .before .before .before .before .before .before .args .net .now) waitingAt)) (c .before .limits .ensures) ∙ copies-near (sizesAt (c .before .before .before .before .before .before .before .before .args .setup .now)) (c .before .before .before .before .before .before .before .before .args .waiting .now) (cell (c .before .before .before .before .before .before .before .before .args .net .now) waitingAt)))
+returns-2 c = let a = c .before .before .before .before .before .before .before .before .args in on _ _ _ (eq-eqb _ _ (c .before .before .before .if1 .left)) (last _ _ (c .copies-near .ensures ∙ ap (λ (l : Limits). copiesNear l (a .waiting .now) (cell (a .net .now) waitingAt)) (c .before .limits .ensures) ∙ copies-near (sizesAt (a .setup .now)) (a .waiting .now) (cell (a .net .now) waitingAt)))
 
 pub waiting-held-spec : {M : Type 1} → statement M
 waiting-held-spec =

@@ -6,12 +6,6 @@ use mathlib.Core.Path.{_≡_, ap, _∙_}
 use Prim.Native.Nat.{ℕ, _≤_, _<_, _%_}
 use Rattle.lanes.proofs.chunks.Statement.{statement}
 use Rattle.lanes.proofs.chunks.Tie as tie
-use Rattle.lanes.proofs.chunks.Reads as reads
-use Rattle.lanes.proofs.chunks.Lts as lts
-use Rattle.lanes.proofs.iv_lanes.Reads as iv-lanes-reads
-use Rattle.lanes.proofs.load.Reads as load-reads
-use Rattle.lanes.proofs.step.Reads as step-reads
-use Rattle.parts.proofs.back.Reads as back-reads
 
 abbrev Inv-loop : tie.InvT-loop
 Inv-loop s t h₀ d₀ rest₀ h d rest = (3136 ≤ length rest) × (length rest % 64 ≡ 0) × (d ≤ 1) × ((l : ℕ) → l < 4 → Under s t d h rest l)
@@ -19,48 +13,37 @@ Inv-loop s t h₀ d₀ rest₀ h d rest = (3136 ≤ length rest) × (length rest
 abbrev μ-loop : tie.MeasureT-loop
 μ-loop s t h₀ d₀ rest₀ h d rest = length rest
 
--- src/lib.rt:158:9
 iv-lanes-requires : tie.Need-iv-lanes-requires Inv-loop μ-loop
 iv-lanes-requires c κs = search needs
 
--- src/lib.rt:161:5
 loop-holds : tie.Need-loop-holds Inv-loop μ-loop
 loop-holds c = let n = c .before .before .pre .0 in (omega arith, ap (λ k. k % 64) n, omega arith, λ l g. under-start _ _ _ l n (c .iv-lanes .ensures l g))
 
--- src/lib.rt:162:28
 load-requires : tie.Need-load-requires Inv-loop μ-loop
 load-requires c κs = search needs
 
--- src/lib.rt:162:13
 step-requires : tie.Need-step-requires Inv-loop μ-loop
 step-requires c κs = search needs
 
--- src/lib.rt:165:13
 back-requires : tie.Need-back-requires Inv-loop μ-loop
 back-requires c κs = search needs
 
--- src/lib.rt:161:5
 loop-less : tie.Need-loop-less Inv-loop μ-loop
 loop-less c = let n = ap length (c .back .ensures) ∙ length-drop 64 (c .before .before .before .before .loop .rest .now) in omega arith
 
--- src/lib.rt:161:5
 loop-again : tie.Need-loop-again Inv-loop μ-loop
 loop-again c = let n = ap length (c .back .ensures) ∙ length-drop 64 (c .before .before .before .before .loop .rest .now) in let v = c .before .before .before .before .loop .inv in
     (omega arith, omega arith, omega arith, λ l g. under-turn _ _ (c .before .before .before .before .loop .d) (c .before .before .before .before .loop .h) (c .before .before .before .before .loop .rest .now) (c .before .before .load .result) (c .before .step .result) (c .back .result .now) l g (omega arith) (v .3 l g) (c .before .before .load .ensures l g) (c .before .step .ensures l g) (c .back .ensures))
 
--- src/lib.rt:168:13
 load-requires-2 : tie.Need-load-requires-2 Inv-loop μ-loop
 load-requires-2 c κs = search needs
 
--- src/lib.rt:168:28
 add-step : tie.Need-add-step Inv-loop μ-loop
 add-step c = search needs
 
--- src/lib.rt:168:5
 step-requires-2 : tie.Need-step-requires-2 Inv-loop μ-loop
 step-requires-2 c κs = search needs
 
--- src/lib.rt:154:1
 returns : tie.Need-returns Inv-loop μ-loop
 returns c = let v = c .before .before .before .loop .inv in λ l g. under-end _ _ (c .before .before .before .loop .d) (c .before .before .before .loop .h) (c .before .before .before .loop .rest .now) (c .before .load2 .result) (c .step2 .result) l g (omega arith) (v .3 l g) (c .before .load2 .ensures l g) (c .step2 .ensures l g)
 

@@ -2,45 +2,31 @@ use borrow.Author.Needs.{needs}
 use Rattle.lanes.proofs.Blocks.{four-made}
 use Rattle.lanes.proofs.four.Statement.{statement}
 use Rattle.lanes.proofs.four.Tie as tie
-use Rattle.lanes.proofs.four.Reads as reads
-use Rattle.lanes.proofs.four.Lts as lts
-use Rattle.chunk.proofs.parent_value.Reads as parent-value-reads
-use Rattle.lanes.proofs.chunks.Reads as chunks-reads
-use Rattle.lanes.proofs.lane.Reads as lane-reads
 
--- src/lib.rt:170:13
 chunks-requires : tie.Need-chunks-requires
 chunks-requires c κs = search needs
 
--- src/lib.rt:171:29
 lane-requires : tie.Need-lane-requires
 lane-requires c κs = search needs
 
--- src/lib.rt:171:42
 lane-requires-2 : tie.Need-lane-requires-2
 lane-requires-2 c κs = search needs
 
--- src/lib.rt:171:9
 parent-value-requires : tie.Need-parent-value-requires
 parent-value-requires c κs = search needs
 
--- src/lib.rt:172:30
 lane-requires-3 : tie.Need-lane-requires-3
 lane-requires-3 c κs = search needs
 
--- src/lib.rt:172:43
 lane-requires-4 : tie.Need-lane-requires-4
 lane-requires-4 c κs = search needs
 
--- src/lib.rt:172:9
 parent-value-requires-2 : tie.Need-parent-value-requires-2
 parent-value-requires-2 c κs = search needs
 
--- src/lib.rt:173:5
 parent-value-requires-3 : tie.Need-parent-value-requires-3
 parent-value-requires-3 c κs = search needs
 
--- src/lib.rt:166:1
 returns : tie.Need-returns
 returns c = four-made _ _ _ (c .before .before .before .before .before .before .before .before .before .before .before .chunks .result) (c .before .before .before .before .before .before .before .before .before .lane .result) (c .before .before .before .before .before .before .before .lane2 .result) (c .before .before .before .before .lane3 .result) (c .before .before .lane4 .result) (c .before .before .before .before .before .before .parent-value .result) (c .before .parent-value2 .result) (c .before .before .before .before .before .before .before .before .before .before .before .chunks .ensures) (c .before .before .before .before .before .before .before .before .before .lane .ensures) (c .before .before .before .before .before .before .before .lane2 .ensures) (c .before .before .before .before .lane3 .ensures) (c .before .before .lane4 .ensures) (c .before .before .before .before .before .before .parent-value .ensures) (c .before .parent-value2 .ensures) (c .parent-value3 .ensures)
 

@@ -1,13 +1,10 @@
 use Rattle.lanes.proofs.Laws.{below-four}
 use Rattle.lanes.specs.Lanes.{lane8}
 use Rattle.compress.specs.Compress.{iv}
-use mathlib.Core.Path.{_≡_, refl}
+use mathlib.Core.Path.{refl}
 use Rattle.lanes.proofs.iv_lanes.Statement.{statement}
 use Rattle.lanes.proofs.iv_lanes.Tie as tie
-use Rattle.lanes.proofs.iv_lanes.Reads as reads
-use Rattle.lanes.proofs.iv_lanes.Lts as lts
 
--- src/lib.rt:97:1
 returns : tie.Need-returns
 unfolding iv lane8
 returns c = below-four _ refl refl refl refl

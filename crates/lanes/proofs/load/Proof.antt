@@ -1,13 +1,10 @@
 use native.Mathlib.Omega.{arith}
 use borrow.Author.Needs.{needs}
 use Rattle.lanes.proofs.Laws.{Loaded, loaded-none, load-turn, loaded-words}
-use mathlib.Core.Path.{_≡_, refl}
+use mathlib.Core.Path.{refl}
 use Prim.Native.Nat.{_≤_, _-_}
 use Rattle.lanes.proofs.load.Statement.{statement}
 use Rattle.lanes.proofs.load.Tie as tie
-use Rattle.lanes.proofs.load.Reads as reads
-use Rattle.lanes.proofs.load.Lts as lts
-use Rattle.word.proofs.le_word.Reads as le-word-reads
 
 abbrev Inv-loop : tie.InvT-loop
 Inv-loop s m₀ i₀ m i = (i ≤ 16) × Loaded m s i
@@ -15,135 +12,102 @@ Inv-loop s m₀ i₀ m i = (i ≤ 16) × Loaded m s i
 abbrev μ-loop : tie.MeasureT-loop
 μ-loop s m₀ i₀ m i = 16 - i
 
--- src/lib.rt:86:5
 loop-holds : tie.Need-loop-holds Inv-loop μ-loop
 loop-holds c = (omega arith, loaded-none _ _ refl)
 
--- src/lib.rt:87:35
 mul-le-word : tie.Need-mul-le-word Inv-loop μ-loop
 mul-le-word c = search needs
 
--- src/lib.rt:87:35
 add-le-word : tie.Need-add-le-word Inv-loop μ-loop
 add-le-word c = search needs
 
--- src/lib.rt:87:24
 le-word-requires : tie.Need-le-word-requires Inv-loop μ-loop
 le-word-requires c κs = search needs
 
--- src/lib.rt:87:11
 mul-m : tie.Need-mul-m Inv-loop μ-loop
 mul-m c = search needs
 
--- src/lib.rt:87:11
 add-m : tie.Need-add-m Inv-loop μ-loop
 add-m c = search needs
 
--- src/lib.rt:87:9
 mul-m-2 : tie.Need-mul-m-2 Inv-loop μ-loop
 mul-m-2 c = search needs
 
--- src/lib.rt:87:9
 array-write-m : tie.Need-array-write-m Inv-loop μ-loop
 array-write-m c = search needs
 
--- src/lib.rt:88:35
 mul-le-word-2 : tie.Need-mul-le-word-2 Inv-loop μ-loop
 mul-le-word-2 c = search needs
 
--- src/lib.rt:88:35
 add-le-word-2 : tie.Need-add-le-word-2 Inv-loop μ-loop
 add-le-word-2 c = search needs
 
--- src/lib.rt:88:24
 le-word-requires-2 : tie.Need-le-word-requires-2 Inv-loop μ-loop
 le-word-requires-2 c κs = search needs
 
--- src/lib.rt:88:11
 mul-m-3 : tie.Need-mul-m-3 Inv-loop μ-loop
 mul-m-3 c = search needs
 
--- src/lib.rt:88:11
 add-m-2 : tie.Need-add-m-2 Inv-loop μ-loop
 add-m-2 c = search needs
 
--- src/lib.rt:88:9
 mul-m-4 : tie.Need-mul-m-4 Inv-loop μ-loop
 mul-m-4 c = search needs
 
--- src/lib.rt:88:9
 array-write-m-2 : tie.Need-array-write-m-2 Inv-loop μ-loop
 array-write-m-2 c = search needs
 
--- src/lib.rt:89:35
 mul-le-word-3 : tie.Need-mul-le-word-3 Inv-loop μ-loop
 mul-le-word-3 c = search needs
 
--- src/lib.rt:89:35
 add-le-word-3 : tie.Need-add-le-word-3 Inv-loop μ-loop
 add-le-word-3 c = search needs
 
--- src/lib.rt:89:24
 le-word-requires-3 : tie.Need-le-word-requires-3 Inv-loop μ-loop
 le-word-requires-3 c κs = search needs
 
--- src/lib.rt:89:11
 mul-m-5 : tie.Need-mul-m-5 Inv-loop μ-loop
 mul-m-5 c = search needs
 
--- src/lib.rt:89:11
 add-m-3 : tie.Need-add-m-3 Inv-loop μ-loop
 add-m-3 c = search needs
 
--- src/lib.rt:89:9
 mul-m-6 : tie.Need-mul-m-6 Inv-loop μ-loop
 mul-m-6 c = search needs
 
--- src/lib.rt:89:9
 array-write-m-3 : tie.Need-array-write-m-3 Inv-loop μ-loop
 array-write-m-3 c = search needs
 
--- src/lib.rt:90:35
 mul-le-word-4 : tie.Need-mul-le-word-4 Inv-loop μ-loop
 mul-le-word-4 c = search needs
 
--- src/lib.rt:90:35
 add-le-word-4 : tie.Need-add-le-word-4 Inv-loop μ-loop
 add-le-word-4 c = search needs
 
--- src/lib.rt:90:24
 le-word-requires-4 : tie.Need-le-word-requires-4 Inv-loop μ-loop
 le-word-requires-4 c κs = search needs
 
--- src/lib.rt:90:11
 mul-m-7 : tie.Need-mul-m-7 Inv-loop μ-loop
 mul-m-7 c = search needs
 
--- src/lib.rt:90:11
 add-m-4 : tie.Need-add-m-4 Inv-loop μ-loop
 add-m-4 c = search needs
 
--- src/lib.rt:90:9
 mul-m-8 : tie.Need-mul-m-8 Inv-loop μ-loop
 mul-m-8 c = search needs
 
--- src/lib.rt:90:9
 array-write-m-4 : tie.Need-array-write-m-4 Inv-loop μ-loop
 array-write-m-4 c = search needs
 
--- src/lib.rt:91:9
 add-i : tie.Need-add-i Inv-loop μ-loop
 add-i c = search needs
 
--- src/lib.rt:86:5
 loop-less : tie.Need-loop-less Inv-loop μ-loop
 loop-less c = search needs
 
--- src/lib.rt:86:5
 loop-again : tie.Need-loop-again Inv-loop μ-loop
 loop-again c = let l = c .before .before .before .before .before .loop in (omega arith, load-turn (l .m) _ (l .i) _ _ _ _ (l .inv .1) (omega arith) (c .before .before .before .le-word .ensures) (c .before .before .le-word2 .ensures) (c .before .le-word3 .ensures) (c .le-word4 .ensures))
 
--- src/lib.rt:80:1
 returns : tie.Need-returns Inv-loop μ-loop
 returns c = let l = c .before .loop in loaded-words (l .m) _ (l .i) (omega arith) (l .inv .1)
 

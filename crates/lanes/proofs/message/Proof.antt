@@ -4,202 +4,151 @@ use mathlib.Core.Path.{refl}
 use borrow.Author.Needs.{needs}
 use Rattle.lanes.proofs.message.Statement.{statement}
 use Rattle.lanes.proofs.message.Tie as tie
-use Rattle.lanes.proofs.message.Reads as reads
-use Rattle.lanes.proofs.message.Lts as lts
 
--- src/lib.rt:49:15
 add-t3 : tie.Need-add-t3
 add-t3 c = search needs
 
--- src/lib.rt:49:13
 mul-t4 : tie.Need-mul-t4
 mul-t4 c = search needs
 
--- src/lib.rt:49:13
 element-copy-out-t7 : tie.Need-element-copy-out-t7
 element-copy-out-t7 c = search needs
 
--- src/lib.rt:50:15
 add-t8 : tie.Need-add-t8
 add-t8 c = search needs
 
--- src/lib.rt:50:13
 mul-t9 : tie.Need-mul-t9
 mul-t9 c = search needs
 
--- src/lib.rt:50:13
 element-copy-out-t12 : tie.Need-element-copy-out-t12
 element-copy-out-t12 c = search needs
 
--- src/lib.rt:51:15
 add-t13 : tie.Need-add-t13
 add-t13 c = search needs
 
--- src/lib.rt:51:13
 mul-t14 : tie.Need-mul-t14
 mul-t14 c = search needs
 
--- src/lib.rt:51:13
 element-copy-out-t17 : tie.Need-element-copy-out-t17
 element-copy-out-t17 c = search needs
 
--- src/lib.rt:52:15
 add-t18 : tie.Need-add-t18
 add-t18 c = search needs
 
--- src/lib.rt:52:13
 mul-t19 : tie.Need-mul-t19
 mul-t19 c = search needs
 
--- src/lib.rt:52:13
 element-copy-out-t22 : tie.Need-element-copy-out-t22
 element-copy-out-t22 c = search needs
 
--- src/lib.rt:53:15
 add-t23 : tie.Need-add-t23
 add-t23 c = search needs
 
--- src/lib.rt:53:13
 mul-t24 : tie.Need-mul-t24
 mul-t24 c = search needs
 
--- src/lib.rt:53:13
 element-copy-out-t27 : tie.Need-element-copy-out-t27
 element-copy-out-t27 c = search needs
 
--- src/lib.rt:54:15
 add-t28 : tie.Need-add-t28
 add-t28 c = search needs
 
--- src/lib.rt:54:13
 mul-t29 : tie.Need-mul-t29
 mul-t29 c = search needs
 
--- src/lib.rt:54:13
 element-copy-out-t32 : tie.Need-element-copy-out-t32
 element-copy-out-t32 c = search needs
 
--- src/lib.rt:55:15
 add-t33 : tie.Need-add-t33
 add-t33 c = search needs
 
--- src/lib.rt:55:13
 mul-t34 : tie.Need-mul-t34
 mul-t34 c = search needs
 
--- src/lib.rt:55:13
 element-copy-out-t37 : tie.Need-element-copy-out-t37
 element-copy-out-t37 c = search needs
 
--- src/lib.rt:56:15
 add-t38 : tie.Need-add-t38
 add-t38 c = search needs
 
--- src/lib.rt:56:13
 mul-t39 : tie.Need-mul-t39
 mul-t39 c = search needs
 
--- src/lib.rt:56:13
 element-copy-out-t42 : tie.Need-element-copy-out-t42
 element-copy-out-t42 c = search needs
 
--- src/lib.rt:57:15
 add-t43 : tie.Need-add-t43
 add-t43 c = search needs
 
--- src/lib.rt:57:13
 mul-t44 : tie.Need-mul-t44
 mul-t44 c = search needs
 
--- src/lib.rt:57:13
 element-copy-out-t47 : tie.Need-element-copy-out-t47
 element-copy-out-t47 c = search needs
 
--- src/lib.rt:58:15
 add-t48 : tie.Need-add-t48
 add-t48 c = search needs
 
--- src/lib.rt:58:13
 mul-t49 : tie.Need-mul-t49
 mul-t49 c = search needs
 
--- src/lib.rt:58:13
 element-copy-out-t52 : tie.Need-element-copy-out-t52
 element-copy-out-t52 c = search needs
 
--- src/lib.rt:59:16
 add-t53 : tie.Need-add-t53
 add-t53 c = search needs
 
--- src/lib.rt:59:14
 mul-t54 : tie.Need-mul-t54
 mul-t54 c = search needs
 
--- src/lib.rt:59:14
 element-copy-out-t57 : tie.Need-element-copy-out-t57
 element-copy-out-t57 c = search needs
 
--- src/lib.rt:60:16
 add-t58 : tie.Need-add-t58
 add-t58 c = search needs
 
--- src/lib.rt:60:14
 mul-t59 : tie.Need-mul-t59
 mul-t59 c = search needs
 
--- src/lib.rt:60:14
 element-copy-out-t62 : tie.Need-element-copy-out-t62
 element-copy-out-t62 c = search needs
 
--- src/lib.rt:61:16
 add-t63 : tie.Need-add-t63
 add-t63 c = search needs
 
--- src/lib.rt:61:14
 mul-t64 : tie.Need-mul-t64
 mul-t64 c = search needs
 
--- src/lib.rt:61:14
 element-copy-out-t67 : tie.Need-element-copy-out-t67
 element-copy-out-t67 c = search needs
 
--- src/lib.rt:62:16
 add-t68 : tie.Need-add-t68
 add-t68 c = search needs
 
--- src/lib.rt:62:14
 mul-t69 : tie.Need-mul-t69
 mul-t69 c = search needs
 
--- src/lib.rt:62:14
 element-copy-out-t72 : tie.Need-element-copy-out-t72
 element-copy-out-t72 c = search needs
 
--- src/lib.rt:63:16
 add-t73 : tie.Need-add-t73
 add-t73 c = search needs
 
--- src/lib.rt:63:14
 mul-t74 : tie.Need-mul-t74
 mul-t74 c = search needs
 
--- src/lib.rt:63:14
 element-copy-out-t77 : tie.Need-element-copy-out-t77
 element-copy-out-t77 c = search needs
 
--- src/lib.rt:64:16
 add-t78 : tie.Need-add-t78
 add-t78 c = search needs
 
--- src/lib.rt:64:14
 mul-t79 : tie.Need-mul-t79
 mul-t79 c = search needs
 
--- src/lib.rt:64:14
 element-copy-out-t82 : tie.Need-element-copy-out-t82
 element-copy-out-t82 c = search needs
 
--- src/lib.rt:44:1
 returns : tie.Need-returns
 unfolding lane16 listOf
 returns c = refl

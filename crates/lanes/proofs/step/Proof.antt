@@ -2,18 +2,12 @@ use native.Mathlib.Omega.{arith}
 use borrow.Author.Needs.{needs}
 use Rattle.lanes.proofs.Laws.{step-turn}
 use Rattle.lanes.specs.Lanes.{lane8, lane16}
-use Rattle.compress.specs.Words.{listOf}
 use Rattle.compress.specs.Compress.{compressed}
 use lib.ListN.{length, length-set}
 use mathlib.Core.Path.{_≡_, refl, ap₂, _∙_}
 use Prim.Native.Nat.{ℕ, _≤_, _<_, _-_, _+_}
 use Rattle.lanes.proofs.step.Statement.{statement}
 use Rattle.lanes.proofs.step.Tie as tie
-use Rattle.lanes.proofs.step.Reads as reads
-use Rattle.lanes.proofs.step.Lts as lts
-use Rattle.lanes.proofs.compress_block.Reads as compress-block-reads
-use Rattle.lanes.proofs.lane.Reads as lane-reads
-use Rattle.lanes.proofs.message.Reads as message-reads
 
 abbrev Inv-loop : tie.InvT-loop
 Inv-loop t d h m out₀ l₀ out l = (l ≤ 4) × (length out ≡ 32) × ((j : ℕ) → j < l → lane8 out j ≡ compressed (lane8 h j) (lane16 m j) (t + j) 64 d)
@@ -21,167 +15,126 @@ Inv-loop t d h m out₀ l₀ out l = (l ≤ 4) × (length out ≡ 32) × ((j : �
 abbrev μ-loop : tie.MeasureT-loop
 μ-loop t d h m out₀ l₀ out l = 4 - l
 
--- src/lib.rt:75:5
 loop-holds : tie.Need-loop-holds Inv-loop μ-loop
 loop-holds c = (omega arith, refl, λ j k. absurd (omega arith))
 
--- src/lib.rt:76:32
 lane-requires : tie.Need-lane-requires Inv-loop μ-loop
 lane-requires c κs = search needs
 
--- src/lib.rt:76:45
 message-requires : tie.Need-message-requires Inv-loop μ-loop
 message-requires c κs = search needs
 
--- src/lib.rt:76:61
 add-compress-block : tie.Need-add-compress-block Inv-loop μ-loop
 add-compress-block c = search needs
 
--- src/lib.rt:76:17
 compress-block-requires : tie.Need-compress-block-requires Inv-loop μ-loop
 compress-block-requires c κs = search needs
 
--- src/lib.rt:77:22
 array-read-out : tie.Need-array-read-out Inv-loop μ-loop
 array-read-out c = search needs
 
--- src/lib.rt:77:13
 add-out : tie.Need-add-out Inv-loop μ-loop
 add-out c = search needs
 
--- src/lib.rt:77:9
 mul-out : tie.Need-mul-out Inv-loop μ-loop
 mul-out c = search needs
 
--- src/lib.rt:77:9
 array-write-out : tie.Need-array-write-out Inv-loop μ-loop
 array-write-out c = search needs
 
--- src/lib.rt:78:22
 array-read-out-2 : tie.Need-array-read-out-2 Inv-loop μ-loop
 array-read-out-2 c = search needs
 
--- src/lib.rt:78:13
 add-out-2 : tie.Need-add-out-2 Inv-loop μ-loop
 add-out-2 c = search needs
 
--- src/lib.rt:78:9
 mul-out-2 : tie.Need-mul-out-2 Inv-loop μ-loop
 mul-out-2 c = search needs
 
--- src/lib.rt:78:9
 array-write-out-2 : tie.Need-array-write-out-2 Inv-loop μ-loop
 array-write-out-2 c = search needs
 
--- src/lib.rt:79:22
 array-read-out-3 : tie.Need-array-read-out-3 Inv-loop μ-loop
 array-read-out-3 c = search needs
 
--- src/lib.rt:79:13
 add-out-3 : tie.Need-add-out-3 Inv-loop μ-loop
 add-out-3 c = search needs
 
--- src/lib.rt:79:9
 mul-out-3 : tie.Need-mul-out-3 Inv-loop μ-loop
 mul-out-3 c = search needs
 
--- src/lib.rt:79:9
 array-write-out-3 : tie.Need-array-write-out-3 Inv-loop μ-loop
 array-write-out-3 c = search needs
 
--- src/lib.rt:80:23
 array-read-out-4 : tie.Need-array-read-out-4 Inv-loop μ-loop
 array-read-out-4 c = search needs
 
--- src/lib.rt:80:13
 add-out-4 : tie.Need-add-out-4 Inv-loop μ-loop
 add-out-4 c = search needs
 
--- src/lib.rt:80:9
 mul-out-4 : tie.Need-mul-out-4 Inv-loop μ-loop
 mul-out-4 c = search needs
 
--- src/lib.rt:80:9
 array-write-out-4 : tie.Need-array-write-out-4 Inv-loop μ-loop
 array-write-out-4 c = search needs
 
--- src/lib.rt:81:23
 array-read-out-5 : tie.Need-array-read-out-5 Inv-loop μ-loop
 array-read-out-5 c = search needs
 
--- src/lib.rt:81:13
 add-out-5 : tie.Need-add-out-5 Inv-loop μ-loop
 add-out-5 c = search needs
 
--- src/lib.rt:81:9
 mul-out-5 : tie.Need-mul-out-5 Inv-loop μ-loop
 mul-out-5 c = search needs
 
--- src/lib.rt:81:9
 array-write-out-5 : tie.Need-array-write-out-5 Inv-loop μ-loop
 array-write-out-5 c = search needs
 
--- src/lib.rt:82:23
 array-read-out-6 : tie.Need-array-read-out-6 Inv-loop μ-loop
 array-read-out-6 c = search needs
 
--- src/lib.rt:82:13
 add-out-6 : tie.Need-add-out-6 Inv-loop μ-loop
 add-out-6 c = search needs
 
--- src/lib.rt:82:9
 mul-out-6 : tie.Need-mul-out-6 Inv-loop μ-loop
 mul-out-6 c = search needs
 
--- src/lib.rt:82:9
 array-write-out-6 : tie.Need-array-write-out-6 Inv-loop μ-loop
 array-write-out-6 c = search needs
 
--- src/lib.rt:83:23
 array-read-out-7 : tie.Need-array-read-out-7 Inv-loop μ-loop
 array-read-out-7 c = search needs
 
--- src/lib.rt:83:13
 add-out-7 : tie.Need-add-out-7 Inv-loop μ-loop
 add-out-7 c = search needs
 
--- src/lib.rt:83:9
 mul-out-7 : tie.Need-mul-out-7 Inv-loop μ-loop
 mul-out-7 c = search needs
 
--- src/lib.rt:83:9
 array-write-out-7 : tie.Need-array-write-out-7 Inv-loop μ-loop
 array-write-out-7 c = search needs
 
--- src/lib.rt:84:23
 array-read-out-8 : tie.Need-array-read-out-8 Inv-loop μ-loop
 array-read-out-8 c = search needs
 
--- src/lib.rt:84:13
 add-out-8 : tie.Need-add-out-8 Inv-loop μ-loop
 add-out-8 c = search needs
 
--- src/lib.rt:84:9
 mul-out-8 : tie.Need-mul-out-8 Inv-loop μ-loop
 mul-out-8 c = search needs
 
--- src/lib.rt:84:9
 array-write-out-8 : tie.Need-array-write-out-8 Inv-loop μ-loop
 array-write-out-8 c = search needs
 
--- src/lib.rt:85:9
 add-l : tie.Need-add-l Inv-loop μ-loop
 add-l c = search needs
 
--- src/lib.rt:75:5
 loop-less : tie.Need-loop-less Inv-loop μ-loop
 loop-less c = search needs
 
--- src/lib.rt:75:5
 loop-again : tie.Need-loop-again Inv-loop μ-loop
 loop-again c = let l = c .before .before .before .before .before .before .loop in let a = c .before .before .before .before .before .before .before .args in (omega arith, simp length-set (l .inv .1), step-turn (a .t1) (a .t2) (l .out) (c .compress-block .result) (a .t) (a .d) (l .l) (l .inv .1) (omega arith) (l .inv .2) (c .compress-block .ensures ∙ ap₂ (λ x y. compressed x y (a .t + l .l) 64 (a .d)) (c .before .before .before .lane .ensures) (c .before .message .ensures)))
 
--- src/lib.rt:69:1
 returns : tie.Need-returns Inv-loop μ-loop
 returns c = let l = c .before .loop in λ j k. l .inv .2 j (omega arith)
 

@@ -2,15 +2,11 @@ use lib.Ieee.{ofBits}
 use Rattle.latency.proofs.Laws.{at-least-floor, at-least-own}
 use Rattle.latency.proofs.at_least.Statement.{statement}
 use Rattle.latency.proofs.at_least.Tie as tie
-use Rattle.latency.proofs.at_least.Reads as reads
-use Rattle.latency.proofs.at_least.Lts as lts
 
--- src/lib.rt:57:1
 returns : tie.Need-returns
 unfolding ofBits
 returns c = at-least-floor (c .before .args .x) (c .if1 .taken)
 
--- src/lib.rt:57:1
 returns-2 : tie.Need-returns-2
 unfolding ofBits
 returns-2 c = at-least-own (c .before .args .x) (c .if1 .left)

@@ -2,31 +2,20 @@ use Rattle.latency.proofs.Laws.{delay-in-range, delay-is}
 use borrow.Author.Needs.{needs}
 use Rattle.latency.proofs.delay.Statement.{statement}
 use Rattle.latency.proofs.delay.Tie as tie
-use Rattle.latency.proofs.delay.Reads as reads
-use Rattle.latency.proofs.delay.Lts as lts
-use Rattle.latency.proofs.at_least.Reads as at-least-reads
-use Rattle.latency.proofs.jitter.Reads as jitter-reads
-use Rattle.time.proofs.Time.as_secs_f64.Reads as as-secs-f64-reads
-use Rattle.time.proofs.Time.from_secs_f64.Reads as from-secs-f64-reads
 
--- src/lib.rt:68:9
 as-secs-f64-requires : tie.Need-as-secs-f64-requires
 as-secs-f64-requires c κs = search needs
 
--- src/lib.rt:69:9
 jitter-requires : tie.Need-jitter-requires
 jitter-requires c κs = search needs
 
--- src/lib.rt:71:39
 at-least-requires : tie.Need-at-least-requires
 at-least-requires c κs = search needs
 
--- src/lib.rt:71:9
 from-secs-f64-requires : tie.Need-from-secs-f64-requires
 from-secs-f64-requires c κs = let s = c .before .before .before .before .before in let j = c .before .before .before .jitter in
     delay-in-range (s .args .c) (j .result .next) (s .args .base .ns) (s .args .fraction) (s .pre .0) (c .before .before .before .before .as-secs-f64 .ensures) (j .ensures .0) (c .at-least .ensures)
 
--- src/lib.rt:64:1
 returns : tie.Need-returns
 returns c = let s = c .before .before .before .before .before .before in let j = c .before .before .before .before .jitter in let t = c .from-secs-f64 in
     delay-is (s .args .c) (j .result .next) (s .args .base .ns) (s .args .fraction) (s .pre .0) (c .before .before .before .before .before .as-secs-f64 .ensures) (j .ensures .0) (c .before .at-least .ensures) (t .ensures .0) (t .ensures .1) (j .ensures .1)

@@ -3,20 +3,15 @@ use lib.Ieee.{ofBits}
 use Rattle.latency.proofs.Tests.{none, some, few}
 use Rattle.latency.proofs.fraction_admitted.Statement.{statement}
 use Rattle.latency.proofs.fraction_admitted.Tie as tie
-use Rattle.latency.proofs.fraction_admitted.Reads as reads
-use Rattle.latency.proofs.fraction_admitted.Lts as lts
 
--- src/lib.rt:28:1
 returns : tie.Need-returns
 unfolding ofBits
 returns c = c .if1 .taken ∙ none (c .before .args .fraction) (c .if1 .taken)
 
--- src/lib.rt:28:1
 returns-2 : tie.Need-returns-2
 unfolding ofBits
 returns-2 c = some (c .before .before .args .fraction) (c .before .if1 .left) (c .if2 .taken)
 
--- src/lib.rt:28:1
 returns-3 : tie.Need-returns-3
 unfolding ofBits
 returns-3 c = c .if2 .left ∙ few (c .before .before .args .fraction) (c .before .if1 .left) (c .if2 .left)

@@ -3,21 +3,15 @@ use Rattle.latency.proofs.Laws.{jitter-drawn, jitter-none}
 use borrow.Author.Needs.{needs}
 use Rattle.latency.proofs.jitter.Statement.{statement}
 use Rattle.latency.proofs.jitter.Tie as tie
-use Rattle.latency.proofs.jitter.Reads as reads
-use Rattle.latency.proofs.jitter.Lts as lts
-use Rattle.draw.proofs.draw_real.Reads as draw-real-reads
 
--- src/lib.rt:48:9
 draw-real-requires : tie.Need-draw-real-requires
 draw-real-requires c κs = search needs
 
--- src/lib.rt:48:9
 returns : tie.Need-returns
 unfolding ofBits
 returns c = let s = c .before .before in
     jitter-drawn (s .args .c) (c .draw-real .result .next) (s .args .s) (s .args .fraction) (c .before .if1 .taken) (c .draw-real .ensures .0) (c .draw-real .ensures .1)
 
--- src/lib.rt:42:1
 returns-2 : tie.Need-returns-2
 unfolding ofBits
 returns-2 c = let s = c .before in jitter-none (s .args .c) (s .args .c) (s .args .s) (s .args .fraction) (c .if1 .left) (s .pre .1)

@@ -3,15 +3,11 @@ use lib.Ieee.{ofBits}
 use Rattle.latency.proofs.Tests.{from-none, below-none}
 use Rattle.latency.proofs.rate_admitted.Statement.{statement}
 use Rattle.latency.proofs.rate_admitted.Tie as tie
-use Rattle.latency.proofs.rate_admitted.Reads as reads
-use Rattle.latency.proofs.rate_admitted.Lts as lts
 
--- src/lib.rt:35:1
 returns : tie.Need-returns
 unfolding ofBits
 returns c = from-none (c .before .args .rate) (c .if1 .taken)
 
--- src/lib.rt:35:1
 returns-2 : tie.Need-returns-2
 unfolding ofBits
 returns-2 c = c .if1 .left ∙ below-none (c .before .args .rate) (c .if1 .left)

@@ -4,36 +4,24 @@ use Rattle.latency.proofs.Laws.{room-hit, room-factor, weaken, spike-ra
 use borrow.Author.Needs.{needs}
 use Rattle.latency.proofs.sample_latency.Statement.{statement}
 use Rattle.latency.proofs.sample_latency.Tie as tie
-use Rattle.latency.proofs.sample_latency.Reads as reads
-use Rattle.latency.proofs.sample_latency.Lts as lts
-use Rattle.draw.proofs.draw_real.Reads as draw-real-reads
-use Rattle.draw.proofs.hits.Reads as hits-reads
-use Rattle.latency.proofs.delay.Reads as delay-reads
-use Rattle.time.proofs.Time.mul_f64.Reads as mul-f64-reads
-use Rattle.time.proofs.Time.plus.Reads as plus-reads
 
--- src/lib.rt:80:9
 delay-requires : tie.Need-delay-requires
 delay-requires c κs = search needs
 
--- src/lib.rt:83:9
 plus-requires : tie.Need-plus-requires
 plus-requires c κs = search needs
 
--- src/lib.rt:84:9
 hits-requires : tie.Need-hits-requires
 hits-requires c κs = let s = c .before .before .before .before in
     let d = c .before .before .before .delay in
     (weaken _ 1 3 (room-hit (s .args .c) (d .result .next) (seconds (s .args .base .ns)) (s .args .fraction) (s .pre .2) (d .ensures .1)) (lit≤ tt), d .ensures .1 .holds)
 
--- src/lib.rt:87:13
 draw-real-requires : tie.Need-draw-real-requires
 draw-real-requires c κs = let s = c .before .before .before .before .before .before .before in
     let d = c .before .before .before .before .before .before .delay in
     let h = c .before .before .hits in
     (room-factor (d .result .next) (h .result .next) (s .args .rate) (room-hit (s .args .c) (d .result .next) (seconds (s .args .base .ns)) (s .args .fraction) (s .pre .2) (d .ensures .1)) (h .ensures .1), h .ensures .1 .holds)
 
--- src/lib.rt:89:13
 mul-f64-requires : tie.Need-mul-f64-requires
 mul-f64-requires c κs = let s = c .before .before .before .before .before .before .before .before .before in
     let d = c .before .before .before .before .before .before .before .before .delay in
@@ -41,7 +29,6 @@ mul-f64-requires c κs = let s = c .before .before .before .before .before .befo
     let h = c .before .before .before .before .hits in
     spike-range (s .args .c) (d .result .next) (h .result .next) (s .args .base .ns) (s .args .fraction) (s .args .rate) (s .args .transmission .ns) (d .ensures .0) (d .ensures .1) (d .ensures .2) (d .ensures .3) (s .pre .1) (p .ensures) (h .ensures .0) (h .ensures .1) (c .before .before .if1 .taken) (c .before .draw-real .ensures .0)
 
--- src/lib.rt:90:9
 returns : tie.Need-returns
 returns c = let s = c .before .before .before .before .before .before .before .before .before .before in
     let d = c .before .before .before .before .before .before .before .before .before .delay in
@@ -50,7 +37,6 @@ returns c = let s = c .before .before .before .before .before .before .before .b
     let y = c .before .before .draw-real in
     hit-is (s .args .c) (d .result .next) (h .result .next) (s .args .base .ns) (s .args .fraction) (s .args .rate) (s .args .transmission .ns) (d .ensures .0) (d .ensures .1) (d .ensures .2) (d .ensures .3) (s .pre .1) (p .ensures) (h .ensures .0) (h .ensures .1) (c .before .before .before .if1 .taken) (y .ensures .0) (y .result .next) (c .mul-f64 .ensures .0) (c .mul-f64 .ensures .1) (y .ensures .1)
 
--- src/lib.rt:76:1
 returns-2 : tie.Need-returns-2
 returns-2 c = let s = c .before .before .before .before .before .before .before in
     let d = c .before .before .before .before .before .before .delay in

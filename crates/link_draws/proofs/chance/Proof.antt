@@ -2,20 +2,13 @@ use Rattle.link_draws.proofs.Laws.{struck}
 use borrow.Author.Needs.{needs}
 use Rattle.link_draws.proofs.chance.Statement.{statement}
 use Rattle.link_draws.proofs.chance.Tie as tie
-use Rattle.link_draws.proofs.chance.Reads as reads
-use Rattle.link_draws.proofs.chance.Lts as lts
-use Rattle.draw.proofs.hits.Reads as hits-reads
-use Rattle.link_draws.proofs.rate.Reads as rate-reads
 
--- src/lib.rt:80:19
 rate-requires : tie.Need-rate-requires
 rate-requires c κs = search needs
 
--- src/lib.rt:80:5
 hits-requires : tie.Need-hits-requires
 hits-requires c κs = search needs
 
--- src/lib.rt:76:1
 returns : tie.Need-returns
 returns c = struck _ (c .before .before .before .args .c) (c .hits .result) (c .before .rate .result) (c .before .rate .ensures) (c .hits .ensures .0) (c .hits .ensures .1)
 

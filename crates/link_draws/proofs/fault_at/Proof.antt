@@ -2,20 +2,13 @@ use mathlib.Core.Path.{_∙_}
 use borrow.Author.Needs.{needs}
 use Rattle.link_draws.proofs.fault_at.Statement.{statement}
 use Rattle.link_draws.proofs.fault_at.Tie as tie
-use Rattle.link_draws.proofs.fault_at.Reads as reads
-use Rattle.link_draws.proofs.fault_at.Lts as lts
-use Rattle.link_draws.proofs.fault_key.Reads as fault-key-reads
-use Rattle.streams.proofs.at.Reads as at-reads
 
--- src/lib.rt:71:9
 fault-key-requires : tie.Need-fault-key-requires
 fault-key-requires c κs = search needs
 
--- src/lib.rt:72:5
 at-requires : tie.Need-at-requires
 at-requires c κs = search needs
 
--- src/lib.rt:67:1
 returns : tie.Need-returns
 returns c = record { key = c .at .ensures .0 ∙ c .before .fault-key .ensures; count = c .at .ensures .1; holds = c .at .ensures .2 }
 

@@ -4,131 +4,97 @@ use mathlib.Core.List.{[], _∷_}
 use borrow.Author.Needs.{needs}
 use Rattle.link_draws.proofs.fault_key.Statement.{statement}
 use Rattle.link_draws.proofs.fault_key.Tie as tie
-use Rattle.link_draws.proofs.fault_key.Reads as reads
-use Rattle.link_draws.proofs.fault_key.Lts as lts
-use Rattle.link_draws.proofs.low.Reads as low-reads
 
--- src/lib.rt:54:10
 shared-slice-read-low : tie.Need-shared-slice-read-low
 shared-slice-read-low c = search needs
 
--- src/lib.rt:54:6
 low-requires : tie.Need-low-requires
 low-requires c κs = search needs
 
--- src/lib.rt:54:33
 add-low : tie.Need-add-low
 add-low c = search needs
 
--- src/lib.rt:54:27
 mul-low : tie.Need-mul-low
 mul-low c = search needs
 
--- src/lib.rt:54:27
 shared-slice-read-low-2 : tie.Need-shared-slice-read-low-2
 shared-slice-read-low-2 c = search needs
 
--- src/lib.rt:54:23
 low-requires-2 : tie.Need-low-requires-2
 low-requires-2 c κs = search needs
 
--- src/lib.rt:54:54
 add-low-2 : tie.Need-add-low-2
 add-low-2 c = search needs
 
--- src/lib.rt:54:48
 mul-low-2 : tie.Need-mul-low-2
 mul-low-2 c = search needs
 
--- src/lib.rt:54:48
 shared-slice-read-low-3 : tie.Need-shared-slice-read-low-3
 shared-slice-read-low-3 c = search needs
 
--- src/lib.rt:54:44
 low-requires-3 : tie.Need-low-requires-3
 low-requires-3 c κs = search needs
 
--- src/lib.rt:54:75
 add-low-3 : tie.Need-add-low-3
 add-low-3 c = search needs
 
--- src/lib.rt:54:69
 mul-low-3 : tie.Need-mul-low-3
 mul-low-3 c = search needs
 
--- src/lib.rt:54:69
 shared-slice-read-low-4 : tie.Need-shared-slice-read-low-4
 shared-slice-read-low-4 c = search needs
 
--- src/lib.rt:54:65
 low-requires-4 : tie.Need-low-requires-4
 low-requires-4 c κs = search needs
 
--- src/lib.rt:54:96
 add-low-4 : tie.Need-add-low-4
 add-low-4 c = search needs
 
--- src/lib.rt:54:90
 mul-low-4 : tie.Need-mul-low-4
 mul-low-4 c = search needs
 
--- src/lib.rt:54:90
 shared-slice-read-low-5 : tie.Need-shared-slice-read-low-5
 shared-slice-read-low-5 c = search needs
 
--- src/lib.rt:54:86
 low-requires-5 : tie.Need-low-requires-5
 low-requires-5 c κs = search needs
 
--- src/lib.rt:54:117
 add-low-5 : tie.Need-add-low-5
 add-low-5 c = search needs
 
--- src/lib.rt:54:111
 mul-low-5 : tie.Need-mul-low-5
 mul-low-5 c = search needs
 
--- src/lib.rt:54:111
 shared-slice-read-low-6 : tie.Need-shared-slice-read-low-6
 shared-slice-read-low-6 c = search needs
 
--- src/lib.rt:54:107
 low-requires-6 : tie.Need-low-requires-6
 low-requires-6 c κs = search needs
 
--- src/lib.rt:54:138
 add-low-6 : tie.Need-add-low-6
 add-low-6 c = search needs
 
--- src/lib.rt:54:132
 mul-low-6 : tie.Need-mul-low-6
 mul-low-6 c = search needs
 
--- src/lib.rt:54:132
 shared-slice-read-low-7 : tie.Need-shared-slice-read-low-7
 shared-slice-read-low-7 c = search needs
 
--- src/lib.rt:54:128
 low-requires-7 : tie.Need-low-requires-7
 low-requires-7 c κs = search needs
 
--- src/lib.rt:54:159
 add-low-7 : tie.Need-add-low-7
 add-low-7 c = search needs
 
--- src/lib.rt:54:153
 mul-low-7 : tie.Need-mul-low-7
 mul-low-7 c = search needs
 
--- src/lib.rt:54:153
 shared-slice-read-low-8 : tie.Need-shared-slice-read-low-8
 shared-slice-read-low-8 c = search needs
 
--- src/lib.rt:54:149
 low-requires-8 : tie.Need-low-requires-8
 low-requires-8 c κs = search needs
 
--- src/lib.rt:50:1
 returns : tie.Need-returns
 returns c = (λ j. c .before .before .before .before .before .before .before .before .before .before .before .before .before .before .low .ensures j ∷ c .before .before .before .before .before .before .before .before .before .before .before .before .low2 .ensures j ∷ c .before .before .before .before .before .before .before .before .before .before .low3 .ensures j ∷ c .before .before .before .before .before .before .before .before .low4 .ensures j ∷ c .before .before .before .before .before .before .low5 .ensures j ∷ c .before .before .before .before .low6 .ensures j ∷ c .before .before .low7 .ensures j ∷ c .low8 .ensures j ∷ []) ∙ fault-cells (c .before .before .before .before .before .before .before .before .before .before .before .before .before .before .before .before .before .args .setup .now)
 

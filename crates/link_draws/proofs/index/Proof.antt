@@ -2,15 +2,10 @@ use Rattle.link_draws.proofs.Laws.{picked}
 use borrow.Author.Needs.{needs}
 use Rattle.link_draws.proofs.index.Statement.{statement}
 use Rattle.link_draws.proofs.index.Tie as tie
-use Rattle.link_draws.proofs.index.Reads as reads
-use Rattle.link_draws.proofs.index.Lts as lts
-use Rattle.draw.proofs.whole32.Reads as whole32-reads
 
--- src/lib.rt:88:5
 whole32-requires : tie.Need-whole32-requires
 whole32-requires c κs = search needs
 
--- src/lib.rt:84:1
 returns : tie.Need-returns
 returns c = picked (c .before .args .n) (c .before .args .c) (c .whole32 .result) (c .whole32 .ensures .0) (c .whole32 .ensures .1) (c .whole32 .ensures .2)
 

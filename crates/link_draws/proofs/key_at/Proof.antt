@@ -2,102 +2,76 @@ use Rattle.shift.proofs.Blocks.{cells-at}
 use borrow.Author.Needs.{needs}
 use Rattle.link_draws.proofs.key_at.Statement.{statement}
 use Rattle.link_draws.proofs.key_at.Tie as tie
-use Rattle.link_draws.proofs.key_at.Reads as reads
-use Rattle.link_draws.proofs.key_at.Lts as lts
 
--- src/lib.rt:47:6
 mul-t3 : tie.Need-mul-t3
 mul-t3 c = search needs
 
--- src/lib.rt:47:6
 shared-slice-read-t5 : tie.Need-shared-slice-read-t5
 shared-slice-read-t5 c = search needs
 
--- src/lib.rt:47:20
 add-t6 : tie.Need-add-t6
 add-t6 c = search needs
 
--- src/lib.rt:47:15
 mul-t7 : tie.Need-mul-t7
 mul-t7 c = search needs
 
--- src/lib.rt:47:15
 shared-slice-read-t9 : tie.Need-shared-slice-read-t9
 shared-slice-read-t9 c = search needs
 
--- src/lib.rt:47:33
 add-t10 : tie.Need-add-t10
 add-t10 c = search needs
 
--- src/lib.rt:47:28
 mul-t11 : tie.Need-mul-t11
 mul-t11 c = search needs
 
--- src/lib.rt:47:28
 shared-slice-read-t13 : tie.Need-shared-slice-read-t13
 shared-slice-read-t13 c = search needs
 
--- src/lib.rt:47:46
 add-t14 : tie.Need-add-t14
 add-t14 c = search needs
 
--- src/lib.rt:47:41
 mul-t15 : tie.Need-mul-t15
 mul-t15 c = search needs
 
--- src/lib.rt:47:41
 shared-slice-read-t17 : tie.Need-shared-slice-read-t17
 shared-slice-read-t17 c = search needs
 
--- src/lib.rt:47:59
 add-t18 : tie.Need-add-t18
 add-t18 c = search needs
 
--- src/lib.rt:47:54
 mul-t19 : tie.Need-mul-t19
 mul-t19 c = search needs
 
--- src/lib.rt:47:54
 shared-slice-read-t21 : tie.Need-shared-slice-read-t21
 shared-slice-read-t21 c = search needs
 
--- src/lib.rt:47:72
 add-t22 : tie.Need-add-t22
 add-t22 c = search needs
 
--- src/lib.rt:47:67
 mul-t23 : tie.Need-mul-t23
 mul-t23 c = search needs
 
--- src/lib.rt:47:67
 shared-slice-read-t25 : tie.Need-shared-slice-read-t25
 shared-slice-read-t25 c = search needs
 
--- src/lib.rt:47:85
 add-t26 : tie.Need-add-t26
 add-t26 c = search needs
 
--- src/lib.rt:47:80
 mul-t27 : tie.Need-mul-t27
 mul-t27 c = search needs
 
--- src/lib.rt:47:80
 shared-slice-read-t29 : tie.Need-shared-slice-read-t29
 shared-slice-read-t29 c = search needs
 
--- src/lib.rt:47:98
 add-t30 : tie.Need-add-t30
 add-t30 c = search needs
 
--- src/lib.rt:47:93
 mul-t31 : tie.Need-mul-t31
 mul-t31 c = search needs
 
--- src/lib.rt:47:93
 shared-slice-read-t33 : tie.Need-shared-slice-read-t33
 shared-slice-read-t33 c = search needs
 
--- src/lib.rt:43:1
 returns : tie.Need-returns
 returns c = cells-at (c .before .before .before .before .before .before .before .before .args .keys .now) (c .before .before .before .before .before .before .before .before .args .b) 7 (c .before .before .before .before .before .before .before .before .pre)
 

@@ -4,32 +4,22 @@ use mathlib.Core.Path.{_∙_}
 use borrow.Author.Needs.{needs}
 use Rattle.link_draws.proofs.link_at.Statement.{statement}
 use Rattle.link_draws.proofs.link_at.Tie as tie
-use Rattle.link_draws.proofs.link_at.Reads as reads
-use Rattle.link_draws.proofs.link_at.Lts as lts
-use Rattle.link_draws.proofs.key_at.Reads as key-at-reads
-use Rattle.streams.proofs.at.Reads as at-reads
 
--- src/lib.rt:62:29
 mul-key-at : tie.Need-mul-key-at
 mul-key-at c = omega (arith, grid (c .before .args .from) (c .before .args .tills) (c .before .pre .0) (c .before .pre .2))
 
--- src/lib.rt:62:29
 add-key-at : tie.Need-add-key-at
 add-key-at c = omega (arith, grid (c .before .args .from) (c .before .args .tills) (c .before .pre .0) (c .before .pre .2))
 
--- src/lib.rt:62:28
 mul-key-at-2 : tie.Need-mul-key-at-2
 mul-key-at-2 c = omega (arith, grid (c .before .args .from) (c .before .args .tills) (c .before .pre .0) (c .before .pre .2))
 
--- src/lib.rt:62:9
 key-at-requires : tie.Need-key-at-requires
 key-at-requires c κs = omega (arith, key-in (c .before .args .from) (c .before .args .to) (c .before .args .tills) (c .before .pre .0) (c .before .pre .1), c .before .pre .3)
 
--- src/lib.rt:63:5
 at-requires : tie.Need-at-requires
 at-requires c κs = search needs
 
--- src/lib.rt:58:1
 returns : tie.Need-returns
 returns c = record { key = c .at .ensures .0 ∙ c .before .key-at .ensures; count = c .at .ensures .1; holds = c .at .ensures .2 }
 

@@ -4,45 +4,33 @@ use Rattle.network.specs.Tables.{settingsAt}
 use borrow.Author.Needs.{needs}
 use Rattle.link_draws.proofs.region.Statement.{statement}
 use Rattle.link_draws.proofs.region.Tie as tie
-use Rattle.link_draws.proofs.region.Reads as reads
-use Rattle.link_draws.proofs.region.Lts as lts
-use Rattle.link_draws.proofs.at_least_one.Reads as at-least-one-reads
 
--- src/lib.rt:105:26
 shared-slice-read-at-least-one : tie.Need-shared-slice-read-at-least-one
 shared-slice-read-at-least-one c = search needs
 
--- src/lib.rt:105:9
 at-least-one-requires : tie.Need-at-least-one-requires
 at-least-one-requires c κs = search needs
 
--- src/lib.rt:106:19
 mul-i : tie.Need-mul-i
-mul-i c = omega (arith, square (c .at-least-one .result) (regions-few _ _ (c .at-least-one .ensures) (c .before .before .before .before .pre .0 .regions)))
+mul-i c = omega (arith, square (c .at-least-one .result) (regions-few _ _ (c .at-least-one .ensures .0) (c .before .before .before .before .pre .0 .regions)))
 
--- src/lib.rt:106:14
 mul-i-2 : tie.Need-mul-i-2
-mul-i-2 c = omega (arith, square (c .at-least-one .result) (regions-few _ _ (c .at-least-one .ensures) (c .before .before .before .before .pre .0 .regions)))
+mul-i-2 c = omega (arith, square (c .at-least-one .result) (regions-few _ _ (c .at-least-one .ensures .0) (c .before .before .before .before .pre .0 .regions)))
 
--- src/lib.rt:106:13
 add-i : tie.Need-add-i
-add-i c = omega (arith, square (c .at-least-one .result) (regions-few _ _ (c .at-least-one .ensures) (c .before .before .before .before .pre .0 .regions)))
+add-i c = omega (arith, square (c .at-least-one .result) (regions-few _ _ (c .at-least-one .ensures .0) (c .before .before .before .before .pre .0 .regions)))
 
--- src/lib.rt:108:16
 mul-result : tie.Need-mul-result
 mul-result c = search needs
 
--- src/lib.rt:108:16
 shared-slice-read-result : tie.Need-shared-slice-read-result
 shared-slice-read-result c = search needs
 
--- src/lib.rt:108:9
 returns : tie.Need-returns
-returns c = region-in (settingsAt (c .before .before .before .before .before .before .args .setup .now) .plan) (c .before .before .before .before .before .before .args .prices .now) (c .before .before .before .before .before .before .args .t) (c .before .before .at-least-one .result) (c .before .before .at-least-one .ensures)
+returns c = region-in (settingsAt (c .before .before .before .before .before .before .args .setup .now) .plan) (c .before .before .before .before .before .before .args .prices .now) (c .before .before .before .before .before .before .args .t) (c .before .before .at-least-one .result) (c .before .before .at-least-one .ensures .0)
 
--- src/lib.rt:101:1
 returns-2 : tie.Need-returns-2
-returns-2 c = region-out (settingsAt (c .before .before .before .before .before .args .setup .now) .plan) (c .before .before .before .before .before .args .prices .now) (c .before .before .before .before .before .args .t) (c .before .at-least-one .result) (c .before .at-least-one .ensures) (omega (arith, c .if1 .left))
+returns-2 c = region-out (settingsAt (c .before .before .before .before .before .args .setup .now) .plan) (c .before .before .before .before .before .args .prices .now) (c .before .before .before .before .before .args .t) (c .before .at-least-one .result) (c .before .at-least-one .ensures .0) (omega (arith, c .if1 .left))
 
 pub region-spec : {M : Type 1} → statement M
 region-spec =

@@ -1,7 +1,6 @@
 use native.Mathlib.Omega.{arith}
 use lib.ListN.{length-set}
 use borrow.Author.Needs.{needs}
-use Rattle.delivery.specs.Delivery as delivery
 use Rattle.log.proofs.Writing.{tally-out, tally-made}
 use Rattle.log.proofs.add_tally.Statement.{statement}
 use Rattle.log.proofs.add_tally.Tie as tie

@@ -1,6 +1,5 @@
 use native.Mathlib.Omega.{arith}
 use borrow.Author.Needs.{needs}
-use Rattle.delivery.specs.Delivery as delivery
 use Rattle.log.proofs.Writing.{tally-none, tally-some}
 use Rattle.log.proofs.class_tally.Statement.{statement}
 use Rattle.log.proofs.class_tally.Tie as tie

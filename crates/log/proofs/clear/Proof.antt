@@ -1,11 +1,10 @@
-use Prim.Native.Nat.{_+_, _-_, _≤_}
+use Prim.Native.Nat.{_-_, _≤_}
 use mathlib.Core.Path.{_≡_, refl}
 use mathlib.Core.List.{_++_}
 use native.Mathlib.Omega.{arith}
 use lib.ListN.{length, length-set, drop}
 use borrow.Author.Needs.{needs}
 use Rattle.log.specs.Log.{recordsAt}
-use Rattle.delivery.specs.Delivery as delivery
 use Rattle.log.proofs.Draining.{cleared-more, cleared-all}
 use lib.ListN.{replicate}
 use Rattle.log.proofs.clear.Statement.{statement}

@@ -1,5 +1,4 @@
 use borrow.Author.Needs.{needs}
-use Rattle.delivery.specs.Delivery as delivery
 use Rattle.log.proofs.Writing.{noted-room, noted-full}
 use Rattle.log.proofs.Laws.{left}
 use Rattle.log.proofs.note_forced.Statement.{statement}

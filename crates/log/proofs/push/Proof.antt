@@ -1,7 +1,6 @@
 use mathlib.Core.Path.{_∙_, sym}
 use native.Mathlib.Omega.{arith}
 use borrow.Author.Needs.{needs}
-use Rattle.delivery.specs.Delivery as delivery
 use Rattle.ring.proofs.Table.{true-sound}
 use Rattle.log.proofs.Laws.{left, wrote, ready}
 use borrow.Author.Tests.{not-true, not-false}

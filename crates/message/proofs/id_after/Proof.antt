@@ -2,47 +2,33 @@ use Rattle.message.proofs.Laws.{head-fits, id-from}
 use borrow.Author.Needs.{needs}
 use Rattle.message.proofs.id_after.Statement.{statement}
 use Rattle.message.proofs.id_after.Tie as tie
-use Rattle.message.proofs.id_after.Reads as reads
-use Rattle.message.proofs.id_after.Lts as lts
-use Rattle.digest.proofs.hash_parts.Reads as hash-parts-reads
-use Rattle.message.proofs.wide.Reads as wide-reads
-use Rattle.parts.proofs.front.Reads as front-reads
 
--- src/lib.rt:72:32
 front-requires : tie.Need-front-requires
 front-requires c κs = search needs
 
--- src/lib.rt:72:13
 hash-parts-requires : tie.Need-hash-parts-requires
 hash-parts-requires c κs = head-fits (c .before .before .before .args .n) (c .before .before .before .args .buf .now) _ (c .before .before .before .args .wire .now) (c .front .ensures) (c .before .before .before .pre .0) (c .before .before .before .pre .1)
 
--- src/lib.rt:73:20
 array-read-wide : tie.Need-array-read-wide
 array-read-wide c = search needs
 
--- src/lib.rt:73:9
 wide-requires : tie.Need-wide-requires
 wide-requires c κs = search needs
 
--- src/lib.rt:74:21
 array-read-wide-2 : tie.Need-array-read-wide-2
 array-read-wide-2 c = search needs
 
--- src/lib.rt:74:9
 wide-requires-2 : tie.Need-wide-requires-2
 wide-requires-2 c κs = search needs
 
--- src/lib.rt:75:11
 mul-result : tie.Need-mul-result
 mul-result c = search needs
 
--- src/lib.rt:75:5
 add-result : tie.Need-add-result
 add-result c = search needs
 
--- src/lib.rt:68:1
 returns : tie.Need-returns
-returns c = id-from _ (c .before .before .before .before .before .before .args .wire .now) (c .before .before .hash-parts .result) (c .before .before .before .before .before .before .args .n) (c .before .wide .result) (c .wide2 .result) (c .before .before .before .before .before .before .args .buf .now) (c .before .before .before .front .ensures) (c .before .before .hash-parts .ensures) (c .before .wide .ensures .0) (c .wide2 .ensures .0)
+returns c = let a = c .before .before .before .before .before .before .args in id-from _ (a .wire .now) (c .before .before .hash-parts .result) (a .n) (c .before .wide .result) (c .wide2 .result) (a .buf .now) (c .before .before .before .front .ensures) (c .before .before .hash-parts .ensures) (c .before .wide .ensures .0) (c .wide2 .ensures .0)
 
 pub id-after-spec : {M : Type 1} → statement M
 id-after-spec =

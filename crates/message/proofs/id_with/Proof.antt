@@ -7,38 +7,25 @@ use Rattle.network.specs.Opening.{longestName}
 use borrow.Author.Needs.{needs}
 use Rattle.message.proofs.id_with.Statement.{statement}
 use Rattle.message.proofs.id_with.Tie as tie
-use Rattle.message.proofs.id_with.Reads as reads
-use Rattle.message.proofs.id_with.Lts as lts
-use Rattle.message.proofs.id_after.Reads as id-after-reads
-use Rattle.message.proofs.put.Reads as put-reads
-use Rattle.message.proofs.put_scope.Reads as put-scope-reads
-use Rattle.message.proofs.text.Reads as text-reads
 
--- src/lib.rt:83:28
 mul-text : tie.Need-mul-text
 mul-text c = search needs
 
--- src/lib.rt:83:9
 text-requires : tie.Need-text-requires
 text-requires c κs = search needs
 
--- src/lib.rt:84:5
 put-requires : tie.Need-put-requires
 put-requires c κs = omega (arith, ap length (c .before .text .ensures), text-short (c .before .before .before .before .before .args .names .now) (nameAt (c .before .before .before .before .before .args .kind)) longestName (c .before .before .before .before .before .pre .0 .name))
 
--- src/lib.rt:85:9
 put-scope-requires : tie.Need-put-scope-requires
 put-scope-requires c κs = (c .before .before .before .before .before .before .before .before .before .pre .0, omega (arith, ap length (c .before .before .before .before .before .text .ensures), text-short (c .before .before .before .before .before .before .before .before .before .args .names .now) (nameAt (c .before .before .before .before .before .before .before .before .before .args .kind)) longestName (c .before .before .before .before .before .before .before .before .before .pre .0 .name), c .before .before .before .put .kept .0))
 
--- src/lib.rt:86:5
 id-after-requires : tie.Need-id-after-requires
 id-after-requires c κs = (omega (arith, c .before .before .before .put-scope .ensures .1, ap length (c .before .before .before .before .before .before .before .before .before .text .ensures), text-short (c .before .before .before .before .before .before .before .before .before .before .before .before .before .args .names .now) (nameAt (c .before .before .before .before .before .before .before .before .before .before .before .before .before .args .kind)) longestName (c .before .before .before .before .before .before .before .before .before .before .before .before .before .pre .0 .name)), c .before .before .before .before .before .before .before .before .before .before .before .before .before .pre .1)
 
--- src/lib.rt:79:1
 same-length : tie.Need-same-length
 same-length c = search needs
 
--- src/lib.rt:79:1
 returns : tie.Need-returns
 returns c = c .id-after .ensures ∙ head-is (c .before .before .before .before .before .before .before .before .before .before .before .before .before .before .args .buf .now) (c .before .before .before .before .before .before .before .before .before .before .before .before .before .before .args .names .now) (c .before .before .before .before .before .before .before .before .before .before .before .before .before .before .args .wire .now) _ _ (c .before .before .before .before .put-scope .last .0) (c .before .before .before .before .before .before .before .before .before .before .before .before .before .before .args .kind) (c .before .before .before .before .before .before .before .before .before .before .before .before .before .before .args .scope) (c .before .before .before .before .put-scope .result) (c .before .before .before .before .before .before .before .before .before .before .text .ensures) (omega (arith, ap length (c .before .before .before .before .before .before .before .before .before .before .text .ensures), text-short (c .before .before .before .before .before .before .before .before .before .before .before .before .before .before .args .names .now) (nameAt (c .before .before .before .before .before .before .before .before .before .before .before .before .before .before .args .kind)) longestName (c .before .before .before .before .before .before .before .before .before .before .before .before .before .before .pre .0 .name))) (c .before .before .before .before .before .before .before .before .put .ensures) (c .before .before .before .before .put-scope .ensures .0)
 

@@ -8,64 +8,46 @@ use Rattle.network.specs.Opening.{longestKey}
 use borrow.Author.Needs.{needs}
 use Rattle.message.proofs.put_scope.Statement.{statement}
 use Rattle.message.proofs.put_scope.Tie as tie
-use Rattle.message.proofs.put_scope.Reads as reads
-use Rattle.message.proofs.put_scope.Lts as lts
-use Rattle.message.proofs.put.Reads as put-reads
-use Rattle.message.proofs.text.Reads as text-reads
 
--- src/lib.rt:58:9
 slice-write-buf : tie.Need-slice-write-buf
 slice-write-buf c = search needs
 
--- src/lib.rt:59:16
 add-result : tie.Need-add-result
 add-result c = search needs
 
--- src/lib.rt:59:9
 same-length : tie.Need-same-length
 same-length c = search needs
 
--- src/lib.rt:59:9
 returns : tie.Need-returns
 returns c = (scope-global (c .before .before .before .args .buf .now) (c .before .before .before .args .names .now) (c .before .before .before .args .at) (c .before .before .before .args .scope) (c .if1 .taken) (omega arith), omega arith)
 
--- src/lib.rt:61:34
 mul-text : tie.Need-mul-text
 mul-text c = search needs
 
--- src/lib.rt:61:27
 add-text : tie.Need-add-text
 add-text c = search needs
 
--- src/lib.rt:61:9
 text-requires : tie.Need-text-requires
 text-requires c κs = search needs
 
--- src/lib.rt:62:5
 slice-write-buf-2 : tie.Need-slice-write-buf-2
 slice-write-buf-2 c = search needs
 
--- src/lib.rt:63:14
 add-put : tie.Need-add-put
 add-put c = search needs
 
--- src/lib.rt:63:5
 put-requires : tie.Need-put-requires
 put-requires c κs = omega (arith, ap length (c .before .text .ensures), text-short (c .before .before .before .before .before .args .names .now) (shardAt (c .before .before .before .before .before .args .scope)) longestKey (c .before .before .before .before .before .pre .0 .key), length-set (c .before .before .before .before .before .args .buf .now) (c .before .before .before .before .before .args .at) 1)
 
--- src/lib.rt:64:5
 add-result-2 : tie.Need-add-result-2
 add-result-2 c = search needs
 
--- src/lib.rt:64:5
 add-result-3 : tie.Need-add-result-3
 add-result-3 c = search needs
 
--- src/lib.rt:53:1
 same-length-2 : tie.Need-same-length-2
 same-length-2 c = omega (arith, c .before .before .put .kept .0, length-set (c .before .before .before .before .before .before .before .before .args .buf .now) (c .before .before .before .before .before .before .before .before .args .at) 1)
 
--- src/lib.rt:53:1
 returns-2 : tie.Need-returns-2
 returns-2 c = (scope-shard (c .before .before .before .before .before .before .before .before .args .buf .now) (c .before .before .before .before .before .before .before .before .args .names .now) (c .before .before .before .before .before .before .before .before .args .at) (c .before .before .before .before .before .before .before .before .args .scope) (ne-eqb _ _ (c .before .before .before .before .before .if1 .left)) _ _ (c .before .before .before .before .text .ensures) (omega (arith, ap length (c .before .before .before .before .text .ensures), text-short (c .before .before .before .before .before .before .before .before .args .names .now) (shardAt (c .before .before .before .before .before .before .before .before .args .scope)) longestKey (c .before .before .before .before .before .before .before .before .pre .0 .key))) (c .before .before .put .ensures), omega (arith, ap length (c .before .before .before .before .text .ensures), text-short (c .before .before .before .before .before .before .before .before .args .names .now) (shardAt (c .before .before .before .before .before .before .before .before .args .scope)) longestKey (c .before .before .before .before .before .before .before .before .pre .0 .key)))
 

@@ -4,39 +4,28 @@ use Rattle.network.specs.Tables.{sizesAt}
 use borrow.Author.Needs.{needs}
 use Rattle.offer.proofs.marked.Statement.{statement}
 use Rattle.offer.proofs.marked.Tie as tie
-use Rattle.offer.proofs.marked.Reads as reads
-use Rattle.offer.proofs.marked.Lts as lts
-use Rattle.marks.proofs.has.Reads as has-reads
 
--- src/lib.rt:107:17
 shared-slice-read-start : tie.Need-shared-slice-read-start
 shared-slice-read-start c = search needs
 
--- src/lib.rt:107:53
 shared-slice-read-start-2 : tie.Need-shared-slice-read-start-2
 shared-slice-read-start-2 c = search needs
 
--- src/lib.rt:107:47
 mul-start : tie.Need-mul-start
 mul-start c = omega (arith, marks-in (c .before .before .before .before .args .to) (sizesAt (c .before .before .before .before .args .setup .now) .tills) (sizesAt (c .before .before .before .before .args .setup .now) .seenSlots) (c .before .before .before .before .pre .2), c .before .before .before .before .pre .1 .size)
 
--- src/lib.rt:107:17
 add-start : tie.Need-add-start
 add-start c = omega (arith, marks-in (c .before .before .before .before .args .to) (sizesAt (c .before .before .before .before .args .setup .now) .tills) (sizesAt (c .before .before .before .before .args .setup .now) .seenSlots) (c .before .before .before .before .pre .2), c .before .before .before .before .pre .1 .size)
 
--- src/lib.rt:108:29
 mul-has : tie.Need-mul-has
 mul-has c = search needs
 
--- src/lib.rt:108:29
 shared-slice-read-has : tie.Need-shared-slice-read-has
 shared-slice-read-has c = search needs
 
--- src/lib.rt:108:5
 has-requires : tie.Need-has-requires
 has-requires c κs = omega (arith, marks-in (c .before .before .before .before .before .args .to) (sizesAt (c .before .before .before .before .before .args .setup .now) .tills) (sizesAt (c .before .before .before .before .before .args .setup .now) .seenSlots) (c .before .before .before .before .before .pre .2), c .before .before .before .before .before .pre .1 .size, c .before .before .before .before .before .pre .1 .counts (c .before .before .before .before .before .args .to) (c .before .before .before .before .before .pre .2))
 
--- src/lib.rt:103:1
 returns : tie.Need-returns
 returns c = search needs
 

@@ -2,38 +2,28 @@ use Rattle.offer.proofs.Readings.{own, everywhere, hosted}
 use borrow.Author.Needs.{needs}
 use Rattle.offer.proofs.selects.Statement.{statement}
 use Rattle.offer.proofs.selects.Tie as tie
-use Rattle.offer.proofs.selects.Reads as reads
-use Rattle.offer.proofs.selects.Lts as lts
 
--- src/lib.rt:87:9
 returns : tie.Need-returns
 returns c = own (c .before .args .tills .now) (c .before .args .scope) (c .before .args .from) (c .before .args .to) (c .if1 .taken)
 
--- src/lib.rt:90:9
 returns-2 : tie.Need-returns-2
 returns-2 c = everywhere (c .before .before .args .tills .now) (c .before .before .args .scope) (c .before .before .args .from) (c .before .before .args .to) (c .before .if1 .left) (c .if2 .taken)
 
--- src/lib.rt:92:12
 mul-result : tie.Need-mul-result
 mul-result c = search needs
 
--- src/lib.rt:92:12
 add-result : tie.Need-add-result
 add-result c = search needs
 
--- src/lib.rt:92:6
 mul-result-2 : tie.Need-mul-result-2
 mul-result-2 c = search needs
 
--- src/lib.rt:92:6
 shared-slice-read-result : tie.Need-shared-slice-read-result
 shared-slice-read-result c = search needs
 
--- src/lib.rt:92:6
 shr-result : tie.Need-shr-result
 shr-result c = search needs
 
--- src/lib.rt:82:1
 returns-3 : tie.Need-returns-3
 returns-3 c = hosted (c .before .before .before .args .tills .now) (c .before .before .before .args .scope) (c .before .before .before .args .from) (c .before .before .before .args .to) (c .before .before .if1 .left) (c .before .if2 .left)
 

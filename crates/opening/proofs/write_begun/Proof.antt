@@ -1,4 +1,3 @@
-use Prim.Native.Nat.{_-_}
 use mathlib.Core.Path.{ap, _∙_}
 use borrow.Author.Needs.{needs}
 use Rattle.rows.specs.Rows.{flat}
@@ -45,7 +44,7 @@ same-length-5 : tie.Need-same-length-5
 same-length-5 c = search needs
 
 returns : tie.Need-returns
-returns c = (all-clear netWidth (c .before .before .before .before .before .before .before .before .before .before .before .before .before .before .before .before .before .before .before .before .before .before .before .before .before .before .args .net .now) _ (c .before .before .before .before .before .before .before .before .before .before .before .before .before .before .before .before .before .before .before .before .before .before .before .before .before .before .pre .net-long) (c .before .before .before .before .before .before .before .before .before .before .before .before .before .before .before .before .before .before .clear .ensures), c .before .before .before .before .before .before .before .before .before .before .before .before .before .before .write-tills .ensures ∙ ap (λ n. flat (tillForm .words) (openTills (c .before .before .before .before .before .before .before .before .before .before .before .before .before .before .before .before .before .before .before .before .before .before .before .before .before .before .args .masks .now) n)) (c .before .before .before .before .before .before .before .before .before .before .before .before .before .before .before .before .before .before .before .before .before .before .before .before .before .before .pre .masks-long), c .before .before .before .before .before .before .before .before .before .before .clear2 .ensures, c .before .before .before .before .before .before .clear3 .ensures, log-clear (c .before .before .before .before .before .before .before .before .before .before .before .before .before .before .before .before .before .before .before .before .before .before .before .before .before .before .args .log .now) _ (c .before .before .clear4 .ensures))
+returns c = let a = c .before .before .before .before .before .before .before .before .before .before .before .before .before .before .before .before .before .before .before .before .before .before .before .before .before .before .args in (all-clear netWidth (a .net .now) _ (c .before .before .before .before .before .before .before .before .before .before .before .before .before .before .before .before .before .before .before .before .before .before .before .before .before .before .pre .net-long) (c .before .before .before .before .before .before .before .before .before .before .before .before .before .before .before .before .before .before .clear .ensures), c .before .before .before .before .before .before .before .before .before .before .before .before .before .before .write-tills .ensures ∙ ap (λ n. flat (tillForm .words) (openTills (a .masks .now) n)) (c .before .before .before .before .before .before .before .before .before .before .before .before .before .before .before .before .before .before .before .before .before .before .before .before .before .before .pre .masks-long), c .before .before .before .before .before .before .before .before .before .before .clear2 .ensures, c .before .before .before .before .before .before .clear3 .ensures, log-clear (a .log .now) _ (c .before .before .clear4 .ensures))
 
 pub write-begun-spec : {M : Type 1} → statement M
 write-begun-spec =

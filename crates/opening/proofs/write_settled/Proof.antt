@@ -1,4 +1,3 @@
-use Prim.Native.Nat.{_-_}
 use mathlib.Core.Path.{_∙_}
 use borrow.Author.Needs.{needs}
 use Rattle.opening_tests.specs.Given.{settingsOf}
@@ -31,7 +30,7 @@ same-length-4 : tie.Need-same-length-4
 same-length-4 c = search needs
 
 returns : tie.Need-returns
-returns c = (c .before .before .before .before .before .before .before .before .before .before .before .before .before .before .write-setup .ensures, c .before .before .before .before .before .before .before .before .before .before .clear-words .ensures, c .before .before .before .before .before .before .write-keys .ensures ∙ keys-of (settingsOf (c .before .before .before .before .before .before .before .before .before .before .before .before .before .before .before .before .before .before .before .before .before .args .config) (c .before .before .before .before .before .before .before .before .before .before .before .before .before .before .before .before .before .before .before .before .before .args .sizes) (c .before .before .before .before .before .before .before .before .before .before .before .before .before .before .before .before .before .before .before .before .before .args .plan) (c .before .before .before .before .before .before .before .before .before .before .before .before .before .before .before .before .before .before .before .before .before .args .seed) (c .before .before .before .before .before .before .before .before .before .before .before .before .before .before .before .before .before .before .before .before .before .args .key .now)), c .before .before .write-prices .ensures ∙ priced-by (settingsOf (c .before .before .before .before .before .before .before .before .before .before .before .before .before .before .before .before .before .before .before .before .before .args .config) (c .before .before .before .before .before .before .before .before .before .before .before .before .before .before .before .before .before .before .before .before .before .args .sizes) (c .before .before .before .before .before .before .before .before .before .before .before .before .before .before .before .before .before .before .before .before .before .args .plan) (c .before .before .before .before .before .before .before .before .before .before .before .before .before .before .before .before .before .before .before .before .before .args .seed) (c .before .before .before .before .before .before .before .before .before .before .before .before .before .before .before .before .before .before .before .before .before .args .key .now)))
+returns c = let a = c .before .before .before .before .before .before .before .before .before .before .before .before .before .before .before .before .before .before .before .before .before .args in (c .before .before .before .before .before .before .before .before .before .before .before .before .before .before .write-setup .ensures, c .before .before .before .before .before .before .before .before .before .before .clear-words .ensures, c .before .before .before .before .before .before .write-keys .ensures ∙ keys-of (settingsOf (a .config) (a .sizes) (a .plan) (a .seed) (a .key .now)), c .before .before .write-prices .ensures ∙ priced-by (settingsOf (a .config) (a .sizes) (a .plan) (a .seed) (a .key .now)))
 
 pub write-settled-spec : {M : Type 1} → statement M
 write-settled-spec =

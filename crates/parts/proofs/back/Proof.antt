@@ -2,38 +2,28 @@ use Rattle.parts.proofs.Parts.{drop-rest, drop-past}
 use borrow.Author.Needs.{needs}
 use Rattle.parts.proofs.back.Statement.{statement}
 use Rattle.parts.proofs.back.Tie as tie
-use Rattle.parts.proofs.back.Reads as reads
-use Rattle.parts.proofs.back.Lts as lts
 
--- src/lib.rt:25:16
 sub-result : tie.Need-sub-result
 sub-result c = search needs
 
--- src/lib.rt:25:16
 part-result-start : tie.Need-part-result-start
 part-result-start c = search needs
 
--- src/lib.rt:25:16
 part-result-end : tie.Need-part-result-end
 part-result-end c = search needs
 
--- src/lib.rt:25:9
 returns : tie.Need-returns
 returns c = drop-rest (c .before .before .args .n) (c .before .before .args .s .now)
 
--- src/lib.rt:28:5
 sub-result-2 : tie.Need-sub-result-2
 sub-result-2 c = search needs
 
--- src/lib.rt:28:5
 part-result-start-2 : tie.Need-part-result-start-2
 part-result-start-2 c = search needs
 
--- src/lib.rt:28:5
 part-result-end-2 : tie.Need-part-result-end-2
 part-result-end-2 c = search needs
 
--- src/lib.rt:21:1
 returns-2 : tie.Need-returns-2
 returns-2 c = drop-past (c .before .before .args .n) (c .before .before .args .s .now) (c .before .if1 .left)
 

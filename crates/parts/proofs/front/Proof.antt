@@ -2,26 +2,19 @@ use Rattle.parts.proofs.Parts.{take-same, take-past}
 use borrow.Author.Needs.{needs}
 use Rattle.parts.proofs.front.Statement.{statement}
 use Rattle.parts.proofs.front.Tie as tie
-use Rattle.parts.proofs.front.Reads as reads
-use Rattle.parts.proofs.front.Lts as lts
 
--- src/lib.rt:15:16
 sub-result : tie.Need-sub-result
 sub-result c = search needs
 
--- src/lib.rt:15:16
 part-result-start : tie.Need-part-result-start
 part-result-start c = search needs
 
--- src/lib.rt:15:16
 part-result-end : tie.Need-part-result-end
 part-result-end c = search needs
 
--- src/lib.rt:15:9
 returns : tie.Need-returns
 returns c = take-same (c .before .before .args .n) (c .before .before .args .s .now)
 
--- src/lib.rt:11:1
 returns-2 : tie.Need-returns-2
 returns-2 c = take-past (c .before .args .n) (c .before .args .s .now) (c .if1 .left)
 

@@ -19,7 +19,7 @@ same-length-2 : tie.Need-same-length-2
 same-length-2 c = search needs
 
 returns : tie.Need-returns
-returns c = decide-refused (c .before .before .before .before .before .before .before .before .args .setup .now) (c .before .before .before .before .before .before .before .before .args .net .now) (c .before .before .before .before .before .before .before .before .args .rules .now) (message (c .before .before .before .before .before .before .before .before .args .from) (c .before .before .before .before .before .before .before .before .args .to) (c .before .before .before .before .before .before .before .before .args .kind) (c .before .before .before .before .before .before .before .before .args .tier) (c .before .before .before .before .before .before .before .before .args .at)) _ (c .before .before .decide-refusal .ensures) _ (c .refused .ensures) (c .before .if1 .taken)
+returns c = let a = c .before .before .before .before .before .before .before .before .args in decide-refused (a .setup .now) (a .net .now) (a .rules .now) (message (a .from) (a .to) (a .kind) (a .tier) (a .at)) _ (c .before .before .decide-refusal .ensures) _ (c .refused .ensures) (c .before .if1 .taken)
 
 slice-read-n : tie.Need-slice-read-n
 slice-read-n c = let p = decidable (c .before .before .before .before .before .before .before .before .args .setup .now) (c .before .before .before .before .before .before .before .before .args .net .now) (c .before .before .before .before .before .before .before .before .args .rules .now) (message (c .before .before .before .before .before .before .before .before .args .from) (c .before .before .before .before .before .before .before .before .args .to) (c .before .before .before .before .before .before .before .before .args .kind) (c .before .before .before .before .before .before .before .before .args .tier) (c .before .before .before .before .before .before .before .before .args .at)) (sym (c .before .before .decide-refusal .ensures) ∙ c .before .if1 .left) in omega (arith, p .lent .net)
@@ -28,7 +28,7 @@ slice-read-words : tie.Need-slice-read-words
 slice-read-words c = let p = decidable (c .before .before .before .before .before .before .before .before .before .args .setup .now) (c .before .before .before .before .before .before .before .before .before .args .net .now) (c .before .before .before .before .before .before .before .before .before .args .rules .now) (message (c .before .before .before .before .before .before .before .before .before .args .from) (c .before .before .before .before .before .before .before .before .before .args .to) (c .before .before .before .before .before .before .before .before .before .args .kind) (c .before .before .before .before .before .before .before .before .before .args .tier) (c .before .before .before .before .before .before .before .before .before .args .at)) (sym (c .before .before .before .decide-refusal .ensures) ∙ c .before .before .if1 .left) in omega (arith, p .lent .net)
 
 fault-at-requires : tie.Need-fault-at-requires
-fault-at-requires c κs = let p = decidable (c .before .before .before .before .before .before .before .before .before .args .setup .now) (c .before .before .before .before .before .before .before .before .before .args .net .now) (c .before .before .before .before .before .before .before .before .before .args .rules .now) (message (c .before .before .before .before .before .before .before .before .before .args .from) (c .before .before .before .before .before .before .before .before .before .args .to) (c .before .before .before .before .before .before .before .before .before .args .kind) (c .before .before .before .before .before .before .before .before .before .args .tier) (c .before .before .before .before .before .before .before .before .before .args .at)) (sym (c .before .before .before .decide-refusal .ensures) ∙ c .before .before .if1 .left) in p .lent .setup
+fault-at-requires c κs = let a = c .before .before .before .before .before .before .before .before .before .args in let p = decidable (a .setup .now) (a .net .now) (a .rules .now) (message (a .from) (a .to) (a .kind) (a .tier) (a .at)) (sym (c .before .before .before .decide-refusal .ensures) ∙ c .before .before .if1 .left) in p .lent .setup
 
 decide-requires : tie.Need-decide-requires
 decide-requires c κs = let p = decidable (c .before .before .before .before .before .before .before .before .before .before .before .args .setup .now) (c .before .before .before .before .before .before .before .before .before .before .before .args .net .now) (c .before .before .before .before .before .before .before .before .before .before .before .args .rules .now) (message (c .before .before .before .before .before .before .before .before .before .before .before .args .from) (c .before .before .before .before .before .before .before .before .before .before .before .args .to) (c .before .before .before .before .before .before .before .before .before .before .before .args .kind) (c .before .before .before .before .before .before .before .before .before .before .before .args .tier) (c .before .before .before .before .before .before .before .before .before .before .before .args .at)) (sym (c .before .before .before .before .before .decide-refusal .ensures) ∙ c .before .before .before .before .if1 .left) in let at = c .before .fault-at .ensures in (omega (arith, p .lent .rules, p .lent .count), omega (arith, at .count, p .words, p .lent .count), at .holds)
@@ -49,7 +49,7 @@ same-length-4 : tie.Need-same-length-4
 same-length-4 c = search needs
 
 returns-2 : tie.Need-returns-2
-returns-2 c = decide-done (c .before .before .before .before .before .before .before .before .before .before .before .before .before .before .before .before .before .before .before .args .setup .now) (c .before .before .before .before .before .before .before .before .before .before .before .before .before .before .before .before .before .before .before .args .net .now) (c .before .before .before .before .before .before .before .before .before .before .before .before .before .before .before .before .before .before .before .args .rules .now) (message (c .before .before .before .before .before .before .before .before .before .before .before .before .before .before .before .before .before .before .before .args .from) (c .before .before .before .before .before .before .before .before .before .before .before .before .before .before .before .before .before .before .before .args .to) (c .before .before .before .before .before .before .before .before .before .before .before .before .before .before .before .before .before .before .before .args .kind) (c .before .before .before .before .before .before .before .before .before .before .before .before .before .before .before .before .before .before .before .args .tier) (c .before .before .before .before .before .before .before .before .before .before .before .before .before .before .before .before .before .before .before .args .at)) _ (c .before .before .before .before .before .before .before .before .before .before .before .before .before .decide-refusal .ensures) (c .before .before .before .before .before .before .before .before .before .before .before .before .if1 .left) (c .before .before .before .before .before .before .before .decide .result) _ _ _ (verdict-is (c .before .before .before .before .before .before .before .before .before .before .before .before .before .before .before .before .before .before .before .args .setup .now) (c .before .before .before .before .before .before .before .before .before .before .before .before .before .before .before .before .before .before .before .args .net .now) (c .before .before .before .before .before .before .before .before .before .before .before .before .before .before .before .before .before .before .before .args .rules .now) (message (c .before .before .before .before .before .before .before .before .before .before .before .before .before .before .before .before .before .before .before .args .from) (c .before .before .before .before .before .before .before .before .before .before .before .before .before .before .before .before .before .before .before .args .to) (c .before .before .before .before .before .before .before .before .before .before .before .before .before .before .before .before .before .before .before .args .kind) (c .before .before .before .before .before .before .before .before .before .before .before .before .before .before .before .before .before .before .before .args .tier) (c .before .before .before .before .before .before .before .before .before .before .before .before .before .before .before .before .before .before .before .args .at)) _ (c .before .before .before .before .before .before .before .decide .result) (c .before .before .before .before .before .before .before .before .before .fault-at .ensures) (c .before .before .before .before .before .before .before .decide .ensures .0)) (c .before .before .before .before .before .if2 .taken) refl (c .before .before .before .fire .ensures) _ (c .answered .ensures)
+returns-2 c = let a = c .before .before .before .before .before .before .before .before .before .before .before .before .before .before .before .before .before .before .before .args in decide-done (a .setup .now) (a .net .now) (a .rules .now) (message (a .from) (a .to) (a .kind) (a .tier) (a .at)) _ (c .before .before .before .before .before .before .before .before .before .before .before .before .before .decide-refusal .ensures) (c .before .before .before .before .before .before .before .before .before .before .before .before .if1 .left) (c .before .before .before .before .before .before .before .decide .result) _ _ _ (verdict-is (a .setup .now) (a .net .now) (a .rules .now) (message (a .from) (a .to) (a .kind) (a .tier) (a .at)) _ (c .before .before .before .before .before .before .before .decide .result) (c .before .before .before .before .before .before .before .before .before .fault-at .ensures) (c .before .before .before .before .before .before .before .decide .ensures .0)) (c .before .before .before .before .before .if2 .taken) refl (c .before .before .before .fire .ensures) _ (c .answered .ensures)
 
 answered-requires-2 : tie.Need-answered-requires-2
 answered-requires-2 c κs = search needs
@@ -61,7 +61,7 @@ same-length-6 : tie.Need-same-length-6
 same-length-6 c = search needs
 
 returns-3 : tie.Need-returns-3
-returns-3 c = decide-done (c .before .before .before .before .before .before .before .before .before .before .before .before .before .before .before .args .setup .now) (c .before .before .before .before .before .before .before .before .before .before .before .before .before .before .before .args .net .now) (c .before .before .before .before .before .before .before .before .before .before .before .before .before .before .before .args .rules .now) (message (c .before .before .before .before .before .before .before .before .before .before .before .before .before .before .before .args .from) (c .before .before .before .before .before .before .before .before .before .before .before .before .before .before .before .args .to) (c .before .before .before .before .before .before .before .before .before .before .before .before .before .before .before .args .kind) (c .before .before .before .before .before .before .before .before .before .before .before .before .before .before .before .args .tier) (c .before .before .before .before .before .before .before .before .before .before .before .before .before .before .before .args .at)) _ (c .before .before .before .before .before .before .before .before .before .decide-refusal .ensures) (c .before .before .before .before .before .before .before .before .if1 .left) (c .before .before .before .decide .result) _ _ _ (verdict-is (c .before .before .before .before .before .before .before .before .before .before .before .before .before .before .before .args .setup .now) (c .before .before .before .before .before .before .before .before .before .before .before .before .before .before .before .args .net .now) (c .before .before .before .before .before .before .before .before .before .before .before .before .before .before .before .args .rules .now) (message (c .before .before .before .before .before .before .before .before .before .before .before .before .before .before .before .args .from) (c .before .before .before .before .before .before .before .before .before .before .before .before .before .before .before .args .to) (c .before .before .before .before .before .before .before .before .before .before .before .before .before .before .before .args .kind) (c .before .before .before .before .before .before .before .before .before .before .before .before .before .before .before .args .tier) (c .before .before .before .before .before .before .before .before .before .before .before .before .before .before .before .args .at)) _ (c .before .before .before .decide .result) (c .before .before .before .before .before .fault-at .ensures) (c .before .before .before .decide .ensures .0)) (c .before .if2 .left) refl refl _ (c .answered2 .ensures)
+returns-3 c = let a = c .before .before .before .before .before .before .before .before .before .before .before .before .before .before .before .args in decide-done (a .setup .now) (a .net .now) (a .rules .now) (message (a .from) (a .to) (a .kind) (a .tier) (a .at)) _ (c .before .before .before .before .before .before .before .before .before .decide-refusal .ensures) (c .before .before .before .before .before .before .before .before .if1 .left) (c .before .before .before .decide .result) _ _ _ (verdict-is (a .setup .now) (a .net .now) (a .rules .now) (message (a .from) (a .to) (a .kind) (a .tier) (a .at)) _ (c .before .before .before .decide .result) (c .before .before .before .before .before .fault-at .ensures) (c .before .before .before .decide .ensures .0)) (c .before .if2 .left) refl refl _ (c .answered2 .ensures)
 
 pub decide-spec : {M : Type 1} → statement M
 decide-spec =

@@ -22,7 +22,7 @@ fired-requires : tie.Need-fired-requires
 fired-requires c κs = let p = passed _ _ _ (is-yes _ _ (c .before .before .lent .ensures) (c .before .if1 .left)) in omega (arith, p .rules, p .count)
 
 returns-2 : tie.Need-returns-2
-returns-2 c = fired-done (c .before .before .before .before .before .before .before .args .setup .now) (c .before .before .before .before .before .before .before .args .net .now) (c .before .before .before .before .before .before .before .args .rules .now) (is-yes _ _ (c .before .before .before .lent .ensures) (c .before .before .if1 .left)) _ refl (c .before .before .before .before .before .before .before .args .id) _ (c .fired .ensures)
+returns-2 c = let a = c .before .before .before .before .before .before .before .args in fired-done (a .setup .now) (a .net .now) (a .rules .now) (is-yes _ _ (c .before .before .before .lent .ensures) (c .before .before .if1 .left)) _ refl (a .id) _ (c .fired .ensures)
 
 pub fired-spec : {M : Type 1} → statement M
 fired-spec =

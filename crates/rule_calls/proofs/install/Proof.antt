@@ -19,7 +19,7 @@ same-length-2 : tie.Need-same-length-2
 same-length-2 c = search needs
 
 returns : tie.Need-returns
-returns c = install-refused (c .before .before .before .before .before .before .before .before .before .args .setup .now) (c .before .before .before .before .before .before .before .before .before .args .net .now) (c .before .before .before .before .before .before .before .before .before .args .rules .now) (c .before .before .before .before .before .before .before .before .before .args .card .now) _ (c .before .before .install-refusal .ensures) _ (c .refused .ensures) (c .before .if1 .taken)
+returns c = let a = c .before .before .before .before .before .before .before .before .before .args in install-refused (a .setup .now) (a .net .now) (a .rules .now) (a .card .now) _ (c .before .before .install-refusal .ensures) _ (c .refused .ensures) (c .before .if1 .taken)
 
 slice-read-n : tie.Need-slice-read-n
 slice-read-n c = let p = installable _ _ _ (c .before .before .before .before .before .before .before .before .before .args .card .now) (sym (c .before .before .install-refusal .ensures) ∙ c .before .if1 .left) in omega (arith, p .lent .net)
@@ -52,7 +52,7 @@ same-length-4 : tie.Need-same-length-4
 same-length-4 c = search needs
 
 returns-2 : tie.Need-returns-2
-returns-2 c = install-done (c .before .before .before .before .before .before .before .before .before .before .before .before .before .before .before .args .setup .now) (c .before .before .before .before .before .before .before .before .before .before .before .before .before .before .before .args .net .now) (c .before .before .before .before .before .before .before .before .before .before .before .before .before .before .before .args .rules .now) (c .before .before .before .before .before .before .before .before .before .before .before .before .before .before .before .args .card .now) _ (c .before .before .before .before .before .before .before .before .install-refusal .ensures) (c .before .before .before .before .before .before .before .if1 .left) _ _ _ _ refl refl (c .before .before .before .install .ensures .1) refl _ (c .answered .ensures)
+returns-2 c = let a = c .before .before .before .before .before .before .before .before .before .before .before .before .before .before .before .args in install-done (a .setup .now) (a .net .now) (a .rules .now) (a .card .now) _ (c .before .before .before .before .before .before .before .before .install-refusal .ensures) (c .before .before .before .before .before .before .before .if1 .left) _ _ _ _ refl refl (c .before .before .before .install .ensures .1) refl _ (c .answered .ensures)
 
 pub install-spec : {M : Type 1} → statement M
 install-spec =

@@ -20,7 +20,7 @@ first-of-requires : tie.Need-first-of-requires
 first-of-requires c κs = search needs
 
 returns-2 : tie.Need-returns-2
-returns-2 c = asks-card (c .before .before .before .before .before .before .before .before .before .args .setup .now) (c .before .before .before .before .before .before .before .before .before .args .net .now) (c .before .before .before .before .before .before .before .before .before .args .rules .now) (c .before .before .before .before .before .before .before .before .before .args .card .now) _ _ _ (is-yes _ _ (c .before .before .before .before .lent .ensures) (c .before .before .before .if1 .left)) (c .before .before .place-number .ensures) (c .before .card-number .ensures) (c .first-of .ensures)
+returns-2 c = let a = c .before .before .before .before .before .before .before .before .before .args in asks-card (a .setup .now) (a .net .now) (a .rules .now) (a .card .now) _ _ _ (is-yes _ _ (c .before .before .before .before .lent .ensures) (c .before .before .before .if1 .left)) (c .before .before .place-number .ensures) (c .before .card-number .ensures) (c .first-of .ensures)
 
 pub install-refusal-spec : {M : Type 1} → statement M
 install-refusal-spec =

@@ -19,7 +19,7 @@ same-length-2 : tie.Need-same-length-2
 same-length-2 c = search needs
 
 returns : tie.Need-returns
-returns c = remove-not-lent (c .before .before .before .before .before .before .before .before .args .setup .now) (c .before .before .before .before .before .before .before .before .args .net .now) (c .before .before .before .before .before .before .before .before .args .rules .now) (is-no _ _ (c .before .before .lent .ensures) (c .before .if1 .taken)) _ (c .refused .ensures) (c .before .before .before .before .before .before .before .before .args .id)
+returns c = let a = c .before .before .before .before .before .before .before .before .args in remove-not-lent (a .setup .now) (a .net .now) (a .rules .now) (is-no _ _ (c .before .before .lent .ensures) (c .before .if1 .taken)) _ (c .refused .ensures) (a .id)
 
 slice-read-n : tie.Need-slice-read-n
 slice-read-n c = let p = passed _ _ _ (is-yes _ _ (c .before .before .lent .ensures) (c .before .if1 .left)) in omega (arith, p .net)
@@ -37,7 +37,7 @@ same-length-4 : tie.Need-same-length-4
 same-length-4 c = search needs
 
 returns-2 : tie.Need-returns-2
-returns-2 c = remove-done (c .before .before .before .before .before .before .before .before .before .before .before .before .args .setup .now) (c .before .before .before .before .before .before .before .before .before .before .before .before .args .net .now) (c .before .before .before .before .before .before .before .before .before .before .before .before .args .rules .now) (is-yes _ _ (c .before .before .before .before .before .before .lent .ensures) (c .before .before .before .before .before .if1 .left)) _ refl (c .before .before .before .before .before .before .before .before .before .before .before .before .args .id) _ _ _ (c .before .before .remove .ensures .0) (c .before .before .remove .ensures .1) refl
+returns-2 c = let a = c .before .before .before .before .before .before .before .before .before .before .before .before .args in remove-done (a .setup .now) (a .net .now) (a .rules .now) (is-yes _ _ (c .before .before .before .before .before .before .lent .ensures) (c .before .before .before .before .before .if1 .left)) _ refl (a .id) _ _ _ (c .before .before .remove .ensures .0) (c .before .before .remove .ensures .1) refl
 
 pub remove-spec : {M : Type 1} → statement M
 remove-spec =

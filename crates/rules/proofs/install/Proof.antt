@@ -19,7 +19,7 @@ enum-told : tie.Need-enum-told
 enum-told c = search needs
 
 returns-3 : tie.Need-returns-3
-returns-3 c = install-inexact (c .before .before .before .before .before .before .before .args .ws .now) (c .before .before .before .before .before .before .before .args .n) (c .before .before .before .before .before .before .before .args .ever) (c .before .before .before .before .before .before .before .args .bytes .now) (c .before .before .before .before .if1 .left) (c .before .before .before .if2 .left) _ (c .before .before .read .ensures) (c .enum-told .given .1)
+returns-3 c = let a = c .before .before .before .before .before .before .before .args in install-inexact (a .ws .now) (a .n) (a .ever) (a .bytes .now) (c .before .before .before .before .if1 .left) (c .before .before .before .if2 .left) _ (c .before .before .read .ensures) (c .enum-told .given .1)
 
 mul-put : tie.Need-mul-put
 mul-put c = search needs
@@ -31,7 +31,7 @@ same-length : tie.Need-same-length
 same-length c = search needs
 
 returns-4 : tie.Need-returns-4
-returns-4 c = install-done (c .before .before .before .before .before .before .before .before .before .before .before .before .args .ws .now) (c .before .before .before .before .before .before .before .before .before .before .before .before .args .n) (c .before .before .before .before .before .before .before .before .before .before .before .before .args .ever) (c .before .before .before .before .before .before .before .before .before .before .before .before .args .bytes .now) (c .before .before .before .before .before .before .before .before .before .if1 .left) (c .before .before .before .before .before .before .before .before .if2 .left) _ (c .before .before .before .before .before .before .before .read .ensures) _ _ (c .before .before .before .before .before .found .given .1) (c .before .before .put .ensures)
+returns-4 c = let a = c .before .before .before .before .before .before .before .before .before .before .before .before .args in install-done (a .ws .now) (a .n) (a .ever) (a .bytes .now) (c .before .before .before .before .before .before .before .before .before .if1 .left) (c .before .before .before .before .before .before .before .before .if2 .left) _ (c .before .before .before .before .before .before .before .read .ensures) _ _ (c .before .before .before .before .before .found .given .1) (c .before .before .put .ensures)
 
 pub install-spec : {M : Type 1} → statement M
 install-spec =

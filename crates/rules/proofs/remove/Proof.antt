@@ -11,7 +11,7 @@ same-length : tie.Need-same-length
 same-length c = search needs
 
 returns : tie.Need-returns
-returns c = (remove-none (c .before .before .before .before .args .id) (c .before .before .before .before .args .ws .now) (c .before .before .before .before .args .n) _ (c .before .find .ensures .0) (c .if1 .taken), table-none (c .before .before .before .before .args .id) (c .before .before .before .before .args .ws .now) (c .before .before .before .before .args .n) _ (c .before .find .ensures .0) (c .if1 .taken))
+returns c = let a = c .before .before .before .before .args in (remove-none (a .id) (a .ws .now) (a .n) _ (c .before .find .ensures .0) (c .if1 .taken), table-none (a .id) (a .ws .now) (a .n) _ (c .before .find .ensures .0) (c .if1 .taken))
 
 mul-fired : tie.Need-mul-fired
 mul-fired c = search needs

@@ -1,73 +1,69 @@
-use Prim.Native.Nat.{_-_, _≤_}
-use mathlib.Core.Path.{_≡_, refl}
-use mathlib.Core.Bool.{true}
 use native.Mathlib.Omega.{arith}
-use lib.ListN.{take}
-use Rattle.rows.specs.Rows.{allOf}
-use Rattle.delivery.specs.Delivery as delivery
-use Rattle.waiting.specs.Waiting as waiting
-use Rattle.ring.specs.Ring.{countAt}
-use Rattle.log.specs.Log.{recordsOf}
-use Rattle.scan.specs.Scan.{near}
-use Rattle.scan.proofs.Laws.{goes-on, stops, ends, record-row, records-long}
+use Prim.Native.Nat.{_-_}
+use mathlib.Core.Path.{refl}
 use borrow.Author.Tests.{not-true, not-false}
+use Rattle.ring.specs.Ring.{firstAt}
+use Rattle.scan.specs.Scan.{near}
+use Rattle.scan.proofs.Runs.{none-there, in-one, not-ahead, ahead-then}
+use borrow.Author.Needs.{needs}
 use Rattle.scan.proofs.records_near.Statement.{statement}
 use Rattle.scan.proofs.records_near.Tie as tie
 
-abbrev Inv-loop : tie.InvT-loop
-Inv-loop ws capacity l count i₀ i = (count ≡ countAt 0 ws) × (i ≤ count) × (allOf (near l) (take i (recordsOf capacity ws)) ≡ true)
+shared-slice-read-count : tie.Need-shared-slice-read-count
+shared-slice-read-count c = search needs
 
-abbrev μ-loop : tie.MeasureT-loop
-μ-loop ws capacity l count i₀ i = count - i
+returns : tie.Need-returns
+returns c = none-there (near (c .before .before .before .args .l)) (c .before .before .before .args .capacity) (c .before .before .before .args .ws .now) (omega arith)
 
-count-requires : tie.Need-count-requires Inv-loop μ-loop
-count-requires c κs = omega arith
+shared-slice-read-first : tie.Need-shared-slice-read-first
+shared-slice-read-first c = search needs
 
-loop-holds : tie.Need-loop-holds Inv-loop μ-loop
-loop-holds c = (c .count .ensures, omega arith, refl)
+sub-ahead : tie.Need-sub-ahead
+sub-ahead c = omega (arith, c .before .before .before .before .pre .2 .begun (omega arith))
 
-oldest-requires : tie.Need-oldest-requires Inv-loop μ-loop
-oldest-requires c κs = (c .before .before .before .before .pre .0, c .before .before .before .before .pre .1, c .before .before .before .before .pre .2, omega arith)
+mul-start : tie.Need-mul-start
+mul-start c = omega (arith, c .before .before .before .before .pre .2 .begun (omega arith))
 
-is-near-requires : tie.Need-is-near-requires Inv-loop μ-loop
-is-near-requires c κs = tt
+add-start : tie.Need-add-start
+add-start c = omega (arith, c .before .before .before .before .pre .2 .begun (omega arith))
 
-returns : tie.Need-returns Inv-loop μ-loop
-returns c = let a = c .before .before .before .before .before .before .before .args in
-    let w = a .ws .now in
-    stops (near (a .l)) (recordsOf (a .capacity) w) (countAt 0 w) (records-long (a .capacity) w) (c .before .before .before .before .loop .i) (c .before .before .oldest .result) (c .before .is-near .result) (omega arith) (record-row (a .capacity) w (c .before .before .before .before .loop .i) (c .before .before .oldest .result) (omega arith) (c .before .before .oldest .ensures)) (c .before .is-near .ensures) (not-true _ (c .if1 .taken))
+run-near-requires : tie.Need-run-near-requires
+run-near-requires c κs = search needs
 
-add-i : tie.Need-add-i Inv-loop μ-loop
-add-i c = omega arith
+returns-2 : tie.Need-returns-2
+returns-2 c = in-one (near (c .before .before .before .before .before .before .args .l)) (c .before .before .before .before .before .before .args .capacity) (c .before .before .before .before .before .before .args .ws .now) (c .run-near .result) (omega (arith, c .before .before .before .before .before .before .pre .2 .begun (omega arith))) (c .run-near .ensures)
 
-loop-less : tie.Need-loop-less Inv-loop μ-loop
-loop-less c = omega arith
+run-near-requires-2 : tie.Need-run-near-requires-2
+run-near-requires-2 c κs = omega (arith, c .before .before .before .before .before .pre .2 .begun (omega arith))
 
-loop-again : tie.Need-loop-again Inv-loop μ-loop
-loop-again c = let a = c .before .before .before .before .before .before .before .args in
-    let w = a .ws .now in (
-      c .before .before .before .before .loop .inv .0,
-      omega arith,
-      goes-on (near (a .l)) (recordsOf (a .capacity) w) (countAt 0 w) (records-long (a .capacity) w) (c .before .before .before .before .loop .i) (c .before .before .oldest .result) (c .before .is-near .result) (omega arith) (record-row (a .capacity) w (c .before .before .before .before .loop .i) (c .before .before .oldest .result) (omega arith) (c .before .before .oldest .ensures)) (c .before .is-near .ensures) (not-false _ (c .if1 .left)) (c .before .before .before .before .loop .inv .2),
-    )
+returns-3 : tie.Need-returns-3
+returns-3 c = let s = c .before .before .before .before .before .before .before in
+    not-ahead (near (s .args .l)) (s .args .capacity) (s .args .ws .now) (s .args .capacity - firstAt 0 (s .args .ws .now)) (s .pre .2 .begun (omega arith)) refl (omega arith) (c .before .run-near2 .result) (c .before .run-near2 .ensures) (not-true _ (c .if3 .taken))
 
-returns-2 : tie.Need-returns-2 Inv-loop μ-loop
-returns-2 c = let a = c .before .before .before .before .args in
-    let w = a .ws .now in
-    ends (near (a .l)) (recordsOf (a .capacity) w) (countAt 0 w) (records-long (a .capacity) w) (c .before .loop .i) (delivery.read w) (omega arith) (c .before .loop .inv .2)
+sub-run-near : tie.Need-sub-run-near
+sub-run-near c = search needs
+
+run-near-requires-3 : tie.Need-run-near-requires-3
+run-near-requires-3 c κs = search needs
+
+returns-4 : tie.Need-returns-4
+returns-4 c = let s = c .before .before .before .before .before .before .before .before in
+    ahead-then (near (s .args .l)) (s .args .capacity) (s .args .ws .now) (s .args .capacity - firstAt 0 (s .args .ws .now)) (s .pre .2 .begun (omega arith)) refl (omega arith) (c .before .before .run-near2 .result) (c .run-near3 .result) (c .before .before .run-near2 .ensures) (not-false _ (c .before .if3 .left)) (c .run-near3 .ensures)
 
 pub records-near-spec : {M : Type 1} → statement M
 records-near-spec =
     tie.close
     (tie.spec
-    Inv-loop
-    μ-loop
-    count-requires
-    loop-holds
-    oldest-requires
-    is-near-requires
+    shared-slice-read-count
     returns
-    add-i
-    loop-less
-    loop-again
-    returns-2)
+    shared-slice-read-first
+    sub-ahead
+    mul-start
+    add-start
+    run-near-requires
+    returns-2
+    run-near-requires-2
+    returns-3
+    sub-run-near
+    run-near-requires-3
+    returns-4)

@@ -6,55 +6,40 @@ use Rattle.network.specs.Tables.{sizesAt, cell}
 use borrow.Author.Needs.{needs}
 use Rattle.schedule.proofs.mark.Statement.{statement}
 use Rattle.schedule.proofs.mark.Tie as tie
-use Rattle.schedule.proofs.mark.Reads as reads
-use Rattle.schedule.proofs.mark.Lts as lts
-use Rattle.marks.proofs.insert.Reads as insert-reads
 
--- src/lib.rt:35:13
 mul-n : tie.Need-mul-n
 mul-n c = search needs
 
--- src/lib.rt:35:13
 slice-read-n : tie.Need-slice-read-n
 slice-read-n c = search needs
 
--- src/lib.rt:36:17
 shared-slice-read-start : tie.Need-shared-slice-read-start
 shared-slice-read-start c = search needs
 
--- src/lib.rt:36:53
 shared-slice-read-start-2 : tie.Need-shared-slice-read-start-2
 shared-slice-read-start-2 c = search needs
 
--- src/lib.rt:36:47
 mul-start : tie.Need-mul-start
 mul-start c = omega (arith, marks-in (c .before .before .before .before .before .args .to) (sizesAt (c .before .before .before .before .before .args .setup .now) .tills) (sizesAt (c .before .before .before .before .before .args .setup .now) .seenSlots) (c .before .before .before .before .before .pre .2), c .before .before .before .before .before .pre .1 .size)
 
--- src/lib.rt:36:17
 add-start : tie.Need-add-start
 add-start c = omega (arith, marks-in (c .before .before .before .before .before .args .to) (sizesAt (c .before .before .before .before .before .args .setup .now) .tills) (sizesAt (c .before .before .before .before .before .args .setup .now) .seenSlots) (c .before .before .before .before .before .pre .2), c .before .before .before .before .before .pre .1 .size)
 
--- src/lib.rt:37:5
 insert-requires : tie.Need-insert-requires
 insert-requires c κs = omega (arith, marks-in (c .before .before .before .before .before .before .args .to) (sizesAt (c .before .before .before .before .before .before .args .setup .now) .tills) (sizesAt (c .before .before .before .before .before .before .args .setup .now) .seenSlots) (c .before .before .before .before .before .before .pre .2), c .before .before .before .before .before .before .pre .1 .size, c .before .before .before .before .before .before .pre .3)
 
--- src/lib.rt:38:16
 add-seen : tie.Need-add-seen
 add-seen c = omega (arith, marks-in (c .before .before .before .before .before .before .before .before .before .args .to) (sizesAt (c .before .before .before .before .before .before .before .before .before .args .setup .now) .tills) (sizesAt (c .before .before .before .before .before .before .before .before .before .args .setup .now) .seenSlots) (c .before .before .before .before .before .before .before .before .before .pre .2), c .before .before .before .before .before .before .before .before .before .pre .1 .size, c .before .before .before .before .before .before .before .before .before .pre .3)
 
--- src/lib.rt:38:5
 mul-seen : tie.Need-mul-seen
 mul-seen c = search needs
 
--- src/lib.rt:38:5
 slice-write-seen : tie.Need-slice-write-seen
 slice-write-seen c = search needs
 
--- src/lib.rt:31:1
 same-length : tie.Need-same-length
 same-length c = search needs
 
--- src/lib.rt:31:1
 returns : tie.Need-returns
 returns c = mark-made (sizesAt (c .before .before .before .before .before .before .before .before .before .args .setup .now)) (c .before .before .before .before .before .before .before .before .before .args .seen .now) (c .before .before .before .before .before .before .before .before .before .args .to) (c .before .before .before .before .before .before .before .before .before .args .id) (cell (c .before .before .before .before .before .before .before .before .before .args .seen .now) (c .before .before .before .before .before .before .before .before .before .args .to)) _ (omega (arith, marks-in (c .before .before .before .before .before .before .before .before .before .args .to) (sizesAt (c .before .before .before .before .before .before .before .before .before .args .setup .now) .tills) (sizesAt (c .before .before .before .before .before .before .before .before .before .args .setup .now) .seenSlots) (c .before .before .before .before .before .before .before .before .before .pre .2), c .before .before .before .before .before .before .before .before .before .pre .1 .size, c .before .before .before .before .before .before .before .before .before .pre .3)) refl (c .before .before .insert .ensures)
 

@@ -10,13 +10,13 @@ use Rattle.shift.proofs.lift.Statement.{statement}
 use Rattle.shift.proofs.lift.Tie as tie
 
 abbrev Inv-loop : tie.InvT-loop
-Inv-loop ws₀ from to by k₀ ws k = (from ≤ k) × (k ≤ to) × (length ws ≡ length ws₀) × (ws ≡ opened ws₀ k to by)
+Inv-loop ws₀ n by k₀ ws k = (k ≤ n) × (length ws ≡ length ws₀) × (ws ≡ opened ws₀ k n by)
 
 abbrev μ-loop : tie.MeasureT-loop
-μ-loop ws₀ from to by k₀ ws k = k - from
+μ-loop ws₀ n by k₀ ws k = k
 
 loop-holds : tie.Need-loop-holds Inv-loop μ-loop
-loop-holds c = (c .pre .0, omega arith, refl, up-none _ _ _)
+loop-holds c = (omega arith, refl, up-none _ _ _)
 
 sub-k : tie.Need-sub-k Inv-loop μ-loop
 sub-k c = omega arith
@@ -47,10 +47,9 @@ loop-again c =
     let k' = at-loop .loop .k - 1 in
     let e : at-loop .loop .k ≡ suc k' = omega arith in (
       omega arith,
-      omega arith,
-      simp length-set (at-loop .loop .inv .2),
-      ap (λ (l : List ℕ). set l (k' + start .args .by) (getD l k' 0)) (at-loop .loop .inv .3 ∙ ap (λ (j : ℕ). opened w j (start .args .to) (start .args .by)) e)
-          ∙ up-more w k' (start .args .to) (start .args .by) (omega arith) (start .pre .1),
+      simp length-set (at-loop .loop .inv .1),
+      ap (λ (l : List ℕ). set l (k' + start .args .by) (getD l k' 0)) (at-loop .loop .inv .2 ∙ ap (λ (j : ℕ). opened w j (start .args .n) (start .args .by)) e)
+          ∙ up-more w k' (start .args .n) (start .args .by) (omega arith) (start .pre),
     )
 
 same-length : tie.Need-same-length Inv-loop μ-loop
@@ -60,8 +59,8 @@ returns : tie.Need-returns Inv-loop μ-loop
 returns c =
     let at-loop = c .before in
     let start = at-loop .before in
-    let e : at-loop .loop .k ≡ start .args .from = omega arith in
-    at-loop .loop .inv .3 ∙ ap (λ (j : ℕ). opened (start .args .ws .now) j (start .args .to) (start .args .by)) e
+    let e : at-loop .loop .k ≡ 0 = omega arith in
+    at-loop .loop .inv .2 ∙ ap (λ (j : ℕ). opened (start .args .ws .now) j (start .args .n) (start .args .by)) e
 
 pub lift-spec : {M : Type 1} → statement M
 lift-spec =

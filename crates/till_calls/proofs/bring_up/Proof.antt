@@ -25,7 +25,7 @@ same-length-2 : tie.Need-same-length-2
 same-length-2 c = search needs
 
 returns-2 : tie.Need-returns-2
-returns-2 c = up-done (c .before .before .before .before .before .before .before .before .before .args .setup .now) (c .before .before .before .before .before .before .before .before .before .args .tills .now) (c .before .before .before .before .before .before .before .before .before .args .t) (c .before .before .before .before .before .before .before .before .before .args .shards) _ (c .before .before .before .before .before .up-refusal .ensures) (c .before .before .before .before .if1 .left) _ (c .before .before .put-till .ensures)
+returns-2 c = let a = c .before .before .before .before .before .before .before .before .before .args in up-done (a .setup .now) (a .tills .now) (a .t) (a .shards) _ (c .before .before .before .before .before .up-refusal .ensures) (c .before .before .before .before .if1 .left) _ (c .before .before .put-till .ensures)
 
 pub bring-up-spec : {M : Type 1} → statement M
 bring-up-spec =

@@ -27,10 +27,10 @@ shared-slice-read-if2 : tie.Need-shared-slice-read-if2
 shared-slice-read-if2 c = let p = read-room (c .before .before .before .before .before .args .setup .now) (c .before .before .before .before .before .args .tills .now) (c .before .before .before .before .before .args .t) (sym (c .before .before .read-refusal .ensures) ∙ c .before .if1 .left) in omega (arith, p)
 
 returns-2 : tie.Need-returns-2
-returns-2 c = ask-done (c .before .before .before .before .before .before .args .setup .now) (c .before .before .before .before .before .before .args .tills .now) (c .before .before .before .before .before .before .args .t) _ (c .before .before .before .read-refusal .ensures) (c .before .before .if1 .left) (read-room (c .before .before .before .before .before .before .args .setup .now) (c .before .before .before .before .before .before .args .tills .now) (c .before .before .before .before .before .before .args .t) (sym (c .before .before .before .read-refusal .ensures) ∙ c .before .before .if1 .left)) true (eq-eqb _ _ (c .if2 .taken))
+returns-2 c = let a = c .before .before .before .before .before .before .args in ask-done (a .setup .now) (a .tills .now) (a .t) _ (c .before .before .before .read-refusal .ensures) (c .before .before .if1 .left) (read-room (a .setup .now) (a .tills .now) (a .t) (sym (c .before .before .before .read-refusal .ensures) ∙ c .before .before .if1 .left)) true (eq-eqb _ _ (c .if2 .taken))
 
 returns-3 : tie.Need-returns-3
-returns-3 c = ask-done (c .before .before .before .before .before .before .args .setup .now) (c .before .before .before .before .before .before .args .tills .now) (c .before .before .before .before .before .before .args .t) _ (c .before .before .before .read-refusal .ensures) (c .before .before .if1 .left) (read-room (c .before .before .before .before .before .before .args .setup .now) (c .before .before .before .before .before .before .args .tills .now) (c .before .before .before .before .before .before .args .t) (sym (c .before .before .before .read-refusal .ensures) ∙ c .before .before .if1 .left)) false (ne-eqb _ _ (c .if2 .left))
+returns-3 c = let a = c .before .before .before .before .before .before .args in ask-done (a .setup .now) (a .tills .now) (a .t) _ (c .before .before .before .read-refusal .ensures) (c .before .before .if1 .left) (read-room (a .setup .now) (a .tills .now) (a .t) (sym (c .before .before .before .read-refusal .ensures) ∙ c .before .before .if1 .left)) false (ne-eqb _ _ (c .if2 .left))
 
 pub is-down-spec : {M : Type 1} → statement M
 is-down-spec =

@@ -38,7 +38,7 @@ same-length : tie.Need-same-length
 same-length c = search needs
 
 returns-2 : tie.Need-returns-2
-returns-2 c = marks-done (c .before .before .before .before .before .before .before .before .before .before .before .before .args .setup .now) (c .before .before .before .before .before .before .before .before .before .before .before .before .args .seen .now) (c .before .before .before .before .before .before .before .before .before .before .before .before .args .out .now) (c .before .before .before .before .before .before .before .before .before .before .before .before .args .t) _ (c .before .before .before .before .before .before .before .before .marks-refusal .ensures) (c .before .before .before .before .before .before .before .if1 .left) _ (c .before .before .copy-front .ensures)
+returns-2 c = let a = c .before .before .before .before .before .before .before .before .before .before .before .before .args in marks-done (a .setup .now) (a .seen .now) (a .out .now) (a .t) _ (c .before .before .before .before .before .before .before .before .marks-refusal .ensures) (c .before .before .before .before .before .before .before .if1 .left) _ (c .before .before .copy-front .ensures)
 
 pub marks-of-spec : {M : Type 1} → statement M
 marks-of-spec =

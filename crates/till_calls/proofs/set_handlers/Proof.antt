@@ -40,7 +40,7 @@ same-length-2 : tie.Need-same-length-2
 same-length-2 c = search needs
 
 returns-2 : tie.Need-returns-2
-returns-2 c = handlers-done (c .before .before .before .before .before .before .before .before .before .before .before .args .setup .now) (c .before .before .before .before .before .before .before .before .before .before .before .args .tills .now) (c .before .before .before .before .before .before .before .before .before .before .before .args .t) (c .before .before .before .before .before .before .before .before .before .before .before .args .gossip) (c .before .before .before .before .before .before .before .before .before .before .before .args .host) _ (c .before .before .before .before .before .before .before .handlers-refusal .ensures) (c .before .before .before .before .before .before .if1 .left) (handlers-room (c .before .before .before .before .before .before .before .before .before .before .before .args .setup .now) (c .before .before .before .before .before .before .before .before .before .before .before .args .tills .now) (c .before .before .before .before .before .before .before .before .before .before .before .args .t) (c .before .before .before .before .before .before .before .before .before .before .before .args .gossip) (c .before .before .before .before .before .before .before .before .before .before .before .args .host) (sym (c .before .before .before .before .before .before .before .handlers-refusal .ensures) ∙ c .before .before .before .before .before .before .if1 .left)) _ (c .before .before .put-till .ensures)
+returns-2 c = let a = c .before .before .before .before .before .before .before .before .before .before .before .args in handlers-done (a .setup .now) (a .tills .now) (a .t) (a .gossip) (a .host) _ (c .before .before .before .before .before .before .before .handlers-refusal .ensures) (c .before .before .before .before .before .before .if1 .left) (handlers-room (a .setup .now) (a .tills .now) (a .t) (a .gossip) (a .host) (sym (c .before .before .before .before .before .before .before .handlers-refusal .ensures) ∙ c .before .before .before .before .before .before .if1 .left)) _ (c .before .before .put-till .ensures)
 
 pub set-handlers-spec : {M : Type 1} → statement M
 set-handlers-spec =

@@ -34,7 +34,7 @@ same-length-4 : tie.Need-same-length-4
 same-length-4 c = search needs
 
 returns-2 : tie.Need-returns-2
-returns-2 c = down-done (c .before .before .before .before .before .before .before .before .before .before .before .before .before .before .before .args .setup .now) (c .before .before .before .before .before .before .before .before .before .before .before .before .before .before .before .args .tills .now) (c .before .before .before .before .before .before .before .before .before .before .before .before .before .before .before .args .seen .now) (c .before .before .before .before .before .before .before .before .before .before .before .before .before .before .before .args .t) _ (c .before .before .before .before .before .before .before .before .before .down-refusal .ensures) (c .before .before .before .before .before .before .before .before .if1 .left) _ _ (c .before .before .before .before .before .before .put-till .ensures) (c .before .before .put .ensures)
+returns-2 c = let a = c .before .before .before .before .before .before .before .before .before .before .before .before .before .before .before .args in down-done (a .setup .now) (a .tills .now) (a .seen .now) (a .t) _ (c .before .before .before .before .before .before .before .before .before .down-refusal .ensures) (c .before .before .before .before .before .before .before .before .if1 .left) _ _ (c .before .before .before .before .before .before .put-till .ensures) (c .before .before .put .ensures)
 
 pub take-down-spec : {M : Type 1} → statement M
 take-down-spec =

@@ -1,10 +1,8 @@
-use mathlib.Core.Path.{_≡_, refl, sym, ap}
+use mathlib.Core.Path.{_≡_, refl, ap}
 use native.Mathlib.Omega.{arith}
 use lib.Dec.{le→leb}
 use Prim.Native.Nat.{_/_, _%_, _^_}
-use borrow.Author.Needs.{needs}
 use lib.Ieee.{Float, ofBits, ofInt, inFloat, binary64, add, div}
-use lib.IntN.{pos}
 use Rattle.time.specs.Seconds.{seconds, second, whole}
 use Rattle.time.proofs.seconds.Statement.{statement}
 use Rattle.time.proofs.seconds.Tie as tie

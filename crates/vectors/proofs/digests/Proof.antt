@@ -2,13 +2,6 @@ use borrow.Author.Needs.{needs}
 use Prim.Native.Nat.{_≤_, _-_}
 use Rattle.vectors.proofs.digests.Statement.{statement}
 use Rattle.vectors.proofs.digests.Tie as tie
-use Rattle.vectors.proofs.digests.Reads as reads
-use Rattle.vectors.proofs.digests.Lts as lts
-use Rattle.digest.proofs.digest.Reads as digest-reads
-use Rattle.parts.proofs.front.Reads as front-reads
-use Rattle.vectors.proofs.answer.Reads as answer-reads
-use Rattle.vectors.proofs.number.Reads as number-reads
-use Rattle.vectors.proofs.say.Reads as say-reads
 
 abbrev Inv-loop : tie.InvT-loop
 Inv-loop s k₀ t4 k = k ≤ 48
@@ -16,55 +9,42 @@ Inv-loop s k₀ t4 k = k ≤ 48
 abbrev μ-loop : tie.MeasureT-loop
 μ-loop s k₀ t4 k = 48 - k
 
--- src/main.rt:223:5
 loop-holds : tie.Need-loop-holds Inv-loop μ-loop
 loop-holds c = search needs
 
--- src/main.rt:224:17
 mul-n : tie.Need-mul-n Inv-loop μ-loop
 mul-n c = search needs
 
--- src/main.rt:224:17
 array-read-n : tie.Need-array-read-n Inv-loop μ-loop
 array-read-n c = search needs
 
--- src/main.rt:225:13
 slice-aggregate-say : tie.Need-slice-aggregate-say Inv-loop μ-loop
 slice-aggregate-say c = search needs
 
--- src/main.rt:225:9
 say-requires : tie.Need-say-requires Inv-loop μ-loop
 say-requires c κs = search needs
 
--- src/main.rt:226:9
 number-requires : tie.Need-number-requires Inv-loop μ-loop
 number-requires c κs = search needs
 
--- src/main.rt:227:23
 front-requires : tie.Need-front-requires Inv-loop μ-loop
 front-requires c κs = search needs
 
--- src/main.rt:227:16
 digest-requires : tie.Need-digest-requires Inv-loop μ-loop
 digest-requires c κs = search needs
 
--- src/main.rt:227:9
 answer-requires : tie.Need-answer-requires Inv-loop μ-loop
 answer-requires c κs = search needs
 
--- src/main.rt:228:9
 add-k : tie.Need-add-k Inv-loop μ-loop
 add-k c = search needs
 
--- src/main.rt:223:5
 loop-less : tie.Need-loop-less Inv-loop μ-loop
 loop-less c = search needs
 
--- src/main.rt:223:5
 loop-again : tie.Need-loop-again Inv-loop μ-loop
 loop-again c = search needs
 
--- src/main.rt:221:1
 returns : tie.Need-returns Inv-loop μ-loop
 returns c = search needs
 

@@ -2,14 +2,6 @@ use borrow.Author.Needs.{needs}
 use Prim.Native.Nat.{_≤_, _-_}
 use Rattle.vectors.proofs.digests_of_parts.Statement.{statement}
 use Rattle.vectors.proofs.digests_of_parts.Tie as tie
-use Rattle.vectors.proofs.digests_of_parts.Reads as reads
-use Rattle.vectors.proofs.digests_of_parts.Lts as lts
-use Rattle.digest.proofs.digest_parts.Reads as digest-parts-reads
-use Rattle.parts.proofs.back.Reads as back-reads
-use Rattle.parts.proofs.front.Reads as front-reads
-use Rattle.vectors.proofs.answer.Reads as answer-reads
-use Rattle.vectors.proofs.number.Reads as number-reads
-use Rattle.vectors.proofs.say.Reads as say-reads
 
 abbrev Inv-loop : tie.InvT-loop
 Inv-loop s k₀ t6 k = k ≤ 20
@@ -17,75 +9,57 @@ Inv-loop s k₀ t6 k = k ≤ 20
 abbrev μ-loop : tie.MeasureT-loop
 μ-loop s k₀ t6 k = 20 - k
 
--- src/main.rt:234:5
 loop-holds : tie.Need-loop-holds Inv-loop μ-loop
 loop-holds c = search needs
 
--- src/main.rt:235:17
 mul-h : tie.Need-mul-h Inv-loop μ-loop
 mul-h c = search needs
 
--- src/main.rt:235:17
 array-read-h : tie.Need-array-read-h Inv-loop μ-loop
 array-read-h c = search needs
 
--- src/main.rt:236:17
 mul-n : tie.Need-mul-n Inv-loop μ-loop
 mul-n c = search needs
 
--- src/main.rt:236:17
 array-read-n : tie.Need-array-read-n Inv-loop μ-loop
 array-read-n c = search needs
 
--- src/main.rt:237:13
 slice-aggregate-say : tie.Need-slice-aggregate-say Inv-loop μ-loop
 slice-aggregate-say c = search needs
 
--- src/main.rt:237:9
 say-requires : tie.Need-say-requires Inv-loop μ-loop
 say-requires c κs = search needs
 
--- src/main.rt:238:9
 number-requires : tie.Need-number-requires Inv-loop μ-loop
 number-requires c κs = search needs
 
--- src/main.rt:239:9
 number-requires-2 : tie.Need-number-requires-2 Inv-loop μ-loop
 number-requires-2 c κs = search needs
 
--- src/main.rt:240:13
 front-requires : tie.Need-front-requires Inv-loop μ-loop
 front-requires c κs = search needs
 
--- src/main.rt:241:29
 front-requires-2 : tie.Need-front-requires-2 Inv-loop μ-loop
 front-requires-2 c κs = search needs
 
--- src/main.rt:241:46
 back-requires : tie.Need-back-requires Inv-loop μ-loop
 back-requires c κs = search needs
 
--- src/main.rt:241:16
 digest-parts-requires : tie.Need-digest-parts-requires Inv-loop μ-loop
 digest-parts-requires c κs = search needs
 
--- src/main.rt:241:9
 answer-requires : tie.Need-answer-requires Inv-loop μ-loop
 answer-requires c κs = search needs
 
--- src/main.rt:242:9
 add-k : tie.Need-add-k Inv-loop μ-loop
 add-k c = search needs
 
--- src/main.rt:234:5
 loop-less : tie.Need-loop-less Inv-loop μ-loop
 loop-less c = search needs
 
--- src/main.rt:234:5
 loop-again : tie.Need-loop-again Inv-loop μ-loop
 loop-again c = search needs
 
--- src/main.rt:232:1
 returns : tie.Need-returns Inv-loop μ-loop
 returns c = search needs
 

@@ -2,9 +2,6 @@ use borrow.Author.Needs.{needs}
 use Prim.Native.Nat.{_≤_, _-_}
 use Rattle.vectors.proofs.links.Statement.{statement}
 use Rattle.vectors.proofs.links.Tie as tie
-use Rattle.vectors.proofs.links.Reads as reads
-use Rattle.vectors.proofs.links.Lts as lts
-use Rattle.vectors.proofs.show_link.Reads as show-link-reads
 
 abbrev Inv-loop : tie.InvT-loop
 Inv-loop k₀ k = k ≤ 8
@@ -12,51 +9,39 @@ Inv-loop k₀ k = k ≤ 8
 abbrev μ-loop : tie.MeasureT-loop
 μ-loop k₀ k = 8 - k
 
--- src/main.rt:321:5
 loop-holds : tie.Need-loop-holds Inv-loop μ-loop
 loop-holds c = search needs
 
--- src/main.rt:322:19
 mul-show-link : tie.Need-mul-show-link Inv-loop μ-loop
 mul-show-link c = search needs
 
--- src/main.rt:322:19
 array-read-show-link : tie.Need-array-read-show-link Inv-loop μ-loop
 array-read-show-link c = search needs
 
--- src/main.rt:322:29
 mul-show-link-2 : tie.Need-mul-show-link-2 Inv-loop μ-loop
 mul-show-link-2 c = search needs
 
--- src/main.rt:322:29
 array-read-show-link-2 : tie.Need-array-read-show-link-2 Inv-loop μ-loop
 array-read-show-link-2 c = search needs
 
--- src/main.rt:322:39
 mul-show-link-3 : tie.Need-mul-show-link-3 Inv-loop μ-loop
 mul-show-link-3 c = search needs
 
--- src/main.rt:322:39
 array-read-show-link-3 : tie.Need-array-read-show-link-3 Inv-loop μ-loop
 array-read-show-link-3 c = search needs
 
--- src/main.rt:322:9
 show-link-requires : tie.Need-show-link-requires Inv-loop μ-loop
 show-link-requires c κs = search needs
 
--- src/main.rt:323:9
 add-k : tie.Need-add-k Inv-loop μ-loop
 add-k c = search needs
 
--- src/main.rt:321:5
 loop-less : tie.Need-loop-less Inv-loop μ-loop
 loop-less c = search needs
 
--- src/main.rt:321:5
 loop-again : tie.Need-loop-again Inv-loop μ-loop
 loop-again c = search needs
 
--- src/main.rt:319:1
 returns : tie.Need-returns Inv-loop μ-loop
 returns c = search needs
 

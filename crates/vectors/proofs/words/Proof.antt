@@ -2,13 +2,6 @@ use borrow.Author.Needs.{needs}
 use Prim.Native.Nat.{_≤_, _-_}
 use Rattle.vectors.proofs.words.Statement.{statement}
 use Rattle.vectors.proofs.words.Tie as tie
-use Rattle.vectors.proofs.words.Reads as reads
-use Rattle.vectors.proofs.words.Lts as lts
-use Rattle.chacha.proofs.word.Reads as word-reads
-use Rattle.io.proofs.print_hex.Reads as print-hex-reads
-use Rattle.vectors.proofs.key_of.Reads as key-of-reads
-use Rattle.vectors.proofs.number.Reads as number-reads
-use Rattle.vectors.proofs.say.Reads as say-reads
 
 abbrev Inv-loop : tie.InvT-loop
 Inv-loop i k₀ t4 t5 t6 k = k ≤ 24
@@ -16,79 +9,60 @@ Inv-loop i k₀ t4 t5 t6 k = k ≤ 24
 abbrev μ-loop : tie.MeasureT-loop
 μ-loop i k₀ t4 t5 t6 k = 24 - k
 
--- src/main.rt:268:5
 loop-holds : tie.Need-loop-holds Inv-loop μ-loop
 loop-holds c = search needs
 
--- src/main.rt:269:21
 mul-count : tie.Need-mul-count Inv-loop μ-loop
 mul-count c = search needs
 
--- src/main.rt:269:21
 array-read-count : tie.Need-array-read-count Inv-loop μ-loop
 array-read-count c = search needs
 
--- src/main.rt:270:13
 slice-aggregate-say : tie.Need-slice-aggregate-say Inv-loop μ-loop
 slice-aggregate-say c = search needs
 
--- src/main.rt:270:9
 say-requires : tie.Need-say-requires Inv-loop μ-loop
 say-requires c κs = search needs
 
--- src/main.rt:271:9
 number-requires : tie.Need-number-requires Inv-loop μ-loop
 number-requires c κs = search needs
 
--- src/main.rt:272:9
 number-requires-2 : tie.Need-number-requires-2 Inv-loop μ-loop
 number-requires-2 c κs = search needs
 
--- src/main.rt:273:13
 slice-aggregate-say-2 : tie.Need-slice-aggregate-say-2 Inv-loop μ-loop
 slice-aggregate-say-2 c = search needs
 
--- src/main.rt:273:9
 say-requires-2 : tie.Need-say-requires-2 Inv-loop μ-loop
 say-requires-2 c κs = search needs
 
--- src/main.rt:274:51
 key-of-requires : tie.Need-key-of-requires Inv-loop μ-loop
 key-of-requires c κs = search needs
 
--- src/main.rt:274:38
 word-requires : tie.Need-word-requires Inv-loop μ-loop
 word-requires c κs = search needs
 
--- src/main.rt:274:38
 cast-print-hex : tie.Need-cast-print-hex Inv-loop μ-loop
 cast-print-hex c = search needs
 
--- src/main.rt:274:9
 print-hex-requires : tie.Need-print-hex-requires Inv-loop μ-loop
 print-hex-requires c κs = search needs
 
--- src/main.rt:275:13
 slice-aggregate-say-3 : tie.Need-slice-aggregate-say-3 Inv-loop μ-loop
 slice-aggregate-say-3 c = search needs
 
--- src/main.rt:275:9
 say-requires-3 : tie.Need-say-requires-3 Inv-loop μ-loop
 say-requires-3 c κs = search needs
 
--- src/main.rt:276:9
 add-k : tie.Need-add-k Inv-loop μ-loop
 add-k c = search needs
 
--- src/main.rt:268:5
 loop-less : tie.Need-loop-less Inv-loop μ-loop
 loop-less c = search needs
 
--- src/main.rt:268:5
 loop-again : tie.Need-loop-again Inv-loop μ-loop
 loop-again c = search needs
 
--- src/main.rt:266:1
 returns : tie.Need-returns Inv-loop μ-loop
 returns c = search needs
 

@@ -16,17 +16,17 @@ returns c = let a = c .before .before .before .before .before .before .before .a
 shared-slice-read-copies : tie.Need-shared-slice-read-copies
 shared-slice-read-copies c = let a = c .before .before .before .before .before .before .before .args in omega (arith, copies-net (a .setup .now) (a .net .now) (a .waiting .now) (a .out .now) _ (c .before .before .copies-refusal .ensures) (c .before .if1 .left))
 
-mul-copy-words : tie.Need-mul-copy-words
-mul-copy-words c = let a = c .before .before .before .before .before .before .before .args in omega (arith, copies-room (a .setup .now) (a .net .now) (a .waiting .now) (a .out .now) _ (c .before .before .copies-refusal .ensures) (c .before .if1 .left) .0)
+mul-copy-front : tie.Need-mul-copy-front
+mul-copy-front c = let a = c .before .before .before .before .before .before .before .args in omega (arith, copies-room (a .setup .now) (a .net .now) (a .waiting .now) (a .out .now) _ (c .before .before .copies-refusal .ensures) (c .before .if1 .left) .0)
 
-copy-words-requires : tie.Need-copy-words-requires
-copy-words-requires c κs = let a = c .before .before .before .before .before .before .before .before .args in copies-room (a .setup .now) (a .net .now) (a .waiting .now) (a .out .now) _ (c .before .before .before .copies-refusal .ensures) (c .before .before .if1 .left)
+copy-front-requires : tie.Need-copy-front-requires
+copy-front-requires c κs = let a = c .before .before .before .before .before .before .before .before .args in let p = copies-room (a .setup .now) (a .net .now) (a .waiting .now) (a .out .now) _ (c .before .before .before .copies-refusal .ensures) (c .before .before .if1 .left) in (omega (arith, p .0), p .1)
 
 same-length : tie.Need-same-length
 same-length c = search needs
 
 returns-2 : tie.Need-returns-2
-returns-2 c = let a = c .before .before .before .before .before .before .before .before .before .before .before .args in copies-done (a .setup .now) (a .net .now) (a .waiting .now) (a .out .now) _ (c .before .before .before .before .before .before .copies-refusal .ensures) (c .before .before .before .before .before .if1 .left) _ (c .before .before .copy-words .ensures)
+returns-2 c = let a = c .before .before .before .before .before .before .before .before .before .before .before .args in copies-done (a .setup .now) (a .net .now) (a .waiting .now) (a .out .now) _ (c .before .before .before .before .before .before .copies-refusal .ensures) (c .before .before .before .before .before .if1 .left) _ (c .before .before .copy-front .ensures)
 
 pub waiting-copies-spec : {M : Type 1} → statement M
 waiting-copies-spec =
@@ -36,7 +36,7 @@ waiting-copies-spec =
     refused-requires
     returns
     shared-slice-read-copies
-    mul-copy-words
-    copy-words-requires
+    mul-copy-front
+    copy-front-requires
     same-length
     returns-2)

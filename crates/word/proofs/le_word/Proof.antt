@@ -3,79 +3,58 @@ use Rattle.word.specs.Word.{leWord}
 use borrow.Author.Needs.{needs}
 use Rattle.word.proofs.le_word.Statement.{statement}
 use Rattle.word.proofs.le_word.Tie as tie
-use Rattle.word.proofs.le_word.Reads as reads
-use Rattle.word.proofs.le_word.Lts as lts
-use Rattle.word.proofs.wide.Reads as wide-reads
 
--- src/lib.rt:85:18
 shared-slice-read-wide : tie.Need-shared-slice-read-wide
 shared-slice-read-wide c = search needs
 
--- src/lib.rt:85:9
 wide-requires : tie.Need-wide-requires
 wide-requires c κs = search needs
 
--- src/lib.rt:86:20
 add-wide : tie.Need-add-wide
 add-wide c = search needs
 
--- src/lib.rt:86:18
 shared-slice-read-wide-2 : tie.Need-shared-slice-read-wide-2
 shared-slice-read-wide-2 c = search needs
 
--- src/lib.rt:86:9
 wide-requires-2 : tie.Need-wide-requires-2
 wide-requires-2 c κs = search needs
 
--- src/lib.rt:87:20
 add-wide-2 : tie.Need-add-wide-2
 add-wide-2 c = search needs
 
--- src/lib.rt:87:18
 shared-slice-read-wide-3 : tie.Need-shared-slice-read-wide-3
 shared-slice-read-wide-3 c = search needs
 
--- src/lib.rt:87:9
 wide-requires-3 : tie.Need-wide-requires-3
 wide-requires-3 c κs = search needs
 
--- src/lib.rt:88:20
 add-wide-3 : tie.Need-add-wide-3
 add-wide-3 c = search needs
 
--- src/lib.rt:88:18
 shared-slice-read-wide-4 : tie.Need-shared-slice-read-wide-4
 shared-slice-read-wide-4 c = search needs
 
--- src/lib.rt:88:9
 wide-requires-4 : tie.Need-wide-requires-4
 wide-requires-4 c κs = search needs
 
--- src/lib.rt:89:9
 mul-result : tie.Need-mul-result
 mul-result c = search needs
 
--- src/lib.rt:89:5
 add-result : tie.Need-add-result
 add-result c = search needs
 
--- src/lib.rt:89:19
 mul-result-2 : tie.Need-mul-result-2
 mul-result-2 c = search needs
 
--- src/lib.rt:89:5
 add-result-2 : tie.Need-add-result-2
 add-result-2 c = search needs
 
--- src/lib.rt:89:31
 mul-result-3 : tie.Need-mul-result-3
 mul-result-3 c = search needs
 
--- src/lib.rt:89:5
 add-result-3 : tie.Need-add-result-3
 add-result-3 c = search needs
 
--- src/lib.rt:81:1
 returns : tie.Need-returns
 unfolding leWord
 returns c = omega arith

@@ -4,23 +4,16 @@ use lib.Dec.{T}
 use borrow.Author.Needs.{needs}
 use Rattle.delays.proofs.checks.bits_are.Statement.{statement}
 use Rattle.delays.proofs.checks.bits_are.Tie as tie
-use Rattle.delays.proofs.checks.bits_are.Reads as reads
-use Rattle.delays.proofs.checks.bits_are.Lts as lts
-use Rattle.float.proofs.is_nan.Reads as is-nan-reads
 
--- src/checks.rt:7:8
 is-nan-requires : tie.Need-is-nan-requires
 is-nan-requires c κs = search needs
 
--- src/checks.rt:8:9
 returns : tie.Need-returns
 returns c = search needs
 
--- src/checks.rt:10:5
 float-to-bits-result : tie.Need-float-to-bits-result
 float-to-bits-result c = subst (λ (b : Bool). T (not b)) (sym (sym (c .before .is-nan .ensures) ∙ c .if1 .left)) tt
 
--- src/checks.rt:6:1
 returns-2 : tie.Need-returns-2
 returns-2 c = search needs
 

@@ -3,79 +3,55 @@ use Rattle.latency.proofs.Admit.{admitted}
 use borrow.Author.Needs.{needs}
 use Rattle.delays.proofs.checks.sampled.Statement.{statement}
 use Rattle.delays.proofs.checks.sampled.Tie as tie
-use Rattle.delays.proofs.checks.sampled.Reads as reads
-use Rattle.delays.proofs.checks.sampled.Lts as lts
-use Rattle.float.proofs.of_any.Reads as of-any-reads
-use Rattle.latency.proofs.fraction_admitted.Reads as fraction-admitted-reads
-use Rattle.latency.proofs.latency_admitted.Reads as latency-admitted-reads
-use Rattle.latency.proofs.sample_latency.Reads as sample-latency-reads
-use Rattle.streams.proofs.at.Reads as at-reads
 
--- src/checks.rt:163:17
 array-read-count : tie.Need-array-read-count
 array-read-count c = search needs
 
--- src/checks.rt:166:34
 array-read-of-any : tie.Need-array-read-of-any
 array-read-of-any c = search needs
 
--- src/checks.rt:166:9
 of-any-requires : tie.Need-of-any-requires
 of-any-requires c κs = search needs
 
--- src/checks.rt:168:9
 returns : tie.Need-returns
 returns c = search needs
 
--- src/checks.rt:171:9
 returns-2 : tie.Need-returns-2
 returns-2 c = search needs
 
--- src/checks.rt:173:8
 latency-admitted-requires : tie.Need-latency-admitted-requires
 latency-admitted-requires c κs = search needs
 
--- src/checks.rt:174:12
 fraction-admitted-requires : tie.Need-fraction-admitted-requires
 fraction-admitted-requires c κs = search needs
 
--- src/checks.rt:175:17
 at-requires : tie.Need-at-requires
 at-requires c κs = search needs
 
--- src/checks.rt:176:78
 array-read-of-any-2 : tie.Need-array-read-of-any-2
 array-read-of-any-2 c = search needs
 
--- src/checks.rt:176:64
 of-any-requires-2 : tie.Need-of-any-requires-2
 of-any-requires-2 c κs = search needs
 
--- src/checks.rt:176:17
 sample-latency-requires : tie.Need-sample-latency-requires
 sample-latency-requires c κs = (admitted (c .before .before .before .before .before .before .before .before .before .before .before .before .args .cost .base .ns) (c .before .before .before .before .before .before .before .before .before .of-any .result) (c .before .before .before .before .before .latency-admitted .ensures) (c .before .before .before .before .if3 .taken) (c .before .before .before .fraction-admitted .ensures) (c .before .before .if4 .taken), c .before .before .before .before .before .before .if2 .left, omega (arith, c .before .at .ensures .1, c .before .before .before .before .before .before .before .before .if1 .left), c .before .at .ensures .2)
 
--- src/checks.rt:179:28
 array-read-if5 : tie.Need-array-read-if5
 array-read-if5 c = search needs
 
--- src/checks.rt:179:51
 array-read-result : tie.Need-array-read-result
 array-read-result c = search needs
 
--- src/checks.rt:179:13
 returns-3 : tie.Need-returns-3
 returns-3 c = search needs
 
--- src/checks.rt:179:13
 returns-4 : tie.Need-returns-4
 returns-4 c = search needs
 
--- src/checks.rt:162:1
 returns-5 : tie.Need-returns-5
 returns-5 c = search needs
 
--- src/checks.rt:162:1
 returns-6 : tie.Need-returns-6
 returns-6 c = search needs
 

@@ -5,51 +5,35 @@ use lib.Dec.{T}
 use borrow.Author.Needs.{needs}
 use Rattle.delays.proofs.checks.times.Statement.{statement}
 use Rattle.delays.proofs.checks.times.Tie as tie
-use Rattle.delays.proofs.checks.times.Reads as reads
-use Rattle.delays.proofs.checks.times.Lts as lts
-use Rattle.float.proofs.of_any.Reads as of-any-reads
-use Rattle.time.proofs.Time.as_secs_f64.Reads as as-secs-f64-reads
-use Rattle.time.proofs.Time.from_nanos.Reads as from-nanos-reads
-use Rattle.time.proofs.Time.mul_f64.Reads as mul-f64-reads
 
--- src/checks.rt:88:30
 array-read-from-nanos : tie.Need-array-read-from-nanos
 array-read-from-nanos c = search needs
 
--- src/checks.rt:88:9
 from-nanos-requires : tie.Need-from-nanos-requires
 from-nanos-requires c κs = search needs
 
--- src/checks.rt:89:28
 array-read-of-any : tie.Need-array-read-of-any
 array-read-of-any c = search needs
 
--- src/checks.rt:89:9
 of-any-requires : tie.Need-of-any-requires
 of-any-requires c κs = search needs
 
--- src/checks.rt:90:18
 as-secs-f64-requires : tie.Need-as-secs-f64-requires
 as-secs-f64-requires c κs = search needs
 
--- src/checks.rt:93:17
 mul-f64-requires : tie.Need-mul-f64-requires
 unfolding ofBits
 mul-f64-requires c κs = subst (λ (x : Float). InRange (mul binary64 (c .before .before .before .of-any .result) x)) (c .before .before .as-secs-f64 .ensures) (subst T (sym (c .before .if1 .taken)) tt, subst T (sym (c .if2 .taken)) tt)
 
--- src/checks.rt:94:28
 array-read-result : tie.Need-array-read-result
 array-read-result c = search needs
 
--- src/checks.rt:94:13
 returns : tie.Need-returns
 returns c = search needs
 
--- src/checks.rt:87:1
 returns-2 : tie.Need-returns-2
 returns-2 c = search needs
 
--- src/checks.rt:87:1
 returns-3 : tie.Need-returns-3
 returns-3 c = search needs
 

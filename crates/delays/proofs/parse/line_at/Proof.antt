@@ -5,12 +5,6 @@ use native.Mathlib.Omega.{arith}
 use Prim.Native.Nat.{_-_, _≤_}
 use Rattle.delays.proofs.parse.line_at.Statement.{statement}
 use Rattle.delays.proofs.parse.line_at.Tie as tie
-use Rattle.delays.proofs.parse.line_at.Reads as reads
-use Rattle.delays.proofs.parse.line_at.Lts as lts
-use Rattle.delays.proofs.parse.byte_at.Reads as byte-at-reads
-use Rattle.delays.proofs.parse.number.Reads as number-reads
-use Rattle.delays.proofs.parse.past_line.Reads as past-line-reads
-use Rattle.std.proofs.num.wrapping_add_usize.Reads as wrapping-add-usize-reads
 
 abbrev Inv-loop : tie.InvT-loop
 Inv-loop s from kind v₀ at₀ i₀ v at i = (i ≤ 12) × (length v ≡ 12)
@@ -18,47 +12,36 @@ Inv-loop s from kind v₀ at₀ i₀ v at i = (i ≤ 12) × (length v ≡ 12)
 abbrev μ-loop : tie.MeasureT-loop
 μ-loop s from kind v₀ at₀ i₀ v at i = 12 - i
 
--- src/parse.rt:81:9
 byte-at-requires : tie.Need-byte-at-requires Inv-loop μ-loop
 byte-at-requires c κs = search needs
 
--- src/parse.rt:83:9
 wrapping-add-usize-requires : tie.Need-wrapping-add-usize-requires Inv-loop μ-loop
 wrapping-add-usize-requires c κs = search needs
 
--- src/parse.rt:85:5
 loop-holds : tie.Need-loop-holds Inv-loop μ-loop
 loop-holds c = (omega arith, refl)
 
--- src/parse.rt:86:13
 number-requires : tie.Need-number-requires Inv-loop μ-loop
 number-requires c κs = search needs
 
--- src/parse.rt:87:9
 mul-v : tie.Need-mul-v Inv-loop μ-loop
 mul-v c = search needs
 
--- src/parse.rt:87:9
 array-write-v : tie.Need-array-write-v Inv-loop μ-loop
 array-write-v c = search needs
 
--- src/parse.rt:89:9
 add-i : tie.Need-add-i Inv-loop μ-loop
 add-i c = search needs
 
--- src/parse.rt:85:5
 loop-less : tie.Need-loop-less Inv-loop μ-loop
 loop-less c = search needs
 
--- src/parse.rt:85:5
 loop-again : tie.Need-loop-again Inv-loop μ-loop
 loop-again c = search needs
 
--- src/parse.rt:94:15
 past-line-requires : tie.Need-past-line-requires Inv-loop μ-loop
 past-line-requires c κs = search needs
 
--- src/parse.rt:80:1
 returns : tie.Need-returns Inv-loop μ-loop
 returns c = search needs
 

@@ -5,43 +5,31 @@ use Rattle.compress.specs.Compress.{permuted}
 use borrow.Author.Needs.{needs}
 use Rattle.lanes.proofs.rounds.round4.Statement.{statement}
 use Rattle.lanes.proofs.rounds.round4.Tie as tie
-use Rattle.lanes.proofs.rounds.round4.Reads as reads
-use Rattle.lanes.proofs.rounds.round4.Lts as lts
-use Rattle.compress.proofs.mix.Reads as mix-reads
 
--- src/rounds.rt:323:9
 mix-requires : tie.Need-mix-requires
 mix-requires c κs = search needs
 
--- src/rounds.rt:333:9
 mix-requires-2 : tie.Need-mix-requires-2
 mix-requires-2 c κs = search needs
 
--- src/rounds.rt:343:9
 mix-requires-3 : tie.Need-mix-requires-3
 mix-requires-3 c κs = search needs
 
--- src/rounds.rt:353:9
 mix-requires-4 : tie.Need-mix-requires-4
 mix-requires-4 c κs = search needs
 
--- src/rounds.rt:363:9
 mix-requires-5 : tie.Need-mix-requires-5
 mix-requires-5 c κs = search needs
 
--- src/rounds.rt:373:9
 mix-requires-6 : tie.Need-mix-requires-6
 mix-requires-6 c κs = search needs
 
--- src/rounds.rt:383:9
 mix-requires-7 : tie.Need-mix-requires-7
 mix-requires-7 c κs = search needs
 
--- src/rounds.rt:393:9
 mix-requires-8 : tie.Need-mix-requires-8
 mix-requires-8 c κs = search needs
 
--- src/rounds.rt:320:1
 returns : tie.Need-returns
 unfolding listOf scheduled permuted laid
 returns c = let v = c .before .before .before .before .before .before .before .before .args .v in

@@ -1,4 +1,3 @@
-use Prim.Native.Nat.{_-_}
 use borrow.Author.Needs.{needs}
 use Rattle.opening.proofs.Cells.{pairs-priced}
 use Rattle.opening.proofs.prices.price_pairs.Statement.{statement}
@@ -23,7 +22,7 @@ same-length : tie.Need-same-length
 same-length c = search needs
 
 returns : tie.Need-returns
-returns c = pairs-priced (c .before .before .before .before .before .before .before .before .before .args .seed) (c .before .before .before .before .before .before .before .before .before .args .regions) (c .before .before .before .before .before .before .before .before .before .args .n) (c .before .before .before .before .before .before .before .before .before .args .prices .now) _ _ (c .before .before .before .before .before .before .clear .ensures) (c .before .before .price-links .ensures)
+returns c = let a = c .before .before .before .before .before .before .before .before .before .args in pairs-priced (a .seed) (a .regions) (a .n) (a .prices .now) _ _ (c .before .before .before .before .before .before .clear .ensures) (c .before .before .price-links .ensures)
 
 pub price-pairs-spec : {M : Type 1} → statement M
 price-pairs-spec =

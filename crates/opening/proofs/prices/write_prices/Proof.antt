@@ -1,4 +1,3 @@
-use Prim.Native.Nat.{_-_}
 use mathlib.Core.Path.{refl}
 use native.Mathlib.Omega.{arith}
 use borrow.Author.Needs.{needs}
@@ -22,7 +21,7 @@ same-length : tie.Need-same-length
 same-length c = search needs
 
 returns-2 : tie.Need-returns-2
-returns-2 c = priced (c .before .before .before .before .before .before .before .before .before .before .before .args .plan) (c .before .before .before .before .before .before .before .before .before .before .before .args .tills) (c .before .before .before .before .before .before .before .before .before .before .before .args .prices .now) _ _ _ (c .before .before .before .before .before .before .before .before .if1 .left) refl (c .before .before .before .before .before .before .before .before .before .before .before .pre .2) (c .before .before .before .before .before .before .price-pairs .ensures) (c .before .before .write-regions .ensures)
+returns-2 c = let a = c .before .before .before .before .before .before .before .before .before .before .before .args in priced (a .plan) (a .tills) (a .prices .now) _ _ _ (c .before .before .before .before .before .before .before .before .if1 .left) refl (c .before .before .before .before .before .before .before .before .before .before .before .pre .2) (c .before .before .before .before .before .before .price-pairs .ensures) (c .before .before .write-regions .ensures)
 
 pub write-prices-spec : {M : Type 1} → statement M
 write-prices-spec =

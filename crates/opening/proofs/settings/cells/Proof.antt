@@ -1,4 +1,3 @@
-use Prim.Native.Nat.{_-_}
 use mathlib.Core.Path.{refl}
 use borrow.Author.Needs.{needs}
 use Rattle.opening.proofs.Cells.{numbers, setup-made}
@@ -45,7 +44,7 @@ key-word-requires-8 : tie.Need-key-word-requires-8
 key-word-requires-8 c κs = search needs
 
 returns : tie.Need-returns
-returns c = (setup-made (c .before .before .before .before .before .before .before .before .before .before .before .before .before .before .args .config) (c .before .before .before .before .before .before .before .before .before .before .before .before .before .before .args .sizes) (c .before .before .before .before .before .before .before .before .before .before .before .before .before .before .args .plan) (c .before .before .before .before .before .before .before .before .before .before .before .before .before .before .args .seed) (c .before .before .before .before .before .before .before .before .before .before .before .before .before .before .args .key .now) (c .before .before .before .before .before .before .before .before .before .before .before .before .before .before .pre .1) _ _ _ _ _ _ _ _ _ _ _ _ _ (c .before .before .before .before .before .before .before .before .before .before .before .before .rate-bits .ensures) (c .before .before .before .before .before .before .before .before .before .before .before .rate-bits2 .ensures) (c .before .before .before .before .before .before .before .before .before .before .rate-bits3 .ensures) (c .before .before .before .before .before .before .before .before .before .rate-bits4 .ensures) (c .before .before .before .before .before .before .before .before .rate-bits5 .ensures) (c .before .before .before .before .before .before .before .key-word .ensures) (c .before .before .before .before .before .before .key-word2 .ensures) (c .before .before .before .before .before .key-word3 .ensures) (c .before .before .before .before .key-word4 .ensures) (c .before .before .before .key-word5 .ensures) (c .before .before .key-word6 .ensures) (c .before .key-word7 .ensures) (c .key-word8 .ensures), refl)
+returns c = let a = c .before .before .before .before .before .before .before .before .before .before .before .before .before .before .args in (setup-made (a .config) (a .sizes) (a .plan) (a .seed) (a .key .now) (c .before .before .before .before .before .before .before .before .before .before .before .before .before .before .pre .1) _ _ _ _ _ _ _ _ _ _ _ _ _ (c .before .before .before .before .before .before .before .before .before .before .before .before .rate-bits .ensures) (c .before .before .before .before .before .before .before .before .before .before .before .rate-bits2 .ensures) (c .before .before .before .before .before .before .before .before .before .before .rate-bits3 .ensures) (c .before .before .before .before .before .before .before .before .before .rate-bits4 .ensures) (c .before .before .before .before .before .before .before .before .rate-bits5 .ensures) (c .before .before .before .before .before .before .before .key-word .ensures) (c .before .before .before .before .before .before .key-word2 .ensures) (c .before .before .before .before .before .key-word3 .ensures) (c .before .before .before .before .key-word4 .ensures) (c .before .before .before .key-word5 .ensures) (c .before .before .key-word6 .ensures) (c .before .key-word7 .ensures) (c .key-word8 .ensures), refl)
 
 pub cells-spec : {M : Type 1} → statement M
 cells-spec =

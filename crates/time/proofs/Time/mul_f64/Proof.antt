@@ -5,24 +5,17 @@ use lib.Ieee.{Float, mul, binary64}
 use borrow.Author.Needs.{needs}
 use Rattle.time.proofs.Time.mul_f64.Statement.{statement}
 use Rattle.time.proofs.Time.mul_f64.Tie as tie
-use Rattle.time.proofs.Time.mul_f64.Reads as reads
-use Rattle.time.proofs.Time.mul_f64.Lts as lts
-use Rattle.time.proofs.Time.as_secs_f64.Reads as as-secs-f64-reads
-use Rattle.time.proofs.Time.from_secs_f64.Reads as from-secs-f64-reads
 
 product : (n : ℕ) (y : Float) {s : Float} → s ≡ seconds n → nanos (mul binary64 y s) ≡ times n y
 unfolding times
 product n y e = ap (λ x. nanos (mul binary64 y x)) e
 
--- src/lib.rt:61:34
 as-secs-f64-requires : tie.Need-as-secs-f64-requires
 as-secs-f64-requires c κs = search needs
 
--- src/lib.rt:61:9
 from-secs-f64-requires : tie.Need-from-secs-f64-requires
 from-secs-f64-requires c κs = subst (λ x. InRange (mul binary64 (c .before .args .by) x)) (sym (c .as-secs-f64 .ensures)) (c .before .pre)
 
--- src/lib.rt:57:5
 returns : tie.Need-returns
 returns c = (c .from-secs-f64 .ensures .0 ∙ product (c .before .before .args .self .ns) (c .before .before .args .by) (c .before .as-secs-f64 .ensures), c .from-secs-f64 .ensures .1, c .from-secs-f64 .ensures .2)
 

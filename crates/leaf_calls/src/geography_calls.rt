@@ -1,0 +1,399 @@
+// Regions, links, times on the wire, link keys and latencies.
+use geography::Cost;
+use geography::Link;
+use outcome::Outcome;
+use outcome::bad;
+use outcome::done;
+use outcome::told;
+use outcome::valued;
+use script::calls;
+use time::Time;
+
+// Questions 4, 6, 7 and 8.
+const NO_TILL: u64 = 4;
+
+const TOO_LONG: u64 = 6;
+
+const TOO_LATE: u64 = 7;
+
+const WORDS_SPENT: u64 = 8;
+
+const LONGEST_WIRE: u64 = 65536;
+
+const LATEST: u64 = 1152921504606846976;
+
+// The words that a stream gives, 2^40.
+pub const MOST_WORDS: u64 = 1099511627776;
+
+// The largest number of 32 bits.
+const LAST: u64 = 4294967295;
+
+pub fn low(x: u64) -> u32 {
+    (x % 4294967296) as u32
+}
+
+// The region of a till, by the plan alone.
+fn region(setup: &[u64], t: u64) -> u64 {
+    geography::region_of(
+        held::cell(setup, held::PLAN_SEED),
+        held::cell(setup, held::REGIONS),
+        low(t),
+    )
+}
+
+fn no_link() -> Link {
+    Link {
+        base: Time::ZERO,
+        rate: 0,
+    }
+}
+
+// What the plan has for two regions.
+fn link_in(prices: &[u64], regions: u64, a: u64, b: u64) -> Link {
+    if held::MOST_REGIONS < regions {
+        return no_link();
+    }
+    if held::MOST_REGIONS <= a {
+        return no_link();
+    }
+    if held::MOST_REGIONS <= b {
+        return no_link();
+    }
+    geography::link_between(prices, regions, a, b)
+}
+
+fn link(setup: &[u64], prices: &[u64], from: u64, to: u64) -> Link {
+    let a = region(setup, from);
+    let b = region(setup, to);
+    link_in(prices, held::cell(setup, held::REGIONS), a, b)
+}
+
+// Nanoseconds on the wire, of a length within the limit.
+fn wire_time(bytes: u64, rate: u64) -> u64 {
+    if LONGEST_WIRE < bytes {
+        return 0;
+    }
+    let t = geography::transmission(bytes, rate);
+    t.ns
+}
+
+fn is_planned(setup: &[u64]) -> bool {
+    held::cell(setup, held::PLANNED) != 0
+}
+
+fn region_call(t: u64, setup: &[u64], text: &mut [u8], used: usize) -> Outcome {
+    if !is_planned(setup) {
+        let u = answers::say(text, used, b"region -\n");
+        return told(u, 0);
+    }
+    let u = answers::ended(text, used, b"region ", region(setup, t));
+    told(u, 0)
+}
+
+fn link_call(v: [u64; 8], setup: &[u64], prices: &[u64], text: &mut [u8], used: usize) -> Outcome {
+    if !is_planned(setup) {
+        let u = answers::say(text, used, b"link -\n");
+        return told(u, 0);
+    }
+    let l = link(setup, prices, v[0], v[1]);
+    let base = l.base;
+    let a = answers::labelled(text, used, b"link base=", base.ns);
+    let b = answers::ended(text, a, b" rate=", l.rate);
+    told(b, 0)
+}
+
+fn too_long(bytes: u64) -> u64 {
+    if LONGEST_WIRE < bytes {
+        return TOO_LONG;
+    }
+    0
+}
+
+fn transmission_call(
+    v: [u64; 8],
+    setup: &[u64],
+    prices: &[u64],
+    text: &mut [u8],
+    used: usize,
+) -> Outcome {
+    let number = too_long(v[2]);
+    if !is_planned(setup) {
+        return valued(text, used, b"transmission", b"transmission ", number, 0);
+    }
+    let l = link(setup, prices, v[0], v[1]);
+    let ns = wire_time(v[2], l.rate);
+    valued(text, used, b"transmission", b"transmission ", number, ns)
+}
+
+fn wire_call(v: [u64; 8], text: &mut [u8], used: usize) -> Outcome {
+    let ns = wire_time(v[1], v[0]);
+    valued(text, used, b"wire", b"wire ", too_long(v[1]), ns)
+}
+
+fn key_call(v: [u64; 8], setup: &[u64], text: &mut [u8], used: usize) -> Outcome {
+    let key = streams::link_key(held::cell(setup, held::SEED), low(v[0]), low(v[1]));
+    let a = answers::say(text, used, b"linkkey ");
+    let b = answers::hexes(text, a, key);
+    let c = answers::say(text, b, b"\n");
+    told(c, 0)
+}
+
+// Regions, links and keys; tills of any 32 bits.
+pub fn geography_call(
+    which: u64,
+    v: [u64; 8],
+    setup: &[u64],
+    prices: &[u64],
+    text: &mut [u8],
+    used: usize,
+) -> Outcome {
+    if which == calls::WIRE {
+        return wire_call(v, text, used);
+    }
+    if LAST < v[0] {
+        return bad(used);
+    }
+    if which == calls::REGION {
+        return region_call(v[0], setup, text, used);
+    }
+    if LAST < v[1] {
+        return bad(used);
+    }
+    if which == calls::LINK {
+        return link_call(v, setup, prices, text, used);
+    }
+    if which == calls::LINK_KEY {
+        return key_call(v, setup, text, used);
+    }
+    transmission_call(v, setup, prices, text, used)
+}
+
+fn no_cost() -> Cost {
+    Cost {
+        base: Time::ZERO,
+        transmission: Time::ZERO,
+    }
+}
+
+// What a delivery of so many bytes costs between two tills.
+fn cost(setup: &[u64], prices: &[u64], from: u64, to: u64, bytes: u64) -> Cost {
+    let regions = held::cell(setup, held::REGIONS);
+    let a = region(setup, from);
+    let b = region(setup, to);
+    if held::MOST_REGIONS < regions {
+        return no_cost();
+    }
+    if held::MOST_REGIONS <= a {
+        return no_cost();
+    }
+    if held::MOST_REGIONS <= b {
+        return no_cost();
+    }
+    if LONGEST_WIRE < bytes {
+        return no_cost();
+    }
+    let latency = Time::from_nanos(held::cell(setup, held::LATENCY));
+    geography::cost_between(prices, is_planned(setup), regions, a, b, latency, bytes)
+}
+
+// A latency in nanoseconds, and the stream's count behind it.
+pub struct Delay {
+    pub ns: u64,
+    pub count: u64,
+}
+
+// The longest time on the wire.
+const LONGEST: u64 = 60_000_000_000;
+
+fn sampled(setup: &[u64], key: [u32; 8], count: u64, c: Cost) -> Delay {
+    let none = Delay { ns: 0, count };
+    let base = c.base;
+    let wire = c.transmission;
+    let fraction = float::of_any(held::cell(setup, held::JITTER));
+    let spike = float::of_any(held::cell(setup, held::SPIKE));
+    if LATEST <= count {
+        return none;
+    }
+    if LONGEST < wire.ns {
+        return none;
+    }
+    if !latency::latency_admitted(base) {
+        return none;
+    }
+    if !latency::fraction_admitted(fraction) {
+        return none;
+    }
+    let r = latency::sample_latency(streams::at(key, count), base, fraction, spike, wire);
+    let t = r.latency;
+    let next = r.next;
+    Delay {
+        ns: t.ns,
+        count: next.count,
+    }
+}
+
+fn sample(setup: &[u64], prices: &[u64], key: [u32; 8], count: u64, v: [u64; 8]) -> Delay {
+    sampled(setup, key, count, cost(setup, prices, v[2], v[3], v[4]))
+}
+
+// As many samples as word 5 says, each behind the one before.
+fn samples(
+    v: [u64; 8],
+    key: [u32; 8],
+    setup: &[u64],
+    prices: &[u64],
+    text: &mut [u8],
+    used: usize,
+) -> usize {
+    let mut u = used;
+    let mut count = v[1];
+    let mut left = v[5];
+    while 0 < left {
+        let s = sample(setup, prices, key, count, v);
+        u = answers::labelled(text, u, b" ", s.ns);
+        count = s.count;
+        left -= 1;
+    }
+    answers::ended(text, u, b" words=", count)
+}
+
+// Samples on a stream record of its own: key, word count, from, to, bytes, how many.
+pub fn latency(
+    v: [u64; 8],
+    key: &[u8],
+    setup: &[u64],
+    prices: &[u64],
+    text: &mut [u8],
+    used: usize,
+) -> Outcome {
+    if LAST < v[2] {
+        return bad(used);
+    }
+    if LAST < v[3] {
+        return bad(used);
+    }
+    if LONGEST_WIRE < v[4] {
+        return done(text, used, b"latency", TOO_LONG);
+    }
+    if MOST_WORDS <= v[1] {
+        return done(text, used, b"latency", WORDS_SPENT);
+    }
+    let a = answers::say(text, used, b"latency");
+    let b = samples(v, script::key_of(key), setup, prices, text, a);
+    told(b, 0)
+}
+
+// Stops a block at that time, or a down till?
+fn is_stopped(setup: &[u64], net: &[u64], tills: &[u64], blocks: &[u64], v: [u64; 8]) -> bool {
+    let blocked = block_calls::is_blocked(setup, net, blocks, v[0], v[1], v[2]);
+    if blocked.value == 1 {
+        return true;
+    }
+    let from = till_calls::is_down(setup, tills, v[0]);
+    if from.value == 1 {
+        return true;
+    }
+    let to = till_calls::is_down(setup, tills, v[1]);
+    to.value == 1
+}
+
+// The questions of a message from till to till: 4, 6, 7 and 8.
+fn should_refusal(v: [u64; 8], tills: u64, count: u64) -> u64 {
+    if tills <= v[0] {
+        return NO_TILL;
+    }
+    if tills <= v[1] {
+        return NO_TILL;
+    }
+    if LONGEST_WIRE < v[3] {
+        return TOO_LONG;
+    }
+    if LATEST < v[2] {
+        return TOO_LATE;
+    }
+    if MOST_WORDS <= count {
+        return WORDS_SPENT;
+    }
+    0
+}
+
+// Whether a loss draw hits, and the count behind it.
+struct Loss {
+    hit: bool,
+    count: u64,
+}
+
+fn lost(setup: &[u64], key: [u32; 8], count: u64) -> Loss {
+    if LATEST <= count {
+        return Loss { hit: true, count };
+    }
+    let rate = float::of_any(held::cell(setup, held::LOSS));
+    let h = draw::hits(streams::at(key, count), rate);
+    let next = h.next;
+    Loss {
+        hit: h.hit,
+        count: next.count,
+    }
+}
+
+fn unsent(text: &mut [u8], used: usize, count: u64) -> Outcome {
+    let u = answers::ended(text, used, b"should - words=", count);
+    told(u, 0)
+}
+
+// The place of a link's word count.
+fn place(from: u64, to: u64) -> usize {
+    if held::MOST_TILLS <= from {
+        return held::LINKS;
+    }
+    if held::MOST_TILLS <= to {
+        return held::LINKS;
+    }
+    (from * held::MOST_TILLS + to) as usize
+}
+
+// The draws of a message that nothing stops: loss, then latency.
+fn drawn(
+    v: [u64; 8],
+    setup: &[u64],
+    prices: &[u64],
+    words: &mut [u64],
+    text: &mut [u8],
+    used: usize,
+) -> Outcome {
+    let at = place(v[0], v[1]);
+    let key = streams::link_key(held::cell(setup, held::SEED), low(v[0]), low(v[1]));
+    let l = lost(setup, key, held::cell(words, at));
+    if l.hit {
+        held::put(words, at, l.count);
+        return unsent(text, used, l.count);
+    }
+    let s = sampled(setup, key, l.count, cost(setup, prices, v[0], v[1], v[3]));
+    held::put(words, at, s.count);
+    let a = answers::labelled(text, used, b"should ", s.ns);
+    let b = answers::ended(text, a, b" words=", s.count);
+    told(b, 0)
+}
+
+// Would a message be delivered? Its draws move the link's own stream.
+pub fn should(
+    v: [u64; 8],
+    setup: &[u64],
+    net: &[u64],
+    tills: &[u64],
+    words: &mut [u64],
+    prices: &[u64],
+    blocks: &[u64],
+    text: &mut [u8],
+    used: usize,
+) -> Outcome {
+    let count = held::cell(words, place(v[0], v[1]));
+    let number = should_refusal(v, held::cell(setup, held::TILLS), count);
+    if number != 0 {
+        return done(text, used, b"should", number);
+    }
+    if is_stopped(setup, net, tills, blocks, v) {
+        return unsent(text, used, count);
+    }
+    drawn(v, setup, prices, words, text, used)
+}

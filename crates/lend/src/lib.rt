@@ -1,0 +1,25 @@
+// Front parts of tables, to lend.
+
+// The first n words, or all where there are fewer.
+pub fn front(s: &mut [u64], n: usize) -> &mut [u64] {
+    if n < s.len() {
+        return &mut s[0..n];
+    }
+    s
+}
+
+// The first n words of 32 bits, or all where there are fewer.
+pub fn front32(s: &mut [u32], n: usize) -> &mut [u32] {
+    if n < s.len() {
+        return &mut s[0..n];
+    }
+    s
+}
+
+// The first n words, to read.
+pub fn part(s: &[u64], n: usize) -> &[u64] {
+    if n < s.len() {
+        return &s[0..n];
+    }
+    s
+}

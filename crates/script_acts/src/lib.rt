@@ -1,0 +1,370 @@
+// A call of a script on the tables of the network that is open: front parts of its sizes are lent, and the call is made.
+use opening_tests::NetworkSizes;
+use opening_tests::RegionPlan;
+use opening_tests::TableSizes;
+use outcome::Outcome;
+use script::calls;
+
+// The sizes of the network that is open, as its opening wrote them.
+fn open_sizes(setup: &[u64]) -> TableSizes {
+    let sizes = NetworkSizes {
+        tills: held::cell(setup, held::TILLS),
+        types: held::cell(setup, held::TYPES),
+        classes: held::cell(setup, held::CLASSES),
+        shards: held::cell(setup, held::SHARDS),
+        seen: held::cell(setup, held::SEEN_SLOTS),
+        waiting: held::cell(setup, held::WAIT_SLOTS),
+        log: held::cell(setup, held::LOG_SLOTS),
+    };
+    let plan = RegionPlan {
+        planned: held::cell(setup, held::PLANNED),
+        regions: held::cell(setup, held::REGIONS),
+        seed: held::cell(setup, held::PLAN_SEED),
+    };
+    opening_tests::table_sizes(sizes, plan)
+}
+
+// The rows that a flush is lent.
+fn rows_of(which: u64, v: [u64; 8]) -> u64 {
+    if which == calls::FLUSH {
+        return held::MOST_SLOTS;
+    }
+    v[1]
+}
+
+// Accept, flush and drain.
+fn traffic(
+    which: u64,
+    v: [u64; 8],
+    wire: &[u8],
+    setup: &[u64],
+    net: &mut [u64],
+    names: &[u8],
+    tills: &[u64],
+    words: &mut [u64],
+    keys: &[u32],
+    prices: &[u64],
+    seen: &mut [u64],
+    waiting: &mut [u64],
+    rings: &mut [u64],
+    rules: &mut [u64],
+    blocks: &[u64],
+    log: &mut [u64],
+    out: &mut [u64],
+    due: &mut [u64],
+    text: &mut [u8],
+    used: usize,
+) -> Outcome {
+    match which {
+        calls::ACCEPT => script_calls::accept(
+            v,
+            wire,
+            setup,
+            net,
+            names,
+            tills,
+            words,
+            keys,
+            prices,
+            seen,
+            waiting,
+            rings,
+            rules,
+            blocks,
+            text,
+            used,
+        ),
+        calls::DRAIN => script_calls::drain(setup, log, out, text, used),
+        _ => script_calls::flush(
+            v[0],
+            rows_of(which, v),
+            setup,
+            net,
+            tills,
+            seen,
+            waiting,
+            blocks,
+            log,
+            out,
+            due,
+            text,
+            used,
+        ),
+    }
+}
+
+// The other calls that change a table: tills, blocks, rules, hooks, and a draw on a link's stream.
+fn changes(
+    which: u64,
+    v: [u64; 8],
+    card: &[u8],
+    setup: &[u64],
+    net: &mut [u64],
+    tills: &mut [u64],
+    words: &mut [u64],
+    prices: &[u64],
+    seen: &mut [u64],
+    rules: &mut [u64],
+    blocks: &mut [u64],
+    text: &mut [u8],
+    used: usize,
+) -> Outcome {
+    match which {
+        calls::SHOULD => leaf_calls::should(
+            v,
+            setup,
+            net,
+            tills,
+            words,
+            prices,
+            blocks,
+            text,
+            used,
+        ),
+        calls::SET_FIRED
+        | calls::SET_WORDS
+        | calls::SET_FAULT
+        | calls::SET_SEQUENCE
+        | calls::SET_RULES => { script_calls::hook(which, v, setup, net, words, rules, text, used) }
+        _ => script_calls::engine(
+            which,
+            v,
+            card,
+            setup,
+            net,
+            tills,
+            seen,
+            rules,
+            blocks,
+            text,
+            used,
+        ),
+    }
+}
+
+// The calls that change none.
+fn readings(
+    which: u64,
+    v: [u64; 8],
+    given: &[u8],
+    setup: &[u64],
+    net: &[u64],
+    tills: &[u64],
+    words: &[u64],
+    prices: &[u64],
+    seen: &[u64],
+    waiting: &[u64],
+    rings: &[u64],
+    rules: &[u64],
+    blocks: &[u64],
+    out: &mut [u64],
+    text: &mut [u8],
+    used: usize,
+) -> Outcome {
+    match which {
+        calls::STATE => script_calls::state(
+            setup,
+            net,
+            tills,
+            words,
+            seen,
+            waiting,
+            rings,
+            rules,
+            blocks,
+            out,
+            text,
+            used,
+        ),
+        calls::REGION | calls::LINK | calls::TRANSMISSION | calls::WIRE | calls::LINK_KEY => {
+            leaf_calls::geography_call(which, v, setup, prices, text, used)
+        }
+        calls::LATENCY => leaf_calls::latency(v, given, setup, prices, text, used),
+        calls::DIGEST
+        | calls::NANOS
+        | calls::SECS
+        | calls::TIMES
+        | calls::DRAW_WORD
+        | calls::DRAW_LONG
+        | calls::DRAW_FRACTION
+        | calls::DRAW_REAL
+        | calls::DRAW_WHOLE
+        | calls::DRAW_INDEX => leaf_calls::draws(which, v, given, text, used),
+        _ => script_calls::reading(
+            which,
+            v,
+            setup,
+            net,
+            tills,
+            words,
+            seen,
+            waiting,
+            rings,
+            rules,
+            blocks,
+            out,
+            text,
+            used,
+        ),
+    }
+}
+
+// A call on tables that have the network's sizes.
+fn act(
+    which: u64,
+    v: [u64; 8],
+    given: &[u8],
+    setup: &[u64],
+    net: &mut [u64],
+    names: &[u8],
+    tills: &mut [u64],
+    words: &mut [u64],
+    keys: &[u32],
+    prices: &[u64],
+    seen: &mut [u64],
+    waiting: &mut [u64],
+    rings: &mut [u64],
+    rules: &mut [u64],
+    blocks: &mut [u64],
+    log: &mut [u64],
+    out: &mut [u64],
+    due: &mut [u64],
+    text: &mut [u8],
+    used: usize,
+) -> Outcome {
+    match which {
+        calls::ACCEPT | calls::FLUSH | calls::FLUSH_ROWS | calls::DRAIN => traffic(
+            which,
+            v,
+            given,
+            setup,
+            net,
+            names,
+            tills,
+            words,
+            keys,
+            prices,
+            seen,
+            waiting,
+            rings,
+            rules,
+            blocks,
+            log,
+            out,
+            due,
+            text,
+            used,
+        ),
+        calls::DOWN
+        | calls::UP
+        | calls::HANDLERS
+        | calls::BLOCK
+        | calls::BLOCK_DURING
+        | calls::UNBLOCK
+        | calls::INSTALL
+        | calls::REMOVE
+        | calls::DECIDE
+        | calls::SHOULD
+        | calls::SET_FIRED
+        | calls::SET_WORDS
+        | calls::SET_FAULT
+        | calls::SET_SEQUENCE
+        | calls::SET_RULES => changes(
+            which,
+            v,
+            given,
+            setup,
+            net,
+            tills,
+            words,
+            prices,
+            seen,
+            rules,
+            blocks,
+            text,
+            used,
+        ),
+        _ => readings(
+            which,
+            v,
+            given,
+            setup,
+            net,
+            tills,
+            words,
+            prices,
+            seen,
+            waiting,
+            rings,
+            rules,
+            blocks,
+            out,
+            text,
+            used,
+        ),
+    }
+}
+
+// The first n words of 32 bits, or all where there are fewer.
+fn part32(s: &[u32], n: usize) -> &[u32] {
+    if n < s.len() {
+        return &s[0..n];
+    }
+    s
+}
+
+// How many bytes a call was given: a wire, a card, an input, or a key.
+fn size_of(which: u64, v: [u64; 8]) -> usize {
+    if which == calls::ACCEPT {
+        return v[5] as usize;
+    }
+    v[0] as usize
+}
+
+// A call on the tables of the largest sizes; `room` holds the bytes that it was given.
+pub fn call(
+    which: u64,
+    v: [u64; 8],
+    room: &[u8],
+    setup: &[u64],
+    net: &mut [u64],
+    names: &[u8],
+    tills: &mut [u64],
+    words: &mut [u64],
+    keys: &[u32],
+    prices: &[u64],
+    seen: &mut [u64],
+    waiting: &mut [u64],
+    rings: &mut [u64],
+    rules: &mut [u64],
+    blocks: &mut [u64],
+    log: &mut [u64],
+    out: &mut [u64],
+    due: &mut [u64],
+    text: &mut [u8],
+    used: usize,
+) -> Outcome {
+    let n = open_sizes(setup);
+    act(
+        which,
+        v,
+        script::part(room, 0, size_of(which, v)),
+        setup,
+        net,
+        names,
+        lend::front(tills, n.tills as usize),
+        words,
+        part32(keys, n.keys as usize),
+        lend::part(prices, n.prices as usize),
+        lend::front(seen, n.seen as usize),
+        lend::front(waiting, n.waiting as usize),
+        lend::front(rings, n.rings as usize),
+        rules,
+        blocks,
+        lend::front(log, n.log as usize),
+        out,
+        due,
+        text,
+        used,
+    )
+}

@@ -1,0 +1,404 @@
+// Runs a script of calls on a network: standard input is read line by line, and every answer goes to standard output. README.md says more.
+use script::Opening;
+use script::calls;
+use session::input;
+use session::lines;
+use session::lines::Parsed;
+use session::lines::Session;
+use session::opens;
+use session::progress;
+
+// An opening.
+fn open_line(
+    o: Opening,
+    r: Session,
+    room: &[u8],
+    setup: &mut [u64],
+    net: &mut [u64],
+    names: &mut [u8],
+    tills: &mut [u64],
+    words: &mut [u64],
+    keys: &mut [u32],
+    prices: &mut [u64],
+    seen: &mut [u64],
+    waiting: &[u64],
+    rings: &mut [u64],
+    rules: &[u64],
+    blocks: &[u64],
+    log: &mut [u64],
+    out: &[u64],
+    due: &mut [u64],
+    text: &mut [u8],
+) -> Session {
+    let number = opens::opened(
+        o,
+        room,
+        out,
+        setup,
+        net,
+        names,
+        tills,
+        words,
+        keys,
+        prices,
+        seen,
+        waiting,
+        rings,
+        rules,
+        blocks,
+        log,
+    );
+    notes::opened(due, number, o.tills, out, o.log, net);
+    lines::begun(text, r, number)
+}
+
+// A call on the network that is open.
+fn call_line(
+    which: u64,
+    v: [u64; 8],
+    r: Session,
+    room: &[u8],
+    setup: &[u64],
+    net: &mut [u64],
+    names: &[u8],
+    tills: &mut [u64],
+    words: &mut [u64],
+    keys: &[u32],
+    prices: &[u64],
+    seen: &mut [u64],
+    waiting: &mut [u64],
+    rings: &mut [u64],
+    rules: &mut [u64],
+    blocks: &mut [u64],
+    log: &mut [u64],
+    out: &mut [u64],
+    due: &mut [u64],
+    text: &mut [u8],
+) -> Session {
+    let told = noted_acts::call(
+        which,
+        v,
+        room,
+        setup,
+        net,
+        names,
+        tills,
+        words,
+        keys,
+        prices,
+        seen,
+        waiting,
+        rings,
+        rules,
+        blocks,
+        log,
+        out,
+        due,
+        text,
+        r.used,
+    );
+    lines::called(text, r, told)
+}
+
+// A line, acted on: an opening, a call on the network that is open, or neither.
+fn act(
+    p: Parsed,
+    o: Opening,
+    r: Session,
+    room: &[u8],
+    setup: &mut [u64],
+    net: &mut [u64],
+    names: &mut [u8],
+    tills: &mut [u64],
+    words: &mut [u64],
+    keys: &mut [u32],
+    prices: &mut [u64],
+    seen: &mut [u64],
+    waiting: &mut [u64],
+    rings: &mut [u64],
+    rules: &mut [u64],
+    blocks: &mut [u64],
+    log: &mut [u64],
+    out: &mut [u64],
+    due: &mut [u64],
+    text: &mut [u8],
+) -> Session {
+    let which = lines::verdict(p, o, r);
+    let v = p.v;
+    if which == calls::NONE {
+        return lines::passed(text, r, which);
+    }
+    if which == lines::SKIPPED {
+        return lines::passed(text, r, which);
+    }
+    if which == calls::OPEN {
+        return open_line(
+            o,
+            r,
+            room,
+            setup,
+            net,
+            names,
+            tills,
+            words,
+            keys,
+            prices,
+            seen,
+            waiting,
+            rings,
+            rules,
+            blocks,
+            log,
+            out,
+            due,
+            text,
+        );
+    }
+    call_line(
+        which,
+        v,
+        r,
+        room,
+        setup,
+        net,
+        names,
+        tills,
+        words,
+        keys,
+        prices,
+        seen,
+        waiting,
+        rings,
+        rules,
+        blocks,
+        log,
+        out,
+        due,
+        text,
+    )
+}
+
+// No run has more lines.
+const TURNS: u64 = 18446744073709551615;
+
+// Line after line, to the end of the input; answers how much of the text counts then.
+fn run(
+    begun: input::Input,
+    piece: &mut [u8],
+    line: &mut [u8],
+    room: &mut [u8],
+    setup: &mut [u64],
+    net: &mut [u64],
+    names: &mut [u8],
+    tills: &mut [u64],
+    words: &mut [u64],
+    keys: &mut [u32],
+    prices: &mut [u64],
+    seen: &mut [u64],
+    waiting: &mut [u64],
+    rings: &mut [u64],
+    rules: &mut [u64],
+    blocks: &mut [u64],
+    log: &mut [u64],
+    out: &mut [u64],
+    due: &mut [u64],
+    text: &mut [u8],
+) -> usize {
+    let mut r = lines::fresh();
+    let mut i = begun;
+    let mut clock = progress::start();
+    let mut left = TURNS;
+    while 0 < left {
+        let next = input::next_line(piece, line, i);
+        i = next;
+        let later = progress::told(r.lines, clock);
+        clock = later;
+        let p = lines::read_words(line, i.n, i.long, room);
+        let o = opens::read(line, i.n, p.which, room, out);
+        let after = act(
+            p,
+            o,
+            lines::counted(r),
+            room,
+            setup,
+            net,
+            names,
+            tills,
+            words,
+            keys,
+            prices,
+            seen,
+            waiting,
+            rings,
+            rules,
+            blocks,
+            log,
+            out,
+            due,
+            text,
+        );
+        r = after;
+        left = lines::remaining(left, i.ended);
+    }
+    r.used
+}
+
+// The word behind the program's name.
+const NOTHING: u64 = 0;
+
+const CHECKLIST: u64 = 1;
+
+const MORNING: u64 = 2;
+
+fn asked() -> u64 {
+    let mut word = [0u8; 16];
+    let n = os::arg(1, &mut word);
+    let said = script::part(&word, 0, n);
+    if script::same(said, b"checklist") {
+        return CHECKLIST;
+    }
+    if script::same(said, b"morning") {
+        return MORNING;
+    }
+    NOTHING
+}
+
+// Where the lines come from: standard input, or the morning that the program carries.
+fn source(asked: u64, piece: &mut [u8]) -> input::Input {
+    if asked == MORNING {
+        return input::start(true, morning::script(piece));
+    }
+    input::start(false, 0)
+}
+
+// The end of a run: the checklist and the slips, where they were asked for.
+fn finish(
+    asked: u64,
+    due: &mut [u64],
+    setup: &[u64],
+    net: &[u64],
+    seen: &[u64],
+    waiting: &[u64],
+    log: &[u64],
+    text: &mut [u8],
+    used: usize,
+) -> usize {
+    if asked == NOTHING {
+        return printer::finish(text, used);
+    }
+    let figures = notes::figures_in(due);
+    notes::ended(figures, setup, net, seen, waiting, log);
+    let a = printer::text(text, used, b"\n");
+    let b = checklist::print(figures, text, a);
+    printer::finish(text, b)
+}
+
+// A whole run, from its first line to its checklist.
+fn whole(
+    asked: u64,
+    piece: &mut [u8],
+    line: &mut [u8],
+    room: &mut [u8],
+    setup: &mut [u64],
+    net: &mut [u64],
+    names: &mut [u8],
+    tills: &mut [u64],
+    words: &mut [u64],
+    keys: &mut [u32],
+    prices: &mut [u64],
+    seen: &mut [u64],
+    waiting: &mut [u64],
+    rings: &mut [u64],
+    rules: &mut [u64],
+    blocks: &mut [u64],
+    log: &mut [u64],
+    out: &mut [u64],
+    due: &mut [u64],
+    text: &mut [u8],
+) {
+    let begun = source(asked, piece);
+    let used = run(
+        begun,
+        piece,
+        line,
+        room,
+        setup,
+        net,
+        names,
+        tills,
+        words,
+        keys,
+        prices,
+        seen,
+        waiting,
+        rings,
+        rules,
+        blocks,
+        log,
+        out,
+        due,
+        text,
+    );
+    finish(asked, due, setup, net, seen, waiting, log, text, used);
+}
+
+// Bytes of a line: the hexadecimal digits of 65,536 wire bytes, and 4,096 more.
+const LINE: usize = 2 * 65536 + 4096;
+
+// Bytes that a line can stand for.
+const ROOM: usize = LINE / 2;
+
+const PIECE: usize = 65536;
+
+// The largest sizes: tills, slots, types, regions.
+const TILLS: usize = held::MOST_TILLS as usize;
+
+const SLOTS: usize = held::MOST_SLOTS as usize;
+
+const TYPES: usize = held::MOST_TYPES as usize;
+
+const REGIONS: usize = held::MOST_REGIONS as usize;
+
+fn main() {
+    let mut piece = [0u8; PIECE];
+    let mut line = [0u8; LINE];
+    let mut room = [0u8; ROOM];
+    let mut text = [0u8; PIECE];
+    let mut setup = [0u64; held::SETUP_WIDTH];
+    let mut net = [0u64; held::NET_WIDTH];
+    let mut names = [0u8; held_rows::NAMES_WIDTH];
+    let mut tills = [0u64; TILLS * held::TILL_WIDTH];
+    let mut words = [0u64; held::LINKS];
+    let mut keys = [0u32; held::LINKS * held::KEY_WIDTH as usize];
+    let mut prices = [0u64; REGIONS * REGIONS * held_rows::LINK_WIDTH + TILLS];
+    let mut seen = [0u64; TILLS + TILLS * SLOTS];
+    let mut waiting = [0u64; SLOTS * waiting::WIDTH];
+    let mut rings = [0u64; TYPES * rings::SCOPES * rings::SIZE];
+    let mut rules = [0u64; rules::SLOTS * rules::WIDTH];
+    let mut blocks = [0u64; blocks::SLOTS * blocks::WIDTH];
+    let mut log = [0u64; log::RECORDS + SLOTS * delivery::WIDTH];
+    let mut out = [0u64; SLOTS * flush::ROW];
+    let mut due = [0u64; notes::FIGURES + figures::SIZE];
+    whole(
+        asked(),
+        &mut piece,
+        &mut line,
+        &mut room,
+        &mut setup,
+        &mut net,
+        &mut names,
+        &mut tills,
+        &mut words,
+        &mut keys,
+        &mut prices,
+        &mut seen,
+        &mut waiting,
+        &mut rings,
+        &mut rules,
+        &mut blocks,
+        &mut log,
+        &mut out,
+        &mut due,
+        &mut text,
+    );
+}
