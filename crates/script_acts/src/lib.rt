@@ -56,7 +56,7 @@ fn traffic(
     used: usize,
 ) -> Outcome {
     match which {
-        calls::ACCEPT => script_calls::accept(
+        calls::ACCEPT => script_accept::accept(
             v,
             wire,
             setup,
@@ -74,8 +74,8 @@ fn traffic(
             text,
             used,
         ),
-        calls::DRAIN => script_calls::drain(setup, log, out, text, used),
-        _ => script_calls::flush(
+        calls::DRAIN => script_flush::drain(setup, log, out, text, used),
+        _ => script_flush::flush(
             v[0],
             rows_of(which, v),
             setup,

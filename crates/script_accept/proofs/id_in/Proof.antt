@@ -2,8 +2,8 @@ use borrow.Author.Needs.{needs}
 use native.Mathlib.Omega.{arith}
 use mathlib.Core.Path.{_≡_, subst}
 use Prim.Native.Nat.{ℕ, _≤_}
-use Rattle.script_calls.proofs.traffic.id_in.Statement.{statement}
-use Rattle.script_calls.proofs.traffic.id_in.Tie as tie
+use Rattle.script_accept.proofs.id_in.Statement.{statement}
+use Rattle.script_accept.proofs.id_in.Tie as tie
 
 returns : tie.Need-returns
 returns c = search needs

@@ -3,8 +3,8 @@ use native.Mathlib.Omega.{arith}
 use Prim.Native.Nat.{_≤_}
 use mathlib.Core.Path.{_≡_, sym}
 use lib.ListN.{List·getD-eq-default}
-use Rattle.script_calls.proofs.traffic.length_at.Statement.{statement}
-use Rattle.script_calls.proofs.traffic.length_at.Tie as tie
+use Rattle.script_accept.proofs.length_at.Statement.{statement}
+use Rattle.script_accept.proofs.length_at.Tie as tie
 
 shared-slice-read-result : tie.Need-shared-slice-read-result
 shared-slice-read-result c = search needs

@@ -3,11 +3,11 @@ use mathlib.Core.Path.{_≡_, refl}
 use lib.ListN.{length}
 use borrow.Author.Needs.{needs}
 use Prim.Native.Nat.{_-_}
-use Rattle.script_calls.proofs.traffic.tally_list.Statement.{statement}
-use Rattle.script_calls.proofs.traffic.tally_list.Tie as tie
-use Rattle.script_calls.proofs.traffic.tally_list.Reads as reads
-use Rattle.script_calls.proofs.traffic.tally_list.Lts as lts
-use Rattle.script_calls.proofs.traffic.tally.Reads as tally-reads
+use Rattle.script_flush.proofs.tally_list.Statement.{statement}
+use Rattle.script_flush.proofs.tally_list.Tie as tie
+use Rattle.script_flush.proofs.tally_list.Reads as reads
+use Rattle.script_flush.proofs.tally_list.Lts as lts
+use Rattle.script_flush.proofs.tally.Reads as tally-reads
 
 abbrev Inv-loop : tie.InvT-loop
 Inv-loop text₀ used v u₀ i₀ text u i = (length text ≡ length text₀)
@@ -15,31 +15,24 @@ Inv-loop text₀ used v u₀ i₀ text u i = (length text ≡ length text₀)
 abbrev μ-loop : tie.MeasureT-loop
 μ-loop text₀ used v u₀ i₀ text u i = 8 - i
 
--- src/traffic.rt:253:5
 loop-holds : tie.Need-loop-holds Inv-loop μ-loop
 loop-holds c = search needs
 
--- src/traffic.rt:254:9
 tally-requires : tie.Need-tally-requires Inv-loop μ-loop
 tally-requires c κs = search needs
 
--- src/traffic.rt:255:9
 add-i : tie.Need-add-i Inv-loop μ-loop
 add-i c = search needs
 
--- src/traffic.rt:253:5
 loop-less : tie.Need-loop-less Inv-loop μ-loop
 loop-less c = search needs
 
--- src/traffic.rt:253:5
 loop-again : tie.Need-loop-again Inv-loop μ-loop
 loop-again c = search needs
 
--- src/traffic.rt:250:1
 same-length : tie.Need-same-length Inv-loop μ-loop
 same-length c = search needs
 
--- src/traffic.rt:250:1
 returns : tie.Need-returns Inv-loop μ-loop
 returns c = search needs
 

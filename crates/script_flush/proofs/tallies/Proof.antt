@@ -3,10 +3,10 @@ use mathlib.Core.Path.{_≡_, refl}
 use lib.ListN.{length}
 use borrow.Author.Needs.{needs}
 use Prim.Native.Nat.{_-_}
-use Rattle.script_calls.proofs.traffic.tallies.Statement.{statement}
-use Rattle.script_calls.proofs.traffic.tallies.Tie as tie
-use Rattle.script_calls.proofs.traffic.tallies.Reads as reads
-use Rattle.script_calls.proofs.traffic.tallies.Lts as lts
+use Rattle.script_flush.proofs.tallies.Statement.{statement}
+use Rattle.script_flush.proofs.tallies.Tie as tie
+use Rattle.script_flush.proofs.tallies.Reads as reads
+use Rattle.script_flush.proofs.tallies.Lts as lts
 use Rattle.log_calls.proofs.tally_of.Reads as tally-of-reads
 
 abbrev Inv-loop : tie.InvT-loop
@@ -15,55 +15,42 @@ Inv-loop setup log v₀ i₀ v i = (length v ≡ 16)
 abbrev μ-loop : tie.MeasureT-loop
 μ-loop setup log v₀ i₀ v i = 8 - i
 
--- src/traffic.rt:227:5
 loop-holds : tie.Need-loop-holds Inv-loop μ-loop
 loop-holds c = search needs
 
--- src/traffic.rt:228:13
 tally-of-requires : tie.Need-tally-of-requires Inv-loop μ-loop
 tally-of-requires c κs = search needs
 
--- src/traffic.rt:229:11
 mul-v : tie.Need-mul-v Inv-loop μ-loop
 mul-v c = search needs
 
--- src/traffic.rt:229:9
 mul-v-2 : tie.Need-mul-v-2 Inv-loop μ-loop
 mul-v-2 c = search needs
 
--- src/traffic.rt:229:9
 array-write-v : tie.Need-array-write-v Inv-loop μ-loop
 array-write-v c = search needs
 
--- src/traffic.rt:230:11
 mul-v-3 : tie.Need-mul-v-3 Inv-loop μ-loop
 mul-v-3 c = search needs
 
--- src/traffic.rt:230:11
 add-v : tie.Need-add-v Inv-loop μ-loop
 add-v c = search needs
 
--- src/traffic.rt:230:9
 mul-v-4 : tie.Need-mul-v-4 Inv-loop μ-loop
 mul-v-4 c = search needs
 
--- src/traffic.rt:230:9
 array-write-v-2 : tie.Need-array-write-v-2 Inv-loop μ-loop
 array-write-v-2 c = search needs
 
--- src/traffic.rt:231:9
 add-i : tie.Need-add-i Inv-loop μ-loop
 add-i c = search needs
 
--- src/traffic.rt:227:5
 loop-less : tie.Need-loop-less Inv-loop μ-loop
 loop-less c = search needs
 
--- src/traffic.rt:227:5
 loop-again : tie.Need-loop-again Inv-loop μ-loop
 loop-again c = search needs
 
--- src/traffic.rt:224:1
 returns : tie.Need-returns Inv-loop μ-loop
 returns c = search needs
 
