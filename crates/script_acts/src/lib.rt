@@ -24,14 +24,6 @@ fn open_sizes(setup: &[u64]) -> TableSizes {
     opening_tests::table_sizes(sizes, plan)
 }
 
-// The rows that a flush is lent.
-fn rows_of(which: u64, v: [u64; 8]) -> u64 {
-    if which == calls::FLUSH {
-        return held::MOST_SLOTS;
-    }
-    v[1]
-}
-
 // Accept, flush and drain.
 fn traffic(
     which: u64,
@@ -77,7 +69,7 @@ fn traffic(
         calls::DRAIN => script_flush::drain(setup, log, out, text, used),
         _ => script_flush::flush(
             v[0],
-            rows_of(which, v),
+            script_flush::rows_of(which, v),
             setup,
             net,
             tills,
@@ -87,122 +79,6 @@ fn traffic(
             log,
             out,
             due,
-            text,
-            used,
-        ),
-    }
-}
-
-// The other calls that change a table: tills, blocks, rules, hooks, and a draw on a link's stream.
-fn changes(
-    which: u64,
-    v: [u64; 8],
-    card: &[u8],
-    setup: &[u64],
-    net: &mut [u64],
-    tills: &mut [u64],
-    words: &mut [u64],
-    prices: &[u64],
-    seen: &mut [u64],
-    rules: &mut [u64],
-    blocks: &mut [u64],
-    text: &mut [u8],
-    used: usize,
-) -> Outcome {
-    match which {
-        calls::SHOULD => leaf_calls::should(
-            v,
-            setup,
-            net,
-            tills,
-            words,
-            prices,
-            blocks,
-            text,
-            used,
-        ),
-        calls::SET_FIRED
-        | calls::SET_WORDS
-        | calls::SET_FAULT
-        | calls::SET_SEQUENCE
-        | calls::SET_RULES => { script_calls::hook(which, v, setup, net, words, rules, text, used) }
-        _ => script_calls::engine(
-            which,
-            v,
-            card,
-            setup,
-            net,
-            tills,
-            seen,
-            rules,
-            blocks,
-            text,
-            used,
-        ),
-    }
-}
-
-// The calls that change none.
-fn readings(
-    which: u64,
-    v: [u64; 8],
-    given: &[u8],
-    setup: &[u64],
-    net: &[u64],
-    tills: &[u64],
-    words: &[u64],
-    prices: &[u64],
-    seen: &[u64],
-    waiting: &[u64],
-    rings: &[u64],
-    rules: &[u64],
-    blocks: &[u64],
-    out: &mut [u64],
-    text: &mut [u8],
-    used: usize,
-) -> Outcome {
-    match which {
-        calls::STATE => script_calls::state(
-            setup,
-            net,
-            tills,
-            words,
-            seen,
-            waiting,
-            rings,
-            rules,
-            blocks,
-            out,
-            text,
-            used,
-        ),
-        calls::REGION | calls::LINK | calls::TRANSMISSION | calls::WIRE | calls::LINK_KEY => {
-            leaf_calls::geography_call(which, v, setup, prices, text, used)
-        }
-        calls::LATENCY => leaf_calls::latency(v, given, setup, prices, text, used),
-        calls::DIGEST
-        | calls::NANOS
-        | calls::SECS
-        | calls::TIMES
-        | calls::DRAW_WORD
-        | calls::DRAW_LONG
-        | calls::DRAW_FRACTION
-        | calls::DRAW_REAL
-        | calls::DRAW_WHOLE
-        | calls::DRAW_INDEX => leaf_calls::draws(which, v, given, text, used),
-        _ => script_calls::reading(
-            which,
-            v,
-            setup,
-            net,
-            tills,
-            words,
-            seen,
-            waiting,
-            rings,
-            rules,
-            blocks,
-            out,
             text,
             used,
         ),
@@ -269,7 +145,7 @@ fn act(
         | calls::SET_WORDS
         | calls::SET_FAULT
         | calls::SET_SEQUENCE
-        | calls::SET_RULES => changes(
+        | calls::SET_RULES => other_acts::changes(
             which,
             v,
             given,
@@ -284,7 +160,7 @@ fn act(
             text,
             used,
         ),
-        _ => readings(
+        _ => other_acts::readings(
             which,
             v,
             given,

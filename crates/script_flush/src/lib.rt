@@ -3,6 +3,7 @@ use flush_calls::Flushed;
 use log_calls::Drained;
 use outcome::Outcome;
 use outcome::done;
+use script::calls;
 
 // How many of the waiting copies are due.
 fn due_in(waiting: &[u64], n: u64, at: u64) -> usize {
@@ -99,6 +100,14 @@ fn flush_due(
         return done(text, used, b"flush", f.number);
     }
     flushed(text, used, f, due, n, out)
+}
+
+// The rows that a flush is lent.
+pub fn rows_of(which: u64, v: [u64; 8]) -> u64 {
+    if which == calls::FLUSH {
+        return held::MOST_SLOTS;
+    }
+    v[1]
 }
 
 // A flush, with room for so many rows.

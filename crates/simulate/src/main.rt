@@ -52,7 +52,7 @@ fn open_line(
     lines::begun(text, r, number)
 }
 
-// A call on the network that is open.
+// A call on the network that is open, with the notes for the figures of the run, which stand behind the due copies.
 fn call_line(
     which: u64,
     v: [u64; 8],
@@ -75,7 +75,9 @@ fn call_line(
     due: &mut [u64],
     text: &mut [u8],
 ) -> Session {
-    let told = noted_acts::call(
+    notes::before(due, which, setup, log);
+    let stood = notes::marks(setup, seen);
+    let told = script_acts::call(
         which,
         v,
         room,
@@ -96,6 +98,19 @@ fn call_line(
         due,
         text,
         r.used,
+    );
+    let counts = told.counts;
+    notes::after(
+        due,
+        which,
+        v,
+        told.number,
+        counts,
+        stood,
+        setup,
+        net,
+        seen,
+        out,
     );
     lines::called(text, r, told)
 }
@@ -178,71 +193,6 @@ fn act(
     )
 }
 
-// No run has more lines.
-const TURNS: u64 = 18446744073709551615;
-
-// Line after line, to the end of the input; answers how much of the text counts then.
-fn run(
-    begun: input::Input,
-    piece: &mut [u8],
-    line: &mut [u8],
-    room: &mut [u8],
-    setup: &mut [u64],
-    net: &mut [u64],
-    names: &mut [u8],
-    tills: &mut [u64],
-    words: &mut [u64],
-    keys: &mut [u32],
-    prices: &mut [u64],
-    seen: &mut [u64],
-    waiting: &mut [u64],
-    rings: &mut [u64],
-    rules: &mut [u64],
-    blocks: &mut [u64],
-    log: &mut [u64],
-    out: &mut [u64],
-    due: &mut [u64],
-    text: &mut [u8],
-) -> usize {
-    let mut r = lines::fresh();
-    let mut i = begun;
-    let mut clock = progress::start();
-    let mut left = TURNS;
-    while 0 < left {
-        let next = input::next_line(piece, line, i);
-        i = next;
-        let later = progress::told(r.lines, clock);
-        clock = later;
-        let p = lines::read_words(line, i.n, i.long, room);
-        let o = opens::read(line, i.n, p.which, room, out);
-        let after = act(
-            p,
-            o,
-            lines::counted(r),
-            room,
-            setup,
-            net,
-            names,
-            tills,
-            words,
-            keys,
-            prices,
-            seen,
-            waiting,
-            rings,
-            rules,
-            blocks,
-            log,
-            out,
-            due,
-            text,
-        );
-        r = after;
-        left = lines::remaining(left, i.ended);
-    }
-    r.used
-}
-
 // The word behind the program's name.
 const NOTHING: u64 = 0;
 
@@ -293,8 +243,11 @@ fn finish(
     printer::finish(text, b)
 }
 
-// A whole run, from its first line to its checklist.
-fn whole(
+// No run has more lines.
+const TURNS: u64 = 18446744073709551615;
+
+// A whole run: line after line, to the end of the input, and the checklist where it was asked for.
+fn run(
     asked: u64,
     piece: &mut [u8],
     line: &mut [u8],
@@ -317,29 +270,43 @@ fn whole(
     text: &mut [u8],
 ) {
     let begun = source(asked, piece);
-    let used = run(
-        begun,
-        piece,
-        line,
-        room,
-        setup,
-        net,
-        names,
-        tills,
-        words,
-        keys,
-        prices,
-        seen,
-        waiting,
-        rings,
-        rules,
-        blocks,
-        log,
-        out,
-        due,
-        text,
-    );
-    finish(asked, due, setup, net, seen, waiting, log, text, used);
+    let mut i = begun;
+    let mut r = lines::fresh();
+    let mut clock = progress::start();
+    let mut left = TURNS;
+    while 0 < left {
+        let next = input::next_line(piece, line, i);
+        i = next;
+        let later = progress::told(r.lines, clock);
+        clock = later;
+        let p = lines::read_words(line, i.n, i.long, room);
+        let o = opens::read(line, i.n, p.which, room, out);
+        let after = act(
+            p,
+            o,
+            lines::counted(r),
+            room,
+            setup,
+            net,
+            names,
+            tills,
+            words,
+            keys,
+            prices,
+            seen,
+            waiting,
+            rings,
+            rules,
+            blocks,
+            log,
+            out,
+            due,
+            text,
+        );
+        r = after;
+        left = lines::remaining(left, i.ended);
+    }
+    finish(asked, due, setup, net, seen, waiting, log, text, r.used);
 }
 
 // Bytes of a line: the hexadecimal digits of 65,536 wire bytes, and 4,096 more.
@@ -379,7 +346,7 @@ fn main() {
     let mut log = [0u64; log::RECORDS + SLOTS * delivery::WIDTH];
     let mut out = [0u64; SLOTS * flush::ROW];
     let mut due = [0u64; notes::FIGURES + figures::SIZE];
-    whole(
+    run(
         asked(),
         &mut piece,
         &mut line,

@@ -1,182 +1,134 @@
+use mathlib.Core.Path.{refl}
 use borrow.Author.Needs.{needs}
 use Rattle.simulate.proofs.act.Statement.{statement}
 use Rattle.simulate.proofs.act.Tie as tie
-use Rattle.simulate.proofs.act.Reads as reads
-use Rattle.simulate.proofs.act.Lts as lts
-use Rattle.session.proofs.lines.passed.Reads as passed-reads
-use Rattle.session.proofs.lines.verdict.Reads as verdict-reads
-use Rattle.simulate.proofs.call_line.Reads as call-line-reads
-use Rattle.simulate.proofs.open_line.Reads as open-line-reads
 
--- src/main.rt:126:9
 verdict-requires : tie.Need-verdict-requires
 verdict-requires c κs = search needs
 
--- src/main.rt:129:9
 passed-requires : tie.Need-passed-requires
 passed-requires c κs = search needs
 
--- src/main.rt:129:9
 same-length : tie.Need-same-length
-same-length c = search needs
+same-length c = c .before .before .passed .kept .0
 
--- src/main.rt:129:9
 returns : tie.Need-returns
 returns c = search needs
 
--- src/main.rt:132:9
 passed-requires-2 : tie.Need-passed-requires-2
 passed-requires-2 c κs = search needs
 
--- src/main.rt:132:9
 same-length-2 : tie.Need-same-length-2
-same-length-2 c = search needs
+same-length-2 c = c .before .before .passed2 .kept .0
 
--- src/main.rt:132:9
 returns-2 : tie.Need-returns-2
 returns-2 c = search needs
 
--- src/main.rt:135:9
 open-line-requires : tie.Need-open-line-requires
 open-line-requires c κs = search needs
 
--- src/main.rt:135:9
 same-length-3 : tie.Need-same-length-3
 same-length-3 c = c .before .before .before .before .before .before .before .before .before .before .before .before .before .before .before .before .before .before .before .before .before .before .before .before .open-line .kept .1 .1 .1 .0
 
--- src/main.rt:135:9
 same-length-4 : tie.Need-same-length-4
-same-length-4 c = search needs
+same-length-4 c = c .before .before .before .before .before .before .before .before .before .before .before .before .before .before .before .before .before .before .before .before .before .before .before .before .open-line .kept .1 .1 .1 .1 .0
 
--- src/main.rt:135:9
 same-length-5 : tie.Need-same-length-5
-same-length-5 c = search needs
+same-length-5 c = c .before .before .before .before .before .before .before .before .before .before .before .before .before .before .before .before .before .before .before .before .before .before .before .before .open-line .kept .1 .1 .1 .1 .1 .0
 
--- src/main.rt:135:9
 same-length-6 : tie.Need-same-length-6
-same-length-6 c = search needs
+same-length-6 c = c .before .before .before .before .before .before .before .before .before .before .before .before .before .before .before .before .before .before .before .before .before .before .before .before .open-line .kept .1 .1 .1 .1 .1 .1 .0
 
--- src/main.rt:135:9
 same-length-7 : tie.Need-same-length-7
-same-length-7 c = search needs
+same-length-7 c = c .before .before .before .before .before .before .before .before .before .before .before .before .before .before .before .before .before .before .before .before .before .before .before .before .open-line .kept .1 .1 .1 .1 .1 .1 .1 .0
 
--- src/main.rt:135:9
 same-length-8 : tie.Need-same-length-8
-same-length-8 c = search needs
+same-length-8 c = c .before .before .before .before .before .before .before .before .before .before .before .before .before .before .before .before .before .before .before .before .before .before .before .before .open-line .kept .1 .1 .1 .1 .1 .1 .1 .1 .0
 
--- src/main.rt:135:9
 same-length-9 : tie.Need-same-length-9
-same-length-9 c = search needs
+same-length-9 c = c .before .before .before .before .before .before .before .before .before .before .before .before .before .before .before .before .before .before .before .before .before .before .before .before .open-line .kept .1 .1 .1 .1 .1 .1 .1 .1 .1 .0
 
--- src/main.rt:135:9
 same-length-10 : tie.Need-same-length-10
-same-length-10 c = search needs
+same-length-10 c = c .before .before .before .before .before .before .before .before .before .before .before .before .before .before .before .before .before .before .before .before .before .before .before .before .open-line .kept .1 .1 .1 .1 .1 .1 .1 .1 .1 .1 .0
 
--- src/main.rt:135:9
 same-length-11 : tie.Need-same-length-11
-same-length-11 c = search needs
+same-length-11 c = refl
 
--- src/main.rt:135:9
 same-length-12 : tie.Need-same-length-12
-same-length-12 c = search needs
+same-length-12 c = c .before .before .before .before .before .before .before .before .before .before .before .before .before .before .before .before .before .before .before .before .before .before .before .before .open-line .kept .1 .1 .1 .1 .1 .1 .1 .1 .1 .1 .1 .1 .0
 
--- src/main.rt:135:9
 same-length-13 : tie.Need-same-length-13
-same-length-13 c = search needs
+same-length-13 c = refl
 
--- src/main.rt:135:9
 same-length-14 : tie.Need-same-length-14
-same-length-14 c = search needs
+same-length-14 c = refl
 
--- src/main.rt:135:9
 same-length-15 : tie.Need-same-length-15
-same-length-15 c = search needs
+same-length-15 c = c .before .before .before .before .before .before .before .before .before .before .before .before .before .before .before .before .before .before .before .before .before .before .before .before .open-line .kept .1 .1 .1 .1 .1 .1 .1 .1 .1 .1 .1 .1 .1 .1 .1 .0
 
--- src/main.rt:135:9
 same-length-16 : tie.Need-same-length-16
-same-length-16 c = search needs
+same-length-16 c = refl
 
--- src/main.rt:135:9
 same-length-17 : tie.Need-same-length-17
-same-length-17 c = search needs
+same-length-17 c = c .before .before .before .before .before .before .before .before .before .before .before .before .before .before .before .before .before .before .before .before .before .before .before .before .open-line .kept .1 .1 .1 .1 .1 .1 .1 .1 .1 .1 .1 .1 .1 .1 .1 .1 .1 .0
 
--- src/main.rt:135:9
 same-length-18 : tie.Need-same-length-18
-same-length-18 c = search needs
+same-length-18 c = c .before .before .before .before .before .before .before .before .before .before .before .before .before .before .before .before .before .before .before .before .before .before .before .before .open-line .kept .1 .1 .1 .1 .1 .1 .1 .1 .1 .1 .1 .1 .1 .1 .1 .1 .1 .1 .0
 
--- src/main.rt:135:9
 returns-3 : tie.Need-returns-3
 returns-3 c = search needs
 
--- src/main.rt:157:5
 call-line-requires : tie.Need-call-line-requires
 call-line-requires c κs = search needs
 
--- src/main.rt:104:1
 same-length-19 : tie.Need-same-length-19
-same-length-19 c = search needs
+same-length-19 c = refl
 
--- src/main.rt:104:1
 same-length-20 : tie.Need-same-length-20
 same-length-20 c = c .before .before .before .before .before .before .before .before .before .before .before .before .before .before .before .before .before .before .before .before .before .before .before .before .call-line .kept .1 .1 .1 .1 .1 .0
 
--- src/main.rt:104:1
 same-length-21 : tie.Need-same-length-21
-same-length-21 c = search needs
+same-length-21 c = refl
 
--- src/main.rt:104:1
 same-length-22 : tie.Need-same-length-22
 same-length-22 c = c .before .before .before .before .before .before .before .before .before .before .before .before .before .before .before .before .before .before .before .before .before .before .before .before .call-line .kept .1 .1 .1 .1 .1 .1 .1 .0
 
--- src/main.rt:104:1
 same-length-23 : tie.Need-same-length-23
 same-length-23 c = c .before .before .before .before .before .before .before .before .before .before .before .before .before .before .before .before .before .before .before .before .before .before .before .before .call-line .kept .1 .1 .1 .1 .1 .1 .1 .1 .0
 
--- src/main.rt:104:1
 same-length-24 : tie.Need-same-length-24
-same-length-24 c = search needs
+same-length-24 c = refl
 
--- src/main.rt:104:1
 same-length-25 : tie.Need-same-length-25
-same-length-25 c = search needs
+same-length-25 c = refl
 
--- src/main.rt:104:1
 same-length-26 : tie.Need-same-length-26
 same-length-26 c = c .before .before .before .before .before .before .before .before .before .before .before .before .before .before .before .before .before .before .before .before .before .before .before .before .call-line .kept .1 .1 .1 .1 .1 .1 .1 .1 .1 .1 .1 .0
 
--- src/main.rt:104:1
 same-length-27 : tie.Need-same-length-27
 same-length-27 c = c .before .before .before .before .before .before .before .before .before .before .before .before .before .before .before .before .before .before .before .before .before .before .before .before .call-line .kept .1 .1 .1 .1 .1 .1 .1 .1 .1 .1 .1 .1 .0
 
--- src/main.rt:104:1
 same-length-28 : tie.Need-same-length-28
 same-length-28 c = c .before .before .before .before .before .before .before .before .before .before .before .before .before .before .before .before .before .before .before .before .before .before .before .before .call-line .kept .1 .1 .1 .1 .1 .1 .1 .1 .1 .1 .1 .1 .1 .0
 
--- src/main.rt:104:1
 same-length-29 : tie.Need-same-length-29
 same-length-29 c = c .before .before .before .before .before .before .before .before .before .before .before .before .before .before .before .before .before .before .before .before .before .before .before .before .call-line .kept .1 .1 .1 .1 .1 .1 .1 .1 .1 .1 .1 .1 .1 .1 .0
 
--- src/main.rt:104:1
 same-length-30 : tie.Need-same-length-30
 same-length-30 c = c .before .before .before .before .before .before .before .before .before .before .before .before .before .before .before .before .before .before .before .before .before .before .before .before .call-line .kept .1 .1 .1 .1 .1 .1 .1 .1 .1 .1 .1 .1 .1 .1 .1 .0
 
--- src/main.rt:104:1
 same-length-31 : tie.Need-same-length-31
-same-length-31 c = search needs
+same-length-31 c = c .before .before .before .before .before .before .before .before .before .before .before .before .before .before .before .before .before .before .before .before .before .before .before .before .call-line .kept .1 .1 .1 .1 .1 .1 .1 .1 .1 .1 .1 .1 .1 .1 .1 .1 .0
 
--- src/main.rt:104:1
 same-length-32 : tie.Need-same-length-32
-same-length-32 c = search needs
+same-length-32 c = c .before .before .before .before .before .before .before .before .before .before .before .before .before .before .before .before .before .before .before .before .before .before .before .before .call-line .kept .1 .1 .1 .1 .1 .1 .1 .1 .1 .1 .1 .1 .1 .1 .1 .1 .1 .0
 
--- src/main.rt:104:1
 same-length-33 : tie.Need-same-length-33
-same-length-33 c = search needs
+same-length-33 c = c .before .before .before .before .before .before .before .before .before .before .before .before .before .before .before .before .before .before .before .before .before .before .before .before .call-line .kept .1 .1 .1 .1 .1 .1 .1 .1 .1 .1 .1 .1 .1 .1 .1 .1 .1 .1 .0
 
--- src/main.rt:104:1
 same-length-34 : tie.Need-same-length-34
-same-length-34 c = search needs
+same-length-34 c = c .before .before .before .before .before .before .before .before .before .before .before .before .before .before .before .before .before .before .before .before .before .before .before .before .call-line .kept .1 .1 .1 .1 .1 .1 .1 .1 .1 .1 .1 .1 .1 .1 .1 .1 .1 .1 .1 .0
 
--- src/main.rt:104:1
 returns-4 : tie.Need-returns-4
 returns-4 c = search needs
 

@@ -5,12 +5,15 @@ use Rattle.simulate.proofs.run.Statement.{statement}
 use Rattle.simulate.proofs.run.Tie as tie
 
 abbrev Inv-loop : tie.InvT-loop
-Inv-loop piece₀ line₀ room₀ setup₀ net₀ names₀ tills₀ words₀ keys₀ prices₀ seen₀ waiting₀ rings₀ rules₀ blocks₀ log₀ out₀ due₀ text₀ r₀ i₀ clock₀ left₀ piece line room setup net names tills words keys prices seen waiting rings rules blocks log out due text r i clock left =
+Inv-loop asked piece₀ line₀ room₀ setup₀ net₀ names₀ tills₀ words₀ keys₀ prices₀ seen₀ waiting₀ rings₀ rules₀ blocks₀ log₀ out₀ due₀ text₀ i₀ r₀ clock₀ left₀ piece line room setup net names tills words keys prices seen waiting rings rules blocks log out due text i r clock left =
     (length piece ≡ length piece₀) × (length line ≡ length line₀) × (length room ≡ length room₀) × (length setup ≡ length setup₀) × (length net ≡ length net₀) × (length names ≡ length names₀) × (length tills ≡ length tills₀) × (length words ≡ length words₀) × (length keys ≡ length keys₀) × (length prices ≡ length prices₀) × (length seen ≡ length seen₀) × (length waiting ≡ length waiting₀) × (length rings ≡ length rings₀) × (length rules ≡ length rules₀) × (length blocks ≡ length blocks₀) × (length log ≡ length log₀) × (length out ≡ length out₀) × (length due ≡ length due₀) × (length text ≡ length text₀)
 
 abbrev μ-loop : tie.MeasureT-loop
-μ-loop piece₀ line₀ room₀ setup₀ net₀ names₀ tills₀ words₀ keys₀ prices₀ seen₀ waiting₀ rings₀ rules₀ blocks₀ log₀ out₀ due₀ text₀ r₀ i₀ clock₀ left₀ piece line room setup net names tills words keys prices seen waiting rings rules blocks log out due text r i clock left =
+μ-loop asked piece₀ line₀ room₀ setup₀ net₀ names₀ tills₀ words₀ keys₀ prices₀ seen₀ waiting₀ rings₀ rules₀ blocks₀ log₀ out₀ due₀ text₀ i₀ r₀ clock₀ left₀ piece line room setup net names tills words keys prices seen waiting rings rules blocks log out due text i r clock left =
     left
+
+source-requires : tie.Need-source-requires Inv-loop μ-loop
+source-requires c κs = search needs
 
 fresh-requires : tie.Need-fresh-requires Inv-loop μ-loop
 fresh-requires c κs = search needs
@@ -68,62 +71,65 @@ loop-again c = (
   c .before .before .before .before .before .before .before .before .before .before .before .before .before .before .before .before .before .before .before .before .before .before .before .before .before .before .before .before .before .before .before .before .before .act .kept .1 .1 .1 .1 .1 .1 .1 .1 .1 .1 .1 .1 .1 .1 .1 .1 .1 .1 .1 .0 ∙ c .before .before .before .before .before .before .before .before .before .before .before .before .before .before .before .before .before .before .before .before .before .before .before .before .before .before .before .before .before .before .before .before .before .before .before .before .before .before .before .before .before .before .before .before .before .before .before .before .before .before .before .before .before .before .before .before .before .before .before .before .before .before .before .before .before .before .before .before .before .before .before .before .before .before .loop .inv .18,
 )
 
+finish-requires : tie.Need-finish-requires Inv-loop μ-loop
+finish-requires c κs = search needs
+
 same-length : tie.Need-same-length Inv-loop μ-loop
-same-length c = c .before .loop .inv .0
+same-length c = c .before .before .before .before .before .before .before .before .before .before .before .before .before .loop .inv .0 ∙ c .before .before .before .before .before .before .before .before .before .before .before .before .before .before .before .before .before .before .source .kept .1 .0
 
 same-length-2 : tie.Need-same-length-2 Inv-loop μ-loop
-same-length-2 c = c .before .loop .inv .1
+same-length-2 c = c .before .before .before .before .before .before .before .before .before .before .before .before .before .loop .inv .1
 
 same-length-3 : tie.Need-same-length-3 Inv-loop μ-loop
-same-length-3 c = c .before .loop .inv .2
+same-length-3 c = c .before .before .before .before .before .before .before .before .before .before .before .before .before .loop .inv .2
 
 same-length-4 : tie.Need-same-length-4 Inv-loop μ-loop
-same-length-4 c = c .before .loop .inv .3
+same-length-4 c = c .before .before .before .before .before .before .before .before .before .before .before .before .before .loop .inv .3
 
 same-length-5 : tie.Need-same-length-5 Inv-loop μ-loop
-same-length-5 c = c .before .loop .inv .4
+same-length-5 c = c .before .before .before .before .before .before .before .before .before .before .before .before .before .loop .inv .4
 
 same-length-6 : tie.Need-same-length-6 Inv-loop μ-loop
-same-length-6 c = c .before .loop .inv .5
+same-length-6 c = c .before .before .before .before .before .before .before .before .before .before .before .before .before .loop .inv .5
 
 same-length-7 : tie.Need-same-length-7 Inv-loop μ-loop
-same-length-7 c = c .before .loop .inv .6
+same-length-7 c = c .before .before .before .before .before .before .before .before .before .before .before .before .before .loop .inv .6
 
 same-length-8 : tie.Need-same-length-8 Inv-loop μ-loop
-same-length-8 c = c .before .loop .inv .7
+same-length-8 c = c .before .before .before .before .before .before .before .before .before .before .before .before .before .loop .inv .7
 
 same-length-9 : tie.Need-same-length-9 Inv-loop μ-loop
-same-length-9 c = c .before .loop .inv .8
+same-length-9 c = c .before .before .before .before .before .before .before .before .before .before .before .before .before .loop .inv .8
 
 same-length-10 : tie.Need-same-length-10 Inv-loop μ-loop
-same-length-10 c = c .before .loop .inv .9
+same-length-10 c = c .before .before .before .before .before .before .before .before .before .before .before .before .before .loop .inv .9
 
 same-length-11 : tie.Need-same-length-11 Inv-loop μ-loop
-same-length-11 c = c .before .loop .inv .10
+same-length-11 c = c .before .before .before .before .before .before .before .before .before .before .before .before .before .loop .inv .10
 
 same-length-12 : tie.Need-same-length-12 Inv-loop μ-loop
-same-length-12 c = c .before .loop .inv .11
+same-length-12 c = c .before .before .before .before .before .before .before .before .before .before .before .before .before .loop .inv .11
 
 same-length-13 : tie.Need-same-length-13 Inv-loop μ-loop
-same-length-13 c = c .before .loop .inv .12
+same-length-13 c = c .before .before .before .before .before .before .before .before .before .before .before .before .before .loop .inv .12
 
 same-length-14 : tie.Need-same-length-14 Inv-loop μ-loop
-same-length-14 c = c .before .loop .inv .13
+same-length-14 c = c .before .before .before .before .before .before .before .before .before .before .before .before .before .loop .inv .13
 
 same-length-15 : tie.Need-same-length-15 Inv-loop μ-loop
-same-length-15 c = c .before .loop .inv .14
+same-length-15 c = c .before .before .before .before .before .before .before .before .before .before .before .before .before .loop .inv .14
 
 same-length-16 : tie.Need-same-length-16 Inv-loop μ-loop
-same-length-16 c = c .before .loop .inv .15
+same-length-16 c = c .before .before .before .before .before .before .before .before .before .before .before .before .before .loop .inv .15
 
 same-length-17 : tie.Need-same-length-17 Inv-loop μ-loop
-same-length-17 c = c .before .loop .inv .16
+same-length-17 c = c .before .before .before .before .before .before .before .before .before .before .before .before .before .loop .inv .16
 
 same-length-18 : tie.Need-same-length-18 Inv-loop μ-loop
-same-length-18 c = c .before .loop .inv .17
+same-length-18 c = c .before .before .before .before .finish .kept .1 .0 ∙ c .before .before .before .before .before .before .before .before .before .before .before .before .before .loop .inv .17
 
 same-length-19 : tie.Need-same-length-19 Inv-loop μ-loop
-same-length-19 c = c .before .loop .inv .18
+same-length-19 c = c .before .before .before .before .finish .kept .1 .1 .1 .1 .1 .1 .1 .0 ∙ c .before .before .before .before .before .before .before .before .before .before .before .before .before .loop .inv .18
 
 returns : tie.Need-returns Inv-loop μ-loop
 returns c = search needs
@@ -134,6 +140,7 @@ run-spec =
     (tie.spec
     Inv-loop
     μ-loop
+    source-requires
     fresh-requires
     start-requires
     loop-holds
@@ -146,6 +153,7 @@ run-spec =
     remaining-requires
     loop-less
     loop-again
+    finish-requires
     same-length
     same-length-2
     same-length-3
