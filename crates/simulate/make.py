@@ -255,9 +255,12 @@ def second_part():
     return pairs
 
 
+def printed(command, given):
+    return subprocess.run(command, input=given, capture_output=True, text=True, check=True).stdout
+
+
 def answers(oracle, lines):
-    run = subprocess.run([oracle], input='\n'.join(lines) + '\n', capture_output=True, text=True, check=True)
-    return run.stdout
+    return printed([oracle], '\n'.join(lines) + '\n')
 
 
 def main():
@@ -280,6 +283,11 @@ def main():
             said.append(answer + '\n')
             if line.startswith('open') and answer == 'open ok':
                 lines = [line]
+    for part, name in ((3, 'faults.py'), (4, 'delays.py')):
+        more = printed([sys.executable, os.path.join(HERE, name)], '')
+        script.append('# Part %d: by %s; the answers are the original\'s.' % (part, name))
+        script += more.splitlines()
+        said.append(printed([oracle], more))
     with open(os.path.join(HERE, 'stdin'), 'w') as f:
         f.write('\n'.join(script) + '\n')
     with open(os.path.join(HERE, 'stdout'), 'w') as f:

@@ -212,7 +212,14 @@ fn draw_call(which: u64, v: [u64; 8], key: &[u8], text: &mut [u8], used: usize) 
         return done(text, used, b"draw", WORDS_SPENT);
     }
     let a = name(text, used, which);
-    let b = draw_list(which, v, script::key_of(key), times_of(which, v), text, a);
+    let b = draw_list(
+        which,
+        v,
+        spelling::bytes::key_of(key),
+        times_of(which, v),
+        text,
+        a,
+    );
     told(b, 0)
 }
 

@@ -279,7 +279,7 @@ pub fn latency(
         return done(text, used, b"latency", WORDS_SPENT);
     }
     let a = answers::say(text, used, b"latency");
-    let b = samples(v, script::key_of(key), setup, prices, text, a);
+    let b = samples(v, spelling::bytes::key_of(key), setup, prices, text, a);
     told(b, 0)
 }
 

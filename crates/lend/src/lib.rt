@@ -1,4 +1,4 @@
-// Front parts of tables, to lend.
+// Front parts of tables, to lend, and a text put to the front of a buffer.
 
 // The first n words, or all where there are fewer.
 pub fn front(s: &mut [u64], n: usize) -> &mut [u64] {
@@ -22,4 +22,17 @@ pub fn part(s: &[u64], n: usize) -> &[u64] {
         return &s[0..n];
     }
     s
+}
+
+// As much of the text as the buffer holds; how many bytes.
+pub fn copied(buf: &mut [u8], text: &[u8]) -> usize {
+    let mut i: usize = 0;
+    while i < text.len() {
+        if buf.len() <= i {
+            return i;
+        }
+        buf[i] = text[i];
+        i += 1;
+    }
+    i
 }

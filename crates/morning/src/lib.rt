@@ -1,18 +1,5 @@
 // A script that the program carries: scenarios/morning.script, put here by scenarios/make.py.
 
-// As much of the text as the buffer holds; how many bytes.
-fn copied(buf: &mut [u8], text: &[u8]) -> usize {
-    let mut i: usize = 0;
-    while i < text.len() {
-        if buf.len() <= i {
-            return i;
-        }
-        buf[i] = text[i];
-        i += 1;
-    }
-    i
-}
-
 // The script, to the front of the buffer; how many bytes it has.
 pub fn script(buf: &mut [u8]) -> usize {
     let text =
@@ -267,5 +254,5 @@ flush 843050000000
 next
 transit 0
 ";
-    copied(buf, text)
+    lend::copied(buf, text)
 }

@@ -1,16 +1,16 @@
 // The calls of a script by number, and the words that each takes.
-use crate::Number;
-use crate::bytes::bytes_of;
-use crate::bytes::key;
-use crate::numbers::bad;
-use crate::numbers::bits;
-use crate::numbers::decimal;
-use crate::numbers::flag;
-use crate::numbers::hex;
-use crate::numbers::target;
-use crate::words::next_word;
-use crate::words::part;
-use crate::words::same;
+use spelling::Number;
+use spelling::bytes::bytes_of;
+use spelling::bytes::key;
+use spelling::numbers::bad;
+use spelling::numbers::bits;
+use spelling::numbers::decimal;
+use spelling::numbers::flag;
+use spelling::numbers::hex;
+use spelling::numbers::target;
+use spelling::words::next_word;
+use spelling::words::part;
+use spelling::words::same;
 
 // No call.
 pub const NONE: u64 = 0;

@@ -224,7 +224,7 @@ pub fn call(
     act(
         which,
         v,
-        script::part(room, 0, size_of(which, v)),
+        spelling::words::part(room, 0, size_of(which, v)),
         setup,
         net,
         names,

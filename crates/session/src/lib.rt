@@ -3,3 +3,4 @@ pub mod input;
 pub mod lines;
 pub mod opens;
 pub mod progress;
+pub mod turns;

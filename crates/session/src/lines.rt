@@ -1,8 +1,10 @@
 // A line of a script: its words, read, and what is to be done with it.
 ghost use Prim.Native.Nat.{_<_};
+use crate::progress;
+use crate::progress::Clock;
 use outcome::Outcome;
-use script::Opening;
 use script::calls;
+use script_openings::Opening;
 
 // A call with its words. NONE is a bad line, SKIPPED a blank one or a remark.
 pub struct Parsed {
@@ -12,11 +14,12 @@ pub struct Parsed {
 
 pub const SKIPPED: u64 = 254;
 
-// What a run carries from line to line: the lines so far, how much of the text counts, and whether a network is open.
+// What a run carries from line to line: the lines so far, how much of the text counts, whether a network is open, and the clock.
 pub struct Session {
     pub lines: u64,
     pub used: usize,
     pub opened: bool,
+    pub clock: Clock,
 }
 
 // No line yet.
@@ -25,6 +28,7 @@ pub fn fresh() -> Session {
         lines: 0,
         used: 0,
         opened: false,
+        clock: progress::start(),
     }
 }
 
@@ -37,8 +41,8 @@ pub fn read_words(line: &[u8], n: usize, long: bool, room: &mut [u8]) -> Parsed 
     if long {
         return plain(calls::NONE);
     }
-    let s = script::part(line, 0, n);
-    if script::is_skipped(s) {
+    let s = spelling::words::part(line, 0, n);
+    if spelling::words::is_skipped(s) {
         return plain(SKIPPED);
     }
     let c = script::call_of(s);
@@ -102,9 +106,10 @@ pub fn called(text: &mut [u8], r: Session, o: Outcome) -> Session {
     next
 }
 
-// One line more.
+// One line more; a long run tells how far it is.
 pub fn counted(r: Session) -> Session {
     let mut next = r;
+    next.clock = progress::told(r.lines, r.clock);
     next.lines = std::num::wrapping_add_u64(r.lines, 1);
     next
 }

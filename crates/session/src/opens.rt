@@ -2,9 +2,9 @@
 use opening_tests::NetworkConfig;
 use opening_tests::NetworkSizes;
 use opening_tests::RegionPlan;
-use script::Layout;
-use script::Opening;
 use script::calls;
+use script_openings::Layout;
+use script_openings::Opening;
 
 // The classes of every opening.
 const CLASSES: u64 = held::MOST_CLASSES;
@@ -69,7 +69,7 @@ fn put(s: &mut [u8], i: usize, b: u8) {
 fn keep_names(names: &mut [u8], fresh: &[u8]) {
     let mut i: usize = 0;
     while i < names.len() {
-        put(names, i, script::byte(fresh, i));
+        put(names, i, spelling::bytes::byte(fresh, i));
         i += 1;
     }
 }
@@ -163,7 +163,7 @@ pub fn read(line: &[u8], n: usize, which: u64, fresh: &mut [u8], out: &mut [u64]
     if which != calls::OPEN {
         return no_opening();
     }
-    let o = script::open_line(script::part(line, 0, n), fresh, out, layout());
+    let o = script_openings::open_line(spelling::words::part(line, 0, n), fresh, out, layout());
     own_key(fresh, o);
     o
 }
@@ -196,9 +196,9 @@ pub fn opened(
         sizes(o),
         plan(o),
         o.seed,
-        script::part(fresh, held_rows::NAMES_WIDTH, KEY_END),
+        spelling::words::part(fresh, held_rows::NAMES_WIDTH, KEY_END),
         lend::part(masks, o.tills as usize),
-        script::part(fresh, 0, held_rows::NAMES_WIDTH),
+        spelling::words::part(fresh, 0, held_rows::NAMES_WIDTH),
         setup,
         net,
         lend::front(tills, n.tills as usize),

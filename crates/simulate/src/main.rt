@@ -1,12 +1,12 @@
 // Runs a script of calls on a network: standard input is read line by line, and every answer goes to standard output. README.md says more.
-use script::Opening;
 use script::calls;
+use script_openings::Opening;
 use session::input;
 use session::lines;
 use session::lines::Parsed;
 use session::lines::Session;
 use session::opens;
-use session::progress;
+use session::turns;
 
 // An opening.
 fn open_line(
@@ -203,11 +203,11 @@ const MORNING: u64 = 2;
 fn asked() -> u64 {
     let mut word = [0u8; 16];
     let n = os::arg(1, &mut word);
-    let said = script::part(&word, 0, n);
-    if script::same(said, b"checklist") {
+    let said = spelling::words::part(&word, 0, n);
+    if spelling::words::same(said, b"checklist") {
         return CHECKLIST;
     }
-    if script::same(said, b"morning") {
+    if spelling::words::same(said, b"morning") {
         return MORNING;
     }
     NOTHING
@@ -272,19 +272,13 @@ fn run(
     let begun = source(asked, piece);
     let mut i = begun;
     let mut r = lines::fresh();
-    let mut clock = progress::start();
     let mut left = TURNS;
     while 0 < left {
-        let next = input::next_line(piece, line, i);
-        i = next;
-        let later = progress::told(r.lines, clock);
-        clock = later;
-        let p = lines::read_words(line, i.n, i.long, room);
-        let o = opens::read(line, i.n, p.which, room, out);
+        let t = turns::next(piece, line, room, out, i, r);
         let after = act(
-            p,
-            o,
-            lines::counted(r),
+            t.parsed,
+            t.opening,
+            t.session,
             room,
             setup,
             net,
@@ -303,6 +297,7 @@ fn run(
             due,
             text,
         );
+        i = t.input;
         r = after;
         left = lines::remaining(left, i.ended);
     }

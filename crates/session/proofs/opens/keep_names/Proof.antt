@@ -7,7 +7,7 @@ use Rattle.session.proofs.opens.keep_names.Statement.{statement}
 use Rattle.session.proofs.opens.keep_names.Tie as tie
 use Rattle.session.proofs.opens.keep_names.Reads as reads
 use Rattle.session.proofs.opens.keep_names.Lts as lts
-use Rattle.script.proofs.byte.Reads as byte-reads
+use Rattle.spelling.proofs.bytes.byte.Reads as byte-reads
 use Rattle.session.proofs.opens.put.Reads as put-reads
 
 abbrev Inv-loop : tie.InvT-loop
