@@ -1,56 +1,10 @@
 // Runs a script of calls on a network: standard input is read line by line, and every answer goes to standard output. README.md says more.
 use script::calls;
 use script_openings::Opening;
-use session::input;
 use session::lines;
 use session::lines::Parsed;
 use session::lines::Session;
-use session::opens;
 use session::turns;
-
-// An opening.
-fn open_line(
-    o: Opening,
-    r: Session,
-    room: &[u8],
-    setup: &mut [u64],
-    net: &mut [u64],
-    names: &mut [u8],
-    tills: &mut [u64],
-    words: &mut [u64],
-    keys: &mut [u32],
-    prices: &mut [u64],
-    seen: &mut [u64],
-    waiting: &[u64],
-    rings: &mut [u64],
-    rules: &[u64],
-    blocks: &[u64],
-    log: &mut [u64],
-    out: &[u64],
-    due: &mut [u64],
-    text: &mut [u8],
-) -> Session {
-    let number = opens::opened(
-        o,
-        room,
-        out,
-        setup,
-        net,
-        names,
-        tills,
-        words,
-        keys,
-        prices,
-        seen,
-        waiting,
-        rings,
-        rules,
-        blocks,
-        log,
-    );
-    notes::opened(due, number, o.tills, out, o.log, net);
-    lines::begun(text, r, number)
-}
 
 // A call on the network that is open, with the notes for the figures of the run, which stand behind the due copies.
 fn call_line(
@@ -147,7 +101,7 @@ fn act(
         return lines::passed(text, r, which);
     }
     if which == calls::OPEN {
-        return open_line(
+        return run_parts::open_line(
             o,
             r,
             room,
@@ -193,56 +147,6 @@ fn act(
     )
 }
 
-// The word behind the program's name.
-const NOTHING: u64 = 0;
-
-const CHECKLIST: u64 = 1;
-
-const MORNING: u64 = 2;
-
-fn asked() -> u64 {
-    let mut word = [0u8; 16];
-    let n = os::arg(1, &mut word);
-    let said = spelling::words::part(&word, 0, n);
-    if spelling::words::same(said, b"checklist") {
-        return CHECKLIST;
-    }
-    if spelling::words::same(said, b"morning") {
-        return MORNING;
-    }
-    NOTHING
-}
-
-// Where the lines come from: standard input, or the morning that the program carries.
-fn source(asked: u64, piece: &mut [u8]) -> input::Input {
-    if asked == MORNING {
-        return input::start(true, morning::script(piece));
-    }
-    input::start(false, 0)
-}
-
-// The end of a run: the checklist and the slips, where they were asked for.
-fn finish(
-    asked: u64,
-    due: &mut [u64],
-    setup: &[u64],
-    net: &[u64],
-    seen: &[u64],
-    waiting: &[u64],
-    log: &[u64],
-    text: &mut [u8],
-    used: usize,
-) -> usize {
-    if asked == NOTHING {
-        return printer::finish(text, used);
-    }
-    let figures = notes::figures_in(due);
-    notes::ended(figures, setup, net, seen, waiting, log);
-    let a = printer::text(text, used, b"\n");
-    let b = checklist::print(figures, text, a);
-    printer::finish(text, b)
-}
-
 // No run has more lines.
 const TURNS: u64 = 18446744073709551615;
 
@@ -269,7 +173,7 @@ fn run(
     due: &mut [u64],
     text: &mut [u8],
 ) {
-    let begun = source(asked, piece);
+    let begun = run_parts::source(asked, piece);
     let mut i = begun;
     let mut r = lines::fresh();
     let mut left = TURNS;
@@ -301,7 +205,7 @@ fn run(
         r = after;
         left = lines::remaining(left, i.ended);
     }
-    finish(asked, due, setup, net, seen, waiting, log, text, r.used);
+    run_parts::finish(asked, due, setup, net, seen, waiting, log, text, r.used);
 }
 
 // Bytes of a line: the hexadecimal digits of 65,536 wire bytes, and 4,096 more.
@@ -342,7 +246,7 @@ fn main() {
     let mut out = [0u64; SLOTS * flush::ROW];
     let mut due = [0u64; notes::FIGURES + figures::SIZE];
     run(
-        asked(),
+        run_parts::asked(),
         &mut piece,
         &mut line,
         &mut room,

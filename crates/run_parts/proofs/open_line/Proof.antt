@@ -1,7 +1,7 @@
 use mathlib.Core.Path.{refl, _∙_}
 use borrow.Author.Needs.{needs}
-use Rattle.simulate.proofs.open_line.Statement.{statement}
-use Rattle.simulate.proofs.open_line.Tie as tie
+use Rattle.run_parts.proofs.open_line.Statement.{statement}
+use Rattle.run_parts.proofs.open_line.Tie as tie
 
 opened-requires : tie.Need-opened-requires
 opened-requires c κs = search needs
