@@ -1,15 +1,10 @@
 -- Document 01, fault engine (`block`, `block_during`, `unblock`, `is_blocked`), with questions 1, 4, 7 and 12: THE CONTRACTS of the block calls. Of the tables `setup`, `net` and `blocks` are lent; the others hold whatever they hold, and stay.
 use mathlib.Core.Path.{_≡_}
-use mathlib.Core.Bool.{Bool, true, cond, _&&_}
 use mathlib.Core.List.{List}
-use Prim.Native.Nat.{ℕ, max}
-use lib.Dec.{leb, ltb}
-use Rattle.blocks.specs.Blocks.{blockNumber}
-use Rattle.network.specs.Opening.{latestNow}
+use Prim.Native.Nat.{ℕ}
 use Rattle.network.specs.Calls.{Call, block, blockDuring, unblock, reading, isBlocked}
-use Rattle.network.specs.Tables.{Tables, cell, sizesAt, blocksAt}
+use Rattle.network.specs.Tables.{Tables}
 use Rattle.network.specs.Writes.{callTables, callReply}
-use Rattle.held.specs.Held.{setupHeld, netHeld, blocksHeld}
 use Rattle.reply.specs.declared.Done.{Done}
 use Rattle.reply.specs.declared.Value.{Value}
 use Rattle.reply.specs.Reply.{doneOf, valueOf}
@@ -34,20 +29,3 @@ DoesUnblock s n b n′ b′ from to r = Changes (unblock from to) s n b n′ b�
 unfoldable pub DoesIsBlocked : (setup net blocks : List ℕ) (from to now : ℕ) → Value → Type 0
 DoesIsBlocked s n b from to now r =
     (T : Tables) → let c : Call = reading (isBlocked from to now) in (r ≡ valueOf (callReply (lend T s n b) c)) × (callTables (lend T s n b) c ≡ lend T s n b)
-
--- ---- The questions as the code asks them
-
--- 1
-unfoldable pub blocksLent : (setup net blocks : List ℕ) → Bool
-blocksLent s n b = setupHeld s && (netHeld s n && (blocksHeld s n b && true))
-
--- 1 and 4, then the rest
-unfoldable pub pairNumber : (setup net blocks : List ℕ) (from to rest : ℕ) → ℕ
-pairNumber s n b from to rest = cond (blocksLent s n b) (cond (ltb (max from to) (sizesAt s .tills)) rest 4) 1
-
--- 12, and 7
-abbrev pub freeNumber : List ℕ → ℕ
-freeNumber n = blockNumber (cell n blocksAt)
-
-unfoldable pub nowNumber : ℕ → ℕ
-nowNumber now = cond (leb now latestNow) 0 7

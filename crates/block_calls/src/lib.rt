@@ -1,72 +1,13 @@
 // The block calls on the network's tables: block, block_during, unblock, is_blocked.
-ghost use mathlib.Core.Path.{_≡_};
-ghost use Rattle.block_calls.specs.Calls.{DoesBlock, DoesBlockDuring, DoesUnblock, DoesIsBlocked, blocksLent, pairNumber, freeNumber, nowNumber};
+ghost use Rattle.block_calls.specs.Calls.{DoesBlock, DoesBlockDuring, DoesUnblock, DoesIsBlocked};
 use reply::Done;
 use reply::Value;
-
-// Question 1.
-fn lent(setup: &[u64], net: &[u64], blocks: &[u64]) -> bool
-    ensures { λ r. ⌜ r ≡ blocksLent (now (setup .entry)) (now (net .entry)) (now (blocks .entry)) ⌝ }
-{
-    if !held::setup_held(setup) {
-        return false;
-    }
-    if !held::net_held(setup, net) {
-        return false;
-    }
-    held::blocks_held(setup, net, blocks)
-}
-
-// Questions 1 and 4: the tables, and the two tills.
-fn pair_refusal(setup: &[u64], net: &[u64], blocks: &[u64], from: u64, to: u64) -> u64
-    ensures { λ r. ⌜ r ≡ pairNumber (now (setup .entry)) (now (net .entry)) (now (blocks .entry)) «from» to 0 ⌝ }
-{
-    if !lent(setup, net, blocks) {
-        return 1;
-    }
-    let tills = held::cell(setup, held::TILLS);
-    if tills <= from {
-        return 4;
-    }
-    if tills <= to {
-        return 4;
-    }
-    0
-}
-
-// Questions 1, 4 and 12: is a place free?
-fn block_refusal(setup: &[u64], net: &[u64], blocks: &[u64], from: u64, to: u64) -> u64
-    ensures { λ r. ⌜ r ≡ pairNumber (now (setup .entry)) (now (net .entry)) (now (blocks .entry)) «from» to (freeNumber (now (net .entry))) ⌝ }
-{
-    let number = pair_refusal(setup, net, blocks, from, to);
-    if number != 0 {
-        return number;
-    }
-    if blocks::SLOTS as u64 <= held::cell(net, held::BLOCKS) {
-        return 12;
-    }
-    0
-}
-
-// Questions 1, 4 and 7.
-fn time_refusal(setup: &[u64], net: &[u64], blocks: &[u64], from: u64, to: u64, at: u64) -> u64
-    ensures { λ r. ⌜ r ≡ pairNumber (now (setup .entry)) (now (net .entry)) (now (blocks .entry)) «from» to (nowNumber at) ⌝ }
-{
-    let number = pair_refusal(setup, net, blocks, from, to);
-    if number != 0 {
-        return number;
-    }
-    if held::LATEST < at {
-        return 7;
-    }
-    0
-}
 
 // One window more, which always holds.
 pub fn block(setup: &[u64], net: &mut [u64], blocks: &mut [u64], from: u64, to: u64) -> Done
     ensures { λ r. ⌜ DoesBlock (now (setup .entry)) (now (net .entry)) (now (blocks .entry)) (now (net .exit)) (now (blocks .exit)) «from» to r ⌝ }
 {
-    let number = block_refusal(setup, net, blocks, from, to);
+    let number = block_questions::block_refusal(setup, net, blocks, from, to);
     if number != 0 {
         return Done { number };
     }
@@ -88,7 +29,7 @@ pub fn block_during(
 ) -> Done
     ensures { λ r. ⌜ DoesBlockDuring (now (setup .entry)) (now (net .entry)) (now (blocks .entry)) (now (net .exit)) (now (blocks .exit)) «from» to start end r ⌝ }
 {
-    let number = block_refusal(setup, net, blocks, from, to);
+    let number = block_questions::block_refusal(setup, net, blocks, from, to);
     if number != 0 {
         return Done { number };
     }
@@ -102,7 +43,7 @@ pub fn block_during(
 pub fn unblock(setup: &[u64], net: &mut [u64], blocks: &mut [u64], from: u64, to: u64) -> Done
     ensures { λ r. ⌜ DoesUnblock (now (setup .entry)) (now (net .entry)) (now (blocks .entry)) (now (net .exit)) (now (blocks .exit)) «from» to r ⌝ }
 {
-    let number = pair_refusal(setup, net, blocks, from, to);
+    let number = block_questions::pair_refusal(setup, net, blocks, from, to);
     if number != 0 {
         return Done { number };
     }
@@ -116,7 +57,7 @@ pub fn unblock(setup: &[u64], net: &mut [u64], blocks: &mut [u64], from: u64, to
 pub fn is_blocked(setup: &[u64], net: &[u64], blocks: &[u64], from: u64, to: u64, at: u64) -> Value
     ensures { λ r. ⌜ DoesIsBlocked (now (setup .entry)) (now (net .entry)) (now (blocks .entry)) «from» to at r ⌝ }
 {
-    let number = time_refusal(setup, net, blocks, from, to, at);
+    let number = block_questions::time_refusal(setup, net, blocks, from, to, at);
     if number != 0 {
         return reply::refused(number);
     }

@@ -1,6 +1,7 @@
 use mathlib.Core.Path.{refl, sym, _∙_}
 use native.Mathlib.Omega.{arith}
-use Rattle.block_calls.proofs.Laws.{passed, ask-refused, ask-done}
+use Rattle.block_questions.proofs.Laws.{passed}
+use Rattle.block_calls.proofs.Laws.{ask-refused, ask-done}
 use borrow.Author.Needs.{needs}
 use Rattle.block_calls.proofs.is_blocked.Statement.{statement}
 use Rattle.block_calls.proofs.is_blocked.Tie as tie

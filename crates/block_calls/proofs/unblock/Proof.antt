@@ -3,7 +3,8 @@ use Prim.Native.Nat.{ℕ}
 use lib.ListN.{set}
 use Rattle.network.specs.Tables.{blocksAt}
 use native.Mathlib.Omega.{arith}
-use Rattle.block_calls.proofs.Laws.{passed, unblock-refused, unblock-done}
+use Rattle.block_questions.proofs.Laws.{passed}
+use Rattle.block_calls.proofs.Laws.{unblock-refused, unblock-done}
 use borrow.Author.Needs.{needs}
 use Rattle.block_calls.proofs.unblock.Statement.{statement}
 use Rattle.block_calls.proofs.unblock.Tie as tie

@@ -1,9 +1,9 @@
 use Rattle.held.proofs.Ladder.{is-no, is-yes}
 use native.Mathlib.Omega.{arith}
-use Rattle.block_calls.proofs.Laws.{not-lent, not-near, near}
+use Rattle.block_questions.proofs.Laws.{not-lent, not-near, near}
 use borrow.Author.Needs.{needs}
-use Rattle.block_calls.proofs.pair_refusal.Statement.{statement}
-use Rattle.block_calls.proofs.pair_refusal.Tie as tie
+use Rattle.block_questions.proofs.pair_refusal.Statement.{statement}
+use Rattle.block_questions.proofs.pair_refusal.Tie as tie
 
 lent-requires : tie.Need-lent-requires
 lent-requires c κs = search needs

@@ -1,8 +1,8 @@
 use mathlib.Core.Path.{_∙_}
-use Rattle.block_calls.proofs.Laws.{refused-first, passed-first, too-late, in-time}
+use Rattle.block_questions.proofs.Laws.{refused-first, passed-first, too-late, in-time}
 use borrow.Author.Needs.{needs}
-use Rattle.block_calls.proofs.time_refusal.Statement.{statement}
-use Rattle.block_calls.proofs.time_refusal.Tie as tie
+use Rattle.block_questions.proofs.time_refusal.Statement.{statement}
+use Rattle.block_questions.proofs.time_refusal.Tie as tie
 
 pair-refusal-requires : tie.Need-pair-refusal-requires
 pair-refusal-requires c κs = search needs

@@ -1,8 +1,8 @@
 use Rattle.held.proofs.Ladder.{on, off, last, is-no, is-yes}
-use Rattle.block_calls.specs.Calls.{blocksLent}
+use Rattle.block_questions.specs.Questions.{blocksLent}
 use borrow.Author.Needs.{needs}
-use Rattle.block_calls.proofs.lent.Statement.{statement}
-use Rattle.block_calls.proofs.lent.Tie as tie
+use Rattle.block_questions.proofs.lent.Statement.{statement}
+use Rattle.block_questions.proofs.lent.Tie as tie
 
 setup-held-requires : tie.Need-setup-held-requires
 setup-held-requires c κs = search needs
