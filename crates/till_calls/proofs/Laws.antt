@@ -1,42 +1,23 @@
 -- What the questions passed say of the tables, and the small laws of the workers. Assumes nothing.
 use mathlib.Core.Path.{_≡_, ap, _∙_}
-use mathlib.Core.Bool.{true, false, cond}
+use mathlib.Core.Bool.{true, cond}
 use mathlib.Core.List.{List, [], _++_}
 use Prim.Native.Nat.{ℕ, _+_, _*_, _≤_, _<_}
 use native.Mathlib.Nat.{add-zero, add-mul, mul-le-mul, mul-le-mul-right}
 use native.Mathlib.Omega.{arith}
-use lib.Dec.{leb, ltb}
+use lib.Dec.{ltb}
 use lib.ListN.{length, getD, take, drop, take-append-drop}
 use lib.Seq.{getD-drop}
-use borrow.Author.Tests.{le-leb, lt-leb, lt-ltb, le-ltb, leb-true, ltb-true}
+use borrow.Author.Tests.{leb-true, ltb-true}
 use Rattle.shift.specs.Shift.{putWords}
 use Rattle.network.specs.Opening.{mostTills, mostSlots}
 use Rattle.network.specs.Tables.{cell, sizesAt, setupWidth, tillForm, idsStart}
 use Rattle.held.proofs.Ladder.{under, both, only}
 use Rattle.held.proofs.Passed.{PassedSetup, setup-says}
 use Rattle.held.proofs.PassedRows.{PassedTills, PassedSeen, tills-say, seen-says}
-use Rattle.till_calls.specs.Calls.{tillsLent, seenLent, bothLent, downNumber, readNumber, upNumber, handlersNumber, marksNumber}
-
--- ---- A number against a limit k that a call gave as r
-
-pub too-high : (x k r : ℕ) → r ≡ k → r ≤ x → ltb x k ≡ false
-too-high x k r e h = le-ltb x k (omega arith)
-
-pub in-range : (x k r : ℕ) → r ≡ k → x < r → ltb x k ≡ true
-in-range x k r e h = lt-ltb x k (omega arith)
-
--- the same of places: k are needed
-pub no-place : (x k r : ℕ) → r ≡ k → x < r → leb k x ≡ false
-no-place x k r e h = lt-leb k x (omega arith)
-
-pub places : (x k r : ℕ) → r ≡ k → r ≤ x → leb k x ≡ true
-places x k r e h = le-leb k x (omega arith)
+use Rattle.till_questions.specs.Questions.{tillsLent, seenLent, bothLent, downNumber, readNumber, upNumber, handlersNumber, marksNumber}
 
 -- ---- What passed questions say
-
-pub lent-setup : (s a : List ℕ) → tillsLent s a ≡ true → PassedSetup s
-unfolding tillsLent
-lent-setup s a h = setup-says s (both _ _ h .0)
 
 -- a till that exists, and its row
 pub record Room (s a : List ℕ) (t : ℕ) : Type 0 where

@@ -23,7 +23,8 @@ use Rattle.held.specs.Held.{setupHeld, tillsHeld, seenHeld}
 use Rattle.reply.specs.declared.Value.{Value}
 use Rattle.reply.specs.Reply.{refusedBy}
 use Rattle.reply.proofs.Laws as reply
-use Rattle.till_calls.specs.Calls.{lendTills, lendSeen, lendBoth, DoesTakeDown, Changes, DoesIsDown, DoesMarksOf, marksReply, tillsLent, seenLent, bothLent, downNumber, readNumber, upNumber, handlersNumber, marksNumber}
+use Rattle.till_calls.specs.Calls.{lendTills, lendSeen, lendBoth, DoesTakeDown, Changes, DoesIsDown, DoesMarksOf, marksReply}
+use Rattle.till_questions.specs.Questions.{tillsLent, seenLent, bothLent, downNumber, readNumber, upNumber, handlersNumber, marksNumber}
 use Rattle.till_calls.proofs.Laws.{Room, marks-room, put-none, words-at}
 
 -- ---- take_down

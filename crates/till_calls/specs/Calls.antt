@@ -1,16 +1,12 @@
 -- Document 01, network (`take_down`, `bring_up`) and 'What changes shape' (handlers), with questions 1, 4 and 5: THE CONTRACTS of the calls on tills and marks. Of the tables `setup` and `tills`, `seen` or both are lent; the others hold whatever they hold, and stay.
 use mathlib.Core.Path.{_≡_}
-use mathlib.Core.Bool.{Bool, true, cond, _&&_}
 use mathlib.Core.List.{List, []}
 use Prim.Native.Nat.{ℕ}
-use lib.Dec.{leb, ltb}
 use lib.ListN.{length}
-use Rattle.network.specs.Lists.{within}
 use Rattle.network.specs.Calls.{Call, takeDown, bringUp, handlers, reading, isDown, marksOf, Answer, silent, counted, moved, number, tallied, drained, copies, ids}
-use Rattle.network.specs.Tables.{Tables, sizesAt}
+use Rattle.network.specs.Tables.{Tables}
 use Rattle.network.specs.Writes.{Reply, setTills, setSeen, callTables, callReply, callOutput}
 use Rattle.held.specs.Lending.{setSetup}
-use Rattle.held.specs.Held.{setupHeld, tillsHeld, seenHeld}
 use Rattle.reply.specs.declared.Done.{Done}
 use Rattle.reply.specs.declared.Value.{Value}
 use Rattle.reply.specs.Reply.{doneOf, valueOf}
@@ -62,36 +58,3 @@ unfoldable pub DoesMarksOf : (setup seen out out′ : List ℕ) (t : ℕ) → Ma
 DoesMarksOf s m out out′ t r =
     (T : Tables) → let c : Call = reading (marksOf t (length out)) in
     (r ≡ marksReply (callReply (lendSeen T s m) c)) × (out′ ≡ callOutput (lendSeen T s m) c out) × (callTables (lendSeen T s m) c ≡ lendSeen T s m)
-
--- ---- The questions as the code asks them
-
--- 1
-unfoldable pub tillsLent : (setup tills : List ℕ) → Bool
-tillsLent s a = setupHeld s && (tillsHeld s a && true)
-
-unfoldable pub seenLent : (setup seen : List ℕ) → Bool
-seenLent s m = setupHeld s && (seenHeld s m && true)
-
-unfoldable pub bothLent : (setup tills seen : List ℕ) → Bool
-bothLent s a m = setupHeld s && (tillsHeld s a && (seenHeld s m && true))
-
--- 4, then the rest
-abbrev pub near : (setup : List ℕ) (t rest : ℕ) → ℕ
-near s t rest = cond (ltb t (sizesAt s .tills)) rest 4
-
-unfoldable pub downNumber : (setup tills seen : List ℕ) (t : ℕ) → ℕ
-downNumber s a m t = cond (bothLent s a m) (near s t 0) 1
-
-unfoldable pub readNumber : (setup tills : List ℕ) (t : ℕ) → ℕ
-readNumber s a t = cond (tillsLent s a) (near s t 0) 1
-
--- 5
-unfoldable pub upNumber : (setup tills : List ℕ) (t shards : ℕ) → ℕ
-upNumber s a t shards = cond (tillsLent s a) (near s t (cond (within shards (sizesAt s .shards)) 0 5)) 1
-
-unfoldable pub handlersNumber : (setup tills : List ℕ) (t gossip host : ℕ) → ℕ
-handlersNumber s a t gossip host = cond (tillsLent s a) (near s t (cond (within gossip (sizesAt s .types) && within host (sizesAt s .types)) 0 5)) 1
-
--- 1, also of the output: it has a place for each mark that a till may have
-unfoldable pub marksNumber : (setup seen : List ℕ) (places t : ℕ) → ℕ
-marksNumber s m places t = cond (seenLent s m) (cond (leb (sizesAt s .seenSlots) places) (near s t 0) 1) 1

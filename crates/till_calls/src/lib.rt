@@ -1,6 +1,6 @@
 // The calls on tills and marks: take_down, bring_up, set_handlers, is_down, marks_of.
 ghost use mathlib.Core.Path.{_≡_};
-ghost use Rattle.till_calls.specs.Calls.{DoesTakeDown, DoesBringUp, DoesSetHandlers, DoesIsDown, DoesMarksOf, tillsLent, seenLent, bothLent, downNumber, readNumber, upNumber, handlersNumber, marksNumber};
+ghost use Rattle.till_calls.specs.Calls.{DoesTakeDown, DoesBringUp, DoesSetHandlers, DoesIsDown, DoesMarksOf};
 use reply::Done;
 use reply::Value;
 
@@ -11,118 +11,11 @@ pub struct Marks {
     pub count: u64,
 }
 
-// Question 1, by the tables that a call is lent.
-fn tills_lent(setup: &[u64], tills: &[u64]) -> bool
-    ensures { λ r. ⌜ r ≡ tillsLent (now (setup .entry)) (now (tills .entry)) ⌝ }
-{
-    if !held::setup_held(setup) {
-        return false;
-    }
-    held::tills_held(setup, tills)
-}
-
-fn seen_lent(setup: &[u64], seen: &[u64]) -> bool
-    ensures { λ r. ⌜ r ≡ seenLent (now (setup .entry)) (now (seen .entry)) ⌝ }
-{
-    if !held::setup_held(setup) {
-        return false;
-    }
-    held::seen_held(setup, seen)
-}
-
-fn both_lent(setup: &[u64], tills: &[u64], seen: &[u64]) -> bool
-    ensures { λ r. ⌜ r ≡ bothLent (now (setup .entry)) (now (tills .entry)) (now (seen .entry)) ⌝ }
-{
-    if !held::setup_held(setup) {
-        return false;
-    }
-    if !held::tills_held(setup, tills) {
-        return false;
-    }
-    held::seen_held(setup, seen)
-}
-
-// Questions 1 and 4.
-fn down_refusal(setup: &[u64], tills: &[u64], seen: &[u64], t: u64) -> u64
-    ensures { λ r. ⌜ r ≡ downNumber (now (setup .entry)) (now (tills .entry)) (now (seen .entry)) t ⌝ }
-{
-    if !both_lent(setup, tills, seen) {
-        return 1;
-    }
-    if held::cell(setup, held::TILLS) <= t {
-        return 4;
-    }
-    0
-}
-
-fn read_refusal(setup: &[u64], tills: &[u64], t: u64) -> u64
-    ensures { λ r. ⌜ r ≡ readNumber (now (setup .entry)) (now (tills .entry)) t ⌝ }
-{
-    if !tills_lent(setup, tills) {
-        return 1;
-    }
-    if held::cell(setup, held::TILLS) <= t {
-        return 4;
-    }
-    0
-}
-
-// Questions 1, 4 and 5.
-fn up_refusal(setup: &[u64], tills: &[u64], t: u64, shards: u64) -> u64
-    ensures { λ r. ⌜ r ≡ upNumber (now (setup .entry)) (now (tills .entry)) t shards ⌝ }
-{
-    if !tills_lent(setup, tills) {
-        return 1;
-    }
-    if held::cell(setup, held::TILLS) <= t {
-        return 4;
-    }
-    if held::power(held::cell(setup, held::SHARDS)) <= shards {
-        return 5;
-    }
-    0
-}
-
-fn handlers_refusal(setup: &[u64], tills: &[u64], t: u64, gossip: u64, host: u64) -> u64
-    ensures { λ r. ⌜ r ≡ handlersNumber (now (setup .entry)) (now (tills .entry)) t gossip host ⌝ }
-{
-    if !tills_lent(setup, tills) {
-        return 1;
-    }
-    if held::cell(setup, held::TILLS) <= t {
-        return 4;
-    }
-    let limit = held::power(held::cell(setup, held::TYPES));
-    if limit <= gossip {
-        return 5;
-    }
-    if limit <= host {
-        return 5;
-    }
-    0
-}
-
-// Question 1, then of the output, and 4.
-fn marks_refusal(setup: &[u64], seen: &[u64], places: u64, t: u64) -> u64
-    ensures { λ r. ⌜ r ≡ marksNumber (now (setup .entry)) (now (seen .entry)) places t ⌝ }
-{
-    if !seen_lent(setup, seen) {
-        return 1;
-    }
-    if places < held::cell(setup, held::SEEN_SLOTS) {
-        return 1;
-    }
-    if held::cell(setup, held::TILLS) <= t {
-        return 4;
-    }
-    0
-}
-
 // The till is down; its marks, handlers and shards go, its waiting copies stay.
 pub fn take_down(setup: &[u64], tills: &mut [u64], seen: &mut [u64], t: u64) -> Done
     ensures { λ r. ⌜ DoesTakeDown (now (setup .entry)) (now (tills .entry)) (now (seen .entry)) (now (tills .exit)) (now (seen .exit)) t r ⌝ }
 {
-    let number = down_refusal(setup, tills, seen, t);
+    let number = till_questions::down_refusal(setup, tills, seen, t);
     if number != 0 {
         return Done { number };
     }
@@ -135,7 +28,7 @@ pub fn take_down(setup: &[u64], tills: &mut [u64], seen: &mut [u64], t: u64) -> 
 pub fn bring_up(setup: &[u64], tills: &mut [u64], t: u64, shards: u64) -> Done
     ensures { λ r. ⌜ DoesBringUp (now (setup .entry)) (now (tills .entry)) (now (tills .exit)) t shards r ⌝ }
 {
-    let number = up_refusal(setup, tills, t, shards);
+    let number = till_questions::up_refusal(setup, tills, t, shards);
     if number != 0 {
         return Done { number };
     }
@@ -147,7 +40,7 @@ pub fn bring_up(setup: &[u64], tills: &mut [u64], t: u64, shards: u64) -> Done
 pub fn set_handlers(setup: &[u64], tills: &mut [u64], t: u64, gossip: u64, host: u64) -> Done
     ensures { λ r. ⌜ DoesSetHandlers (now (setup .entry)) (now (tills .entry)) (now (tills .exit)) t gossip host r ⌝ }
 {
-    let number = handlers_refusal(setup, tills, t, gossip, host);
+    let number = till_questions::handlers_refusal(setup, tills, t, gossip, host);
     if number != 0 {
         return Done { number };
     }
@@ -162,7 +55,7 @@ pub fn set_handlers(setup: &[u64], tills: &mut [u64], t: u64, gossip: u64, host:
 pub fn is_down(setup: &[u64], tills: &[u64], t: u64) -> Value
     ensures { λ r. ⌜ DoesIsDown (now (setup .entry)) (now (tills .entry)) t r ⌝ }
 {
-    let number = read_refusal(setup, tills, t);
+    let number = till_questions::read_refusal(setup, tills, t);
     if number != 0 {
         return reply::refused(number);
     }
@@ -184,7 +77,7 @@ pub fn is_down(setup: &[u64], tills: &[u64], t: u64) -> Value
 pub fn marks_of(setup: &[u64], seen: &[u64], t: u64, out: &mut [u64]) -> Marks
     ensures { λ r. ⌜ DoesMarksOf (now (setup .entry)) (now (seen .entry)) (now (out .entry)) (now (out .exit)) t r ⌝ }
 {
-    let number = marks_refusal(setup, seen, out.len() as u64, t);
+    let number = till_questions::marks_refusal(setup, seen, out.len() as u64, t);
     if number != 0 {
         return Marks { number, count: 0 };
     }

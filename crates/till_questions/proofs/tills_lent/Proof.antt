@@ -1,8 +1,8 @@
-use Rattle.till_calls.specs.Calls.{tillsLent}
+use Rattle.till_questions.specs.Questions.{tillsLent}
 use Rattle.held.proofs.Ladder.{on, off, last, is-no, is-yes}
 use borrow.Author.Needs.{needs}
-use Rattle.till_calls.proofs.tills_lent.Statement.{statement}
-use Rattle.till_calls.proofs.tills_lent.Tie as tie
+use Rattle.till_questions.proofs.tills_lent.Statement.{statement}
+use Rattle.till_questions.proofs.tills_lent.Tie as tie
 
 setup-held-requires : tie.Need-setup-held-requires
 setup-held-requires c κs = search needs

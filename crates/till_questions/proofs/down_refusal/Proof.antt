@@ -1,10 +1,10 @@
-use Rattle.till_calls.proofs.Laws.{too-high, in-range}
-use Rattle.till_calls.specs.Calls.{downNumber}
+use Rattle.till_questions.proofs.Laws.{too-high, in-range}
+use Rattle.till_questions.specs.Questions.{downNumber}
 use Rattle.held.proofs.Ladder.{yes, no, is-no, is-yes}
 use mathlib.Core.Path.{refl}
 use borrow.Author.Needs.{needs}
-use Rattle.till_calls.proofs.down_refusal.Statement.{statement}
-use Rattle.till_calls.proofs.down_refusal.Tie as tie
+use Rattle.till_questions.proofs.down_refusal.Statement.{statement}
+use Rattle.till_questions.proofs.down_refusal.Tie as tie
 
 both-lent-requires : tie.Need-both-lent-requires
 both-lent-requires c κs = search needs

@@ -1,10 +1,10 @@
-use Rattle.till_calls.proofs.Laws.{too-high, in-range, no-place, places}
-use Rattle.till_calls.specs.Calls.{marksNumber}
+use Rattle.till_questions.proofs.Laws.{too-high, in-range, no-place, places}
+use Rattle.till_questions.specs.Questions.{marksNumber}
 use Rattle.held.proofs.Ladder.{yes, no, is-no, is-yes}
 use mathlib.Core.Path.{refl}
 use borrow.Author.Needs.{needs}
-use Rattle.till_calls.proofs.marks_refusal.Statement.{statement}
-use Rattle.till_calls.proofs.marks_refusal.Tie as tie
+use Rattle.till_questions.proofs.marks_refusal.Statement.{statement}
+use Rattle.till_questions.proofs.marks_refusal.Tie as tie
 
 seen-lent-requires : tie.Need-seen-lent-requires
 seen-lent-requires c κs = search needs

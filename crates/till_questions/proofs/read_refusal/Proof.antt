@@ -1,10 +1,10 @@
-use Rattle.till_calls.proofs.Laws.{too-high, in-range}
-use Rattle.till_calls.specs.Calls.{readNumber}
+use Rattle.till_questions.proofs.Laws.{too-high, in-range}
+use Rattle.till_questions.specs.Questions.{readNumber}
 use Rattle.held.proofs.Ladder.{yes, no, is-no, is-yes}
 use mathlib.Core.Path.{refl}
 use borrow.Author.Needs.{needs}
-use Rattle.till_calls.proofs.read_refusal.Statement.{statement}
-use Rattle.till_calls.proofs.read_refusal.Tie as tie
+use Rattle.till_questions.proofs.read_refusal.Statement.{statement}
+use Rattle.till_questions.proofs.read_refusal.Tie as tie
 
 tills-lent-requires : tie.Need-tills-lent-requires
 tills-lent-requires c κs = search needs
