@@ -1,7 +1,8 @@
 use mathlib.Core.Path.{refl, sym, _∙_}
 use native.Mathlib.Omega.{arith}
 use Rattle.rule_calls.specs.Calls.{message}
-use Rattle.rule_calls.proofs.Laws.{decidable, verdict-is, decide-refused, decide-done}
+use Rattle.rule_questions.proofs.Laws.{decidable}
+use Rattle.rule_calls.proofs.Laws.{verdict-is, decide-refused, decide-done}
 use borrow.Author.Needs.{needs}
 use Rattle.rule_calls.proofs.decide.Statement.{statement}
 use Rattle.rule_calls.proofs.decide.Tie as tie

@@ -1,7 +1,8 @@
 use mathlib.Core.Path.{refl}
 use native.Mathlib.Omega.{arith}
 use Rattle.held.proofs.Ladder.{is-no, is-yes}
-use Rattle.rule_calls.proofs.Laws.{passed, fired-not-lent, fired-done}
+use Rattle.rule_questions.proofs.Laws.{passed}
+use Rattle.rule_calls.proofs.Laws.{fired-not-lent, fired-done}
 use borrow.Author.Needs.{needs}
 use Rattle.rule_calls.proofs.fired.Statement.{statement}
 use Rattle.rule_calls.proofs.fired.Tie as tie

@@ -1,7 +1,8 @@
 use lib.ListN.{length-set}
 use mathlib.Core.Path.{refl, sym, _∙_}
 use native.Mathlib.Omega.{arith}
-use Rattle.rule_calls.proofs.Laws.{installable, install-refused, install-done}
+use Rattle.rule_questions.proofs.Laws.{installable}
+use Rattle.rule_calls.proofs.Laws.{install-refused, install-done}
 use borrow.Author.Needs.{needs}
 use Rattle.rule_calls.proofs.install.Statement.{statement}
 use Rattle.rule_calls.proofs.install.Tie as tie

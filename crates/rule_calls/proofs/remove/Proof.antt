@@ -1,7 +1,8 @@
 use mathlib.Core.Path.{refl}
 use native.Mathlib.Omega.{arith}
 use Rattle.held.proofs.Ladder.{is-no, is-yes}
-use Rattle.rule_calls.proofs.Laws.{passed, remove-not-lent, remove-done}
+use Rattle.rule_questions.proofs.Laws.{passed}
+use Rattle.rule_calls.proofs.Laws.{remove-not-lent, remove-done}
 use borrow.Author.Needs.{needs}
 use Rattle.rule_calls.proofs.remove.Statement.{statement}
 use Rattle.rule_calls.proofs.remove.Tie as tie

@@ -1,7 +1,7 @@
-use Rattle.rule_calls.proofs.Laws.{inexact, is-exact}
+use Rattle.rule_questions.proofs.Laws.{inexact, is-exact}
 use borrow.Author.Needs.{needs}
-use Rattle.rule_calls.proofs.card_number.Statement.{statement}
-use Rattle.rule_calls.proofs.card_number.Tie as tie
+use Rattle.rule_questions.proofs.card_number.Statement.{statement}
+use Rattle.rule_questions.proofs.card_number.Tie as tie
 
 read-requires : tie.Need-read-requires
 read-requires c κs = search needs

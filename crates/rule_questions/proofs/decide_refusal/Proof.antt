@@ -1,9 +1,9 @@
 use native.Mathlib.Omega.{arith}
 use Rattle.held.proofs.Ladder.{is-no, is-yes}
-use Rattle.rule_calls.proofs.Laws.{no1, no4, no5, no5-tier, no7, no8, none}
+use Rattle.rule_questions.proofs.Laws.{no1, no4, no5, no5-tier, no7, no8, none}
 use borrow.Author.Needs.{needs}
-use Rattle.rule_calls.proofs.decide_refusal.Statement.{statement}
-use Rattle.rule_calls.proofs.decide_refusal.Tie as tie
+use Rattle.rule_questions.proofs.decide_refusal.Statement.{statement}
+use Rattle.rule_questions.proofs.decide_refusal.Tie as tie
 
 lent-requires : tie.Need-lent-requires
 lent-requires c κs = search needs

@@ -1,8 +1,8 @@
 use native.Mathlib.Omega.{arith}
-use Rattle.rule_calls.proofs.Laws.{full, spent, free}
+use Rattle.rule_questions.proofs.Laws.{full, spent, free}
 use borrow.Author.Needs.{needs}
-use Rattle.rule_calls.proofs.place_number.Statement.{statement}
-use Rattle.rule_calls.proofs.place_number.Tie as tie
+use Rattle.rule_questions.proofs.place_number.Statement.{statement}
+use Rattle.rule_questions.proofs.place_number.Tie as tie
 
 cell-requires : tie.Need-cell-requires
 cell-requires c κs = search needs

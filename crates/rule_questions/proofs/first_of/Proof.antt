@@ -1,6 +1,6 @@
-use Rattle.rule_calls.proofs.Laws.{first-passes, first-refuses}
-use Rattle.rule_calls.proofs.first_of.Statement.{statement}
-use Rattle.rule_calls.proofs.first_of.Tie as tie
+use Rattle.rule_questions.proofs.Laws.{first-passes, first-refuses}
+use Rattle.rule_questions.proofs.first_of.Statement.{statement}
+use Rattle.rule_questions.proofs.first_of.Tie as tie
 
 returns : tie.Need-returns
 returns c = first-passes _ _ (c .if1 .taken)

@@ -1,8 +1,8 @@
 use Rattle.held.proofs.Ladder.{on, off, last, is-no, is-yes}
-use Rattle.rule_calls.specs.Calls.{rulesLent}
+use Rattle.rule_questions.specs.Questions.{rulesLent}
 use borrow.Author.Needs.{needs}
-use Rattle.rule_calls.proofs.lent.Statement.{statement}
-use Rattle.rule_calls.proofs.lent.Tie as tie
+use Rattle.rule_questions.proofs.lent.Statement.{statement}
+use Rattle.rule_questions.proofs.lent.Tie as tie
 
 setup-held-requires : tie.Need-setup-held-requires
 setup-held-requires c κs = search needs

@@ -1,8 +1,8 @@
 use Rattle.held.proofs.Ladder.{is-no, is-yes}
-use Rattle.rule_calls.proofs.Laws.{no-card, asks-card}
+use Rattle.rule_questions.proofs.Laws.{no-card, asks-card}
 use borrow.Author.Needs.{needs}
-use Rattle.rule_calls.proofs.install_refusal.Statement.{statement}
-use Rattle.rule_calls.proofs.install_refusal.Tie as tie
+use Rattle.rule_questions.proofs.install_refusal.Statement.{statement}
+use Rattle.rule_questions.proofs.install_refusal.Tie as tie
 
 lent-requires : tie.Need-lent-requires
 lent-requires c κs = search needs
