@@ -1,3 +1,2 @@
-pub mod Filled
-pub mod Cells
+pub mod Heads
 pub mod Whole

@@ -1,22 +1,19 @@
 -- Document 01, 'The book', Opening, with questions 1, 2, 3 and 5: the opening as a call on the lent tables, and what its parts write.
-use Prim.Native.Nat.{ℕ, _*_, _/_, _%_, _≤_}
+use Prim.Native.Nat.{ℕ, _*_, _≤_}
 use mathlib.Core.Path.{_≡_}
-use mathlib.Core.Bool.{true, cond}
-use mathlib.Core.List.{List, [], _++_}
-use lib.Dec.{eqb}
+use mathlib.Core.Bool.{true}
+use mathlib.Core.List.{List, _++_}
 use lib.ListN.{length, drop, replicate}
-use Rattle.rows.specs.Lists.{upTo}
 use Rattle.rows.specs.Rows.{flat}
 use Rattle.rings.specs.Rings as rings
 use Rattle.log.specs.Log as log
-use Rattle.streams.specs.Link.{linkKey}
-use Rattle.geography.specs.Geography.{mostRegions, regionOf, pricesOf}
+use Rattle.geography.specs.Geography.{mostRegions}
 use Rattle.network.specs.Lists.{every}
-use Rattle.network.specs.Opening.{Plan, Settings, mostTills, mostTypes, links}
+use Rattle.network.specs.Opening.{Settings, mostTills, mostTypes, links}
 use Rattle.network.specs.Live.{openTills, ringsOf}
 use Rattle.network.specs.Tables.{Tables, setupWidth, netWidth, tillForm}
 use Rattle.network.specs.Limits.{rangeTests}
-use Rattle.network.specs.Real.{keyWidth, pairCells, pricesWidth}
+use Rattle.network.specs.Real.{keyWidth, pricesWidth}
 use Rattle.network.specs.Open.{openNumber, openCall}
 use Rattle.opening_tests.specs.declared.NetworkSizes.{NetworkSizes}
 use Rattle.opening_tests.specs.Given.{sizesOf, keyBytes}
@@ -32,13 +29,6 @@ unfoldable pub Does : Settings → (masks : List ℕ) → (T T′ : Tables) → 
 Does x masks T T′ r = (r ≡ openedOf (openNumber x masks T)) × (T′ ≡ openCall x masks T)
 
 -- ---- What the parts write
-
--- the keys of the links between n tills
-unfoldable pub linkKeys : (seed n : ℕ) → List ℕ
-linkKeys seed n = flat (λ i. linkKey seed (i / n) (i % n)) (upTo (n * n) (λ i. i))
-
-unfoldable pub pricesFor : Plan → (tills : ℕ) → List ℕ
-pricesFor p tills = cond (eqb (p .planned) 0) [] (pricesOf (p .seed) (p .regions) (replicate (pairCells p) 0) ++ upTo tills (λ t. regionOf (p .seed) (p .regions) t))
 
 -- what the opening alone writes: settings and tables that passed the questions
 pub record Settled (x : Settings) (key setup words keys prices : List ℕ) : Type 0 where

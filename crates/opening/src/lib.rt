@@ -11,12 +11,11 @@ use opening_tests::NetworkConfig;
 use opening_tests::NetworkSizes;
 use opening_tests::RegionPlan;
 use opening_tests::TableSizes;
+use opening_writes::fill;
+use opening_writes::links;
+use opening_writes::prices;
+use opening_writes::settings;
 use reply::Done;
-
-mod fill;
-mod links;
-mod prices;
-mod settings;
 
 // What the opening alone writes: settings, word counts, link keys, prices.
 fn write_settled(

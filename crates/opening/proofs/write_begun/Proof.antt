@@ -3,7 +3,7 @@ use borrow.Author.Needs.{needs}
 use Rattle.rows.specs.Rows.{flat}
 use Rattle.network.specs.Live.{openTills}
 use Rattle.network.specs.Tables.{tillForm, netWidth}
-use Rattle.opening.proofs.Cells.{all-clear, log-clear}
+use Rattle.opening.proofs.Heads.{all-clear, log-clear}
 use Rattle.opening.proofs.write_begun.Statement.{statement}
 use Rattle.opening.proofs.write_begun.Tie as tie
 

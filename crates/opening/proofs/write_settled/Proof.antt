@@ -1,7 +1,7 @@
 use mathlib.Core.Path.{_∙_}
 use borrow.Author.Needs.{needs}
 use Rattle.opening_tests.specs.Given.{settingsOf}
-use Rattle.opening.proofs.Cells.{keys-of, priced-by}
+use Rattle.opening_writes.proofs.Cells.{keys-of, priced-by}
 use Rattle.opening.proofs.write_settled.Statement.{statement}
 use Rattle.opening.proofs.write_settled.Tie as tie
 
