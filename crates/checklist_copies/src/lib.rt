@@ -10,19 +10,11 @@ use sheet::compared;
 use sheet::label;
 use sheet::right;
 use sheet::say;
+use sheet::three;
 use sheet::verdict;
 use sheet::verdict_in;
 
 mod slips;
-
-// A row of three figures behind a label of twelve columns.
-fn three(buf: &mut [u8], used: usize, what: &[u8], a: u64, b: u64, c: u64) -> usize {
-    let u = label(buf, used, what, 12);
-    let v = printer::decimal_right(buf, u, a, 12);
-    let w = printer::decimal_right(buf, v, b, 12);
-    let x = printer::decimal_right(buf, w, c, 12);
-    say(buf, x, b"\n")
-}
 
 // Originals, echoes and all of what stands at a place.
 fn kinds(figures: &[u64], buf: &mut [u8], used: usize, what: &[u8], b: usize) -> usize {

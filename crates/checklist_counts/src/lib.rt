@@ -1,5 +1,4 @@
 // The head of the checklist and its parts A to C, printed: recipients, seen marks, drops by cause and by the till that sent.
-use comparison::Pair;
 use figures::ACCEPTS;
 use figures::DOWN_MARKS;
 use figures::FIVE;
@@ -12,17 +11,12 @@ use figures::TILLS;
 use figures::get;
 use figures::refused_at;
 use figures::till_row;
+use sheet::bounded;
 use sheet::compared;
+use sheet::four;
 use sheet::line;
 use sheet::say;
 use sheet::verdict;
-
-// The same where the left one may be less.
-fn bounded(buf: &mut [u8], used: usize, p: Pair, left: &[u8], other: &[u8]) -> usize {
-    let a = line(buf, used, left, p.left);
-    let b = line(buf, a, other, p.right);
-    verdict(buf, b, comparison::is_within(p))
-}
 
 // How many calls a question refused; nothing where none.
 fn refusal(figures: &[u64], buf: &mut [u8], used: usize, number: u64) -> usize {
@@ -122,15 +116,6 @@ pub fn drops(figures: &[u64], buf: &mut [u8], used: usize) -> usize {
         b"= copies dropped by flushes",
         b"= by the flushes' own counts",
     )
-}
-
-// A row of four figures behind a name of four columns.
-fn four(buf: &mut [u8], used: usize, a: u64, b: u64, c: u64, d: u64) -> usize {
-    let u = printer::decimal_right(buf, used, a, 11);
-    let v = printer::decimal_right(buf, u, b, 11);
-    let w = printer::decimal_right(buf, v, c, 11);
-    let x = printer::decimal_right(buf, w, d, 11);
-    say(buf, x, b"\n")
 }
 
 fn sender_row(figures: &[u64], buf: &mut [u8], used: usize, t: u64) -> usize {

@@ -1,4 +1,5 @@
-// The lines of the checklist, printed: a label and a figure, two figures compared, and whether they agree. At most 48 columns wide.
+// The lines of the checklist, printed: at most 48 columns, a figure a line, and under two lines marked = whether they agree;
+// and the rows of its tables.
 use comparison::Pair;
 use figures::MOST_TILLS;
 use figures::TILLS;
@@ -57,6 +58,31 @@ pub fn compared(buf: &mut [u8], used: usize, p: Pair, left: &[u8], other: &[u8])
     let a = line(buf, used, left, p.left);
     let b = line(buf, a, other, p.right);
     verdict(buf, b, comparison::agrees(p))
+}
+
+// The same where the left one may be less.
+pub fn bounded(buf: &mut [u8], used: usize, p: Pair, left: &[u8], other: &[u8]) -> usize {
+    let a = line(buf, used, left, p.left);
+    let b = line(buf, a, other, p.right);
+    verdict(buf, b, comparison::is_within(p))
+}
+
+// A row of four figures behind a name of four columns.
+pub fn four(buf: &mut [u8], used: usize, a: u64, b: u64, c: u64, d: u64) -> usize {
+    let u = printer::decimal_right(buf, used, a, 11);
+    let v = printer::decimal_right(buf, u, b, 11);
+    let w = printer::decimal_right(buf, v, c, 11);
+    let x = printer::decimal_right(buf, w, d, 11);
+    say(buf, x, b"\n")
+}
+
+// A row of three figures behind a label of twelve columns.
+pub fn three(buf: &mut [u8], used: usize, what: &[u8], a: u64, b: u64, c: u64) -> usize {
+    let u = label(buf, used, what, 12);
+    let v = printer::decimal_right(buf, u, a, 12);
+    let w = printer::decimal_right(buf, v, b, 12);
+    let x = printer::decimal_right(buf, w, c, 12);
+    say(buf, x, b"\n")
 }
 
 // How many tills have a slip.
