@@ -1,4 +1,6 @@
 // Parts D and E of the checklist, and the closing slips, printed: copies, the order of deliveries, class tallies.
+mod slips;
+
 ghost use Prim.Native.Nat.{_≤_};
 use figures::DROPPED;
 use figures::LANDED;
@@ -13,8 +15,6 @@ use sheet::say;
 use sheet::three;
 use sheet::verdict;
 use sheet::verdict_in;
-
-mod slips;
 
 // Originals, echoes and all of what stands at a place.
 fn kinds(figures: &[u64], buf: &mut [u8], used: usize, what: &[u8], b: usize) -> usize {
