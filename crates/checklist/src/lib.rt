@@ -1,6 +1,22 @@
 // The checklist of a run, printed from its figures: five parts, each with its figures, what they were compared with, and `agrees` or
 // `DIFFERS`; then a closing slip a till. At most 48 columns wide.
-mod paper;
-mod slips;
+use checklist_copies::copies;
+use checklist_copies::order;
+use checklist_copies::tables;
+use checklist_counts::drops;
+use checklist_counts::head;
+use checklist_counts::marks;
+use checklist_counts::recipients;
+use checklist_counts::senders;
 
-pub use paper::print;
+// The five parts, then the slips.
+pub fn print(figures: &[u64], buf: &mut [u8], used: usize) -> usize {
+    let a = head(figures, buf, used);
+    let b = recipients(figures, buf, a);
+    let c = marks(figures, buf, b);
+    let d = drops(figures, buf, c);
+    let e = senders(figures, buf, d);
+    let f = copies(figures, buf, e);
+    let g = order(figures, buf, f);
+    tables(figures, buf, g)
+}

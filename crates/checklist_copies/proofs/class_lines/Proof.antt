@@ -3,23 +3,23 @@ use borrow.Author.Needs.{needs}
 use Prim.Native.Nat.{_≤_, _-_}
 use lib.ListN.{length}
 use mathlib.Core.Path.{_≡_, refl}
-use Rattle.checklist.proofs.paper.sender_rows.Statement.{statement}
-use Rattle.checklist.proofs.paper.sender_rows.Tie as tie
+use Rattle.checklist_copies.proofs.class_lines.Statement.{statement}
+use Rattle.checklist_copies.proofs.class_lines.Tie as tie
 
 abbrev Inv-loop : tie.InvT-loop
-Inv-loop figures buf₀ used tills u₀ t₀ buf u t = (t ≤ tills) × (length buf ≡ length buf₀)
+Inv-loop figures buf₀ used of u₀ class₀ buf u class = (class ≤ 8) × (length buf ≡ length buf₀)
 
 abbrev μ-loop : tie.MeasureT-loop
-μ-loop figures buf₀ used tills u₀ t₀ buf u t = tills - t
+μ-loop figures buf₀ used of u₀ class₀ buf u class = 8 - class
 
 loop-holds : tie.Need-loop-holds Inv-loop μ-loop
 loop-holds c = (omega arith, refl)
 
-sender-row-requires : tie.Need-sender-row-requires Inv-loop μ-loop
-sender-row-requires c κs = search needs
+class-line-requires : tie.Need-class-line-requires Inv-loop μ-loop
+class-line-requires c κs = search needs
 
-add-t : tie.Need-add-t Inv-loop μ-loop
-add-t c = search needs
+add-class : tie.Need-add-class Inv-loop μ-loop
+add-class c = search needs
 
 loop-less : tie.Need-loop-less Inv-loop μ-loop
 loop-less c = search needs
@@ -33,15 +33,15 @@ same-length c = search needs
 returns : tie.Need-returns Inv-loop μ-loop
 returns c = tt
 
-pub sender-rows-spec : {M : Type 1} → statement M
-sender-rows-spec =
+pub class-lines-spec : {M : Type 1} → statement M
+class-lines-spec =
     tie.close
     (tie.spec
     Inv-loop
     μ-loop
     loop-holds
-    sender-row-requires
-    add-t
+    class-line-requires
+    add-class
     loop-less
     loop-again
     same-length

@@ -1,20 +1,13 @@
 // The closing slips, one a till.
-use crate::paper::line;
-use crate::paper::say;
 use figures::LOST_TO;
-use figures::MOST_TILLS;
 use figures::RECEIVED;
 use figures::SENT;
-use figures::TILLS;
 use figures::TRANSIT;
 use figures::get;
-use figures::least;
 use figures::till_row;
-
-// How many tills have a slip.
-pub fn tills(figures: &[u64]) -> u64 {
-    least(get(figures, TILLS), MOST_TILLS)
-}
+use sheet::line;
+use sheet::say;
+use sheet::tills;
 
 fn sender_drops(figures: &[u64], buf: &mut [u8], used: usize, at: usize) -> usize {
     let w = line(

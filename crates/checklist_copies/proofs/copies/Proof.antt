@@ -1,7 +1,7 @@
 use native.Mathlib.Omega.{arith}
 use borrow.Author.Needs.{needs}
-use Rattle.checklist.proofs.paper.copies.Statement.{statement}
-use Rattle.checklist.proofs.paper.copies.Tie as tie
+use Rattle.checklist_copies.proofs.copies.Statement.{statement}
+use Rattle.checklist_copies.proofs.copies.Tie as tie
 
 slice-aggregate-say : tie.Need-slice-aggregate-say
 slice-aggregate-say c = search needs

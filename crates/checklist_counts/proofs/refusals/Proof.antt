@@ -3,23 +3,23 @@ use borrow.Author.Needs.{needs}
 use Prim.Native.Nat.{_≤_, _-_}
 use lib.ListN.{length}
 use mathlib.Core.Path.{_≡_, refl}
-use Rattle.checklist.proofs.paper.class_lines.Statement.{statement}
-use Rattle.checklist.proofs.paper.class_lines.Tie as tie
+use Rattle.checklist_counts.proofs.refusals.Statement.{statement}
+use Rattle.checklist_counts.proofs.refusals.Tie as tie
 
 abbrev Inv-loop : tie.InvT-loop
-Inv-loop figures buf₀ used of u₀ class₀ buf u class = (class ≤ 8) × (length buf ≡ length buf₀)
+Inv-loop figures buf₀ used u₀ number₀ buf u number = (number ≤ 16) × (length buf ≡ length buf₀)
 
 abbrev μ-loop : tie.MeasureT-loop
-μ-loop figures buf₀ used of u₀ class₀ buf u class = 8 - class
+μ-loop figures buf₀ used u₀ number₀ buf u number = 16 - number
 
 loop-holds : tie.Need-loop-holds Inv-loop μ-loop
 loop-holds c = (omega arith, refl)
 
-class-line-requires : tie.Need-class-line-requires Inv-loop μ-loop
-class-line-requires c κs = search needs
+refusal-requires : tie.Need-refusal-requires Inv-loop μ-loop
+refusal-requires c κs = search needs
 
-add-class : tie.Need-add-class Inv-loop μ-loop
-add-class c = search needs
+add-number : tie.Need-add-number Inv-loop μ-loop
+add-number c = search needs
 
 loop-less : tie.Need-loop-less Inv-loop μ-loop
 loop-less c = search needs
@@ -33,15 +33,15 @@ same-length c = search needs
 returns : tie.Need-returns Inv-loop μ-loop
 returns c = tt
 
-pub class-lines-spec : {M : Type 1} → statement M
-class-lines-spec =
+pub refusals-spec : {M : Type 1} → statement M
+refusals-spec =
     tie.close
     (tie.spec
     Inv-loop
     μ-loop
     loop-holds
-    class-line-requires
-    add-class
+    refusal-requires
+    add-number
     loop-less
     loop-again
     same-length

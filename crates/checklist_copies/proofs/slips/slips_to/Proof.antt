@@ -3,8 +3,8 @@ use borrow.Author.Needs.{needs}
 use Prim.Native.Nat.{_≤_, _-_}
 use lib.ListN.{length}
 use mathlib.Core.Path.{_≡_, refl}
-use Rattle.checklist.proofs.slips.slips_to.Statement.{statement}
-use Rattle.checklist.proofs.slips.slips_to.Tie as tie
+use Rattle.checklist_copies.proofs.slips.slips_to.Statement.{statement}
+use Rattle.checklist_copies.proofs.slips.slips_to.Tie as tie
 
 abbrev Inv-loop : tie.InvT-loop
 Inv-loop figures buf₀ used n u₀ t₀ buf u t = (t ≤ n) × (length buf ≡ length buf₀)

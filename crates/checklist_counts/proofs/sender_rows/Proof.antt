@@ -3,23 +3,23 @@ use borrow.Author.Needs.{needs}
 use Prim.Native.Nat.{_≤_, _-_}
 use lib.ListN.{length}
 use mathlib.Core.Path.{_≡_, refl}
-use Rattle.checklist.proofs.paper.refusals.Statement.{statement}
-use Rattle.checklist.proofs.paper.refusals.Tie as tie
+use Rattle.checklist_counts.proofs.sender_rows.Statement.{statement}
+use Rattle.checklist_counts.proofs.sender_rows.Tie as tie
 
 abbrev Inv-loop : tie.InvT-loop
-Inv-loop figures buf₀ used u₀ number₀ buf u number = (number ≤ 16) × (length buf ≡ length buf₀)
+Inv-loop figures buf₀ used tills u₀ t₀ buf u t = (t ≤ tills) × (length buf ≡ length buf₀)
 
 abbrev μ-loop : tie.MeasureT-loop
-μ-loop figures buf₀ used u₀ number₀ buf u number = 16 - number
+μ-loop figures buf₀ used tills u₀ t₀ buf u t = tills - t
 
 loop-holds : tie.Need-loop-holds Inv-loop μ-loop
 loop-holds c = (omega arith, refl)
 
-refusal-requires : tie.Need-refusal-requires Inv-loop μ-loop
-refusal-requires c κs = search needs
+sender-row-requires : tie.Need-sender-row-requires Inv-loop μ-loop
+sender-row-requires c κs = search needs
 
-add-number : tie.Need-add-number Inv-loop μ-loop
-add-number c = search needs
+add-t : tie.Need-add-t Inv-loop μ-loop
+add-t c = search needs
 
 loop-less : tie.Need-loop-less Inv-loop μ-loop
 loop-less c = search needs
@@ -33,15 +33,15 @@ same-length c = search needs
 returns : tie.Need-returns Inv-loop μ-loop
 returns c = tt
 
-pub refusals-spec : {M : Type 1} → statement M
-refusals-spec =
+pub sender-rows-spec : {M : Type 1} → statement M
+sender-rows-spec =
     tie.close
     (tie.spec
     Inv-loop
     μ-loop
     loop-holds
-    refusal-requires
-    add-number
+    sender-row-requires
+    add-t
     loop-less
     loop-again
     same-length

@@ -1,7 +1,7 @@
 use native.Mathlib.Omega.{arith}
 use borrow.Author.Needs.{needs}
-use Rattle.checklist.proofs.paper.recipients.Statement.{statement}
-use Rattle.checklist.proofs.paper.recipients.Tie as tie
+use Rattle.checklist_counts.proofs.recipients.Statement.{statement}
+use Rattle.checklist_counts.proofs.recipients.Tie as tie
 
 slice-aggregate-say : tie.Need-slice-aggregate-say
 slice-aggregate-say c = search needs
