@@ -1,0 +1,26 @@
+// Questions 2 and 5 at the opening, of the lists that are lent: type names and shard keys (2), shard masks (5).
+ghost use mathlib.Core.Path.{_≡_};
+ghost use Prim.Native.Nat.{_≤_};
+ghost use Rattle.rows.specs.Rows.{allOf};
+ghost use Rattle.network.specs.Lists.{within};
+ghost use Rattle.network.specs.Opening.{mostShards};
+
+mod texts;
+
+pub use texts::names_admitted;
+
+// 5: is no bit of a shard mask set beyond the opening's shards?
+pub fn masks_admitted(masks: &[u64], shards: u64) -> bool
+    requires { ⌜ shards ≤ mostShards ⌝ }
+    ensures { λ r. ⌜ r ≡ allOf (λ m. within m shards) (now (masks .entry)) ⌝ }
+{
+    let limit = held::power(shards);
+    let mut i: usize = 0;
+    while i < masks.len() {
+        if limit <= masks[i] {
+            return false;
+        }
+        i += 1;
+    }
+    true
+}
