@@ -128,13 +128,13 @@ pub fn refusal(
     if !limits::sizes_admitted(sizes, plan) {
         return 2;
     }
-    if !opening_lists::names_admitted(names, sizes.types, sizes.shards) {
+    if !opening_parts::names_admitted(names, sizes.types, sizes.shards) {
         return 2;
     }
     if !config_admitted(config) {
         return 3;
     }
-    if !opening_lists::masks_admitted(masks, sizes.shards) {
+    if !opening_parts::masks_admitted(masks, sizes.shards) {
         return 5;
     }
     0

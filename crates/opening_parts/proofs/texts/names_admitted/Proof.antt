@@ -2,9 +2,9 @@ use Rattle.held.proofs.Ladder.{on, off}
 use borrow.Author.Tests.{not-true, not-false}
 use mathlib.Core.Path.{sym, _∙_}
 use native.Mathlib.Omega.{arith}
-use Rattle.opening_lists.proofs.Names.{short-ones, admitted}
-use Rattle.opening_lists.proofs.texts.names_admitted.Statement.{statement}
-use Rattle.opening_lists.proofs.texts.names_admitted.Tie as tie
+use Rattle.opening_parts.proofs.Names.{short-ones, admitted}
+use Rattle.opening_parts.proofs.texts.names_admitted.Statement.{statement}
+use Rattle.opening_parts.proofs.texts.names_admitted.Tie as tie
 
 lengths-fit-requires : tie.Need-lengths-fit-requires
 lengths-fit-requires c κs = record { some = omega arith; room = omega (arith, c .before .pre .long, c .before .pre .types) }

@@ -1,12 +1,14 @@
-// Questions 2 and 5 at the opening, of the lists that are lent: type names and shard keys (2), shard masks (5).
+// The parts of the opening's questions that are asked of plain numbers and lists: is a length a sum (1), are type names and shard keys admitted (2), and shard masks (5)?
 ghost use mathlib.Core.Path.{_≡_};
 ghost use Prim.Native.Nat.{_≤_};
 ghost use Rattle.rows.specs.Rows.{allOf};
 ghost use Rattle.network.specs.Lists.{within};
 ghost use Rattle.network.specs.Opening.{mostShards};
 
+mod sums;
 mod texts;
 
+pub use sums::is_sum;
 pub use texts::names_admitted;
 
 // 5: is no bit of a shard mask set beyond the opening's shards?

@@ -8,7 +8,7 @@ ghost use Rattle.rows.specs.Rows.{allOf};
 ghost use Rattle.network.specs.Lists.{every, below, same, some-of, unlike};
 ghost use Rattle.network.specs.Tables.{cell, textAt};
 ghost use Rattle.network.specs.Limits.{textTests, unlikeTests};
-ghost use Rattle.opening_lists.specs.Texts.{Laid, Short, NamesHeld, textsFrom, Inside, counted};
+ghost use Rattle.opening_parts.specs.Texts.{Laid, Short, NamesHeld, textsFrom, Inside, counted};
 
 fn wide(x: u8) -> usize
     ensures { λ r. ⌜ (r ≡ x) × (r < 256) ⌝ }

@@ -17,8 +17,8 @@ use Rattle.network.specs.Opening.{longestName, longestKey}
 use Rattle.network.specs.Lists.{every, below, same, some-of, unlike}
 use Rattle.network.specs.Tables.{cell, textAt, shardAt}
 use Rattle.network.specs.Limits.{textTests, unlikeTests}
-use Rattle.opening_lists.proofs.Scans.{same-next, same-stop, same-end}
-use Rattle.opening_lists.specs.Texts.{textsFrom, Laid, Short, Inside, counted}
+use Rattle.opening_parts.proofs.Scans.{same-next, same-stop, same-end}
+use Rattle.opening_parts.specs.Texts.{textsFrom, Laid, Short, Inside, counted}
 
 module _ (names : List ℕ) (i : ℕ) (h : Inside names i) where
   pub text-length : length (textAt names i) ≡ cell names i
