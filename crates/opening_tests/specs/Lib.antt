@@ -1,4 +1,3 @@
 pub mod Given
 pub mod Asked
-pub mod Texts
 pub mod Sizes

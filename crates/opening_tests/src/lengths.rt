@@ -1,7 +1,5 @@
 // Question 1: have the lent tables the opening's sizes? The sizes may be any numbers here, so no product is worked out that might not fit.
 ghost use mathlib.Core.Path.{_≡_};
-ghost use Prim.Native.Nat.{_+_, _*_, _<_};
-ghost use lib.Dec.{eqb};
 ghost use Rattle.network.specs.Lists.{every};
 ghost use Rattle.network.specs.Open.{lengthsOf};
 ghost use Rattle.opening_tests.specs.Given.{sized, keyWords};
@@ -9,40 +7,13 @@ ghost use Rattle.opening_tests.specs.Asked.{frontTests, backTests, table
 use crate::NetworkSizes;
 use crate::RegionPlan;
 use crate::TableSizes;
+use opening_parts::is_sum;
 
 // Bytes of the fault stream's key.
 pub const KEY: usize = 32;
 
 // Cells of a type's rings.
 pub const RINGS: u64 = (rings::SCOPES * rings::SIZE) as u64;
-
-// Is n the product of a and b?
-fn is_product(n: u64, a: u64, b: u64) -> bool
-    ensures { λ r. ⌜ r ≡ eqb n (a * b) ⌝ }
-{
-    if b == 0 {
-        return n == 0;
-    }
-    if n % b != 0 {
-        return false;
-    }
-    n / b == a
-}
-
-// Is n the sum of c and k times a times b?
-fn is_sum(n: u64, c: u64, k: u64, a: u64, b: u64) -> bool
-    requires { ⌜ 0 < k ⌝ }
-    ensures { λ r. ⌜ r ≡ eqb n (c + k * (a * b)) ⌝ }
-{
-    if n < c {
-        return false;
-    }
-    let rest = n - c;
-    if rest % k != 0 {
-        return false;
-    }
-    is_product(rest / k, a, b)
-}
 
 // Without a plan there are no prices.
 fn prices_fit(n: u64, plan: RegionPlan, tills: u64) -> bool

@@ -1,11 +1,8 @@
 // The opening's parameters and its questions: 1 (lengths of the lent tables), 2 (sizes and names), 3 (latency, fraction and rates), 5 (shard masks).
 ghost use mathlib.Core.Path.{_≡_};
-ghost use Prim.Native.Nat.{_≤_};
 ghost use lib.ListN.{length};
 ghost use Rattle.latency.specs.Admitted.{latencyAdmitted, fractionAdmitted, rateAdmitted};
-ghost use Rattle.rows.specs.Rows.{allOf};
-ghost use Rattle.network.specs.Lists.{every, within};
-ghost use Rattle.network.specs.Opening.{mostShards};
+ghost use Rattle.network.specs.Lists.{every};
 ghost use Rattle.network.specs.Limits.{rateOf, rangeTests};
 ghost use Rattle.opening_tests.specs.Given.{bitsOf, configOf, settingsOf};
 ghost use Rattle.opening_tests.specs.Asked.{numberOf};
@@ -14,7 +11,6 @@ use time::Time;
 mod lengths;
 mod limits;
 mod sizes;
-mod texts;
 
 pub use sizes::table_sizes;
 
@@ -110,22 +106,6 @@ pub fn config_admitted(config: NetworkConfig) -> bool
     rate_in_range(config.spike)
 }
 
-// 5: is no bit of a shard mask set beyond the opening's shards?
-pub fn masks_admitted(masks: &[u64], shards: u64) -> bool
-    requires { ⌜ shards ≤ mostShards ⌝ }
-    ensures { λ r. ⌜ r ≡ allOf (λ m. within m shards) (now (masks .entry)) ⌝ }
-{
-    let limit = held::power(shards);
-    let mut i: usize = 0;
-    while i < masks.len() {
-        if limit <= masks[i] {
-            return false;
-        }
-        i += 1;
-    }
-    true
-}
-
 // The number of the first question whose answer is "no", or 0. `lengths` is what the lent tables have.
 pub fn refusal(
     config: NetworkConfig,
@@ -148,13 +128,13 @@ pub fn refusal(
     if !limits::sizes_admitted(sizes, plan) {
         return 2;
     }
-    if !texts::names_admitted(names, sizes) {
+    if !opening_parts::names_admitted(names, sizes.types, sizes.shards) {
         return 2;
     }
     if !config_admitted(config) {
         return 3;
     }
-    if !masks_admitted(masks, sizes.shards) {
+    if !opening_parts::masks_admitted(masks, sizes.shards) {
         return 5;
     }
     0

@@ -5,10 +5,10 @@ use borrow.Author.Needs.{needs}
 use lib.ListN.{length, drop}
 use Rattle.rows.specs.Rows.{allOf}
 use Rattle.network.specs.Lists.{within}
-use Rattle.opening_tests.proofs.Scans.{all-next, all-stop, all-end}
-use Rattle.opening_tests.proofs.Masks.{beyond, inside}
-use Rattle.opening_tests.proofs.masks_admitted.Statement.{statement}
-use Rattle.opening_tests.proofs.masks_admitted.Tie as tie
+use Rattle.opening_parts.proofs.Scans.{all-next, all-stop, all-end}
+use Rattle.opening_parts.proofs.Masks.{beyond, inside}
+use Rattle.opening_parts.proofs.masks_admitted.Statement.{statement}
+use Rattle.opening_parts.proofs.masks_admitted.Tie as tie
 
 abbrev Inv-loop : tie.InvT-loop
 Inv-loop masks shards limit i₀ i = (i ≤ length masks) × (limit ≡ 2 ^ shards) × (allOf (λ m. within m shards) masks ≡ allOf (λ m. within m shards) (drop i masks))

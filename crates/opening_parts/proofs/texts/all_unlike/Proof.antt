@@ -4,11 +4,11 @@ use native.Mathlib.Omega.{arith}
 use borrow.Author.Needs.{needs}
 use lib.ListN.{drop}
 use Rattle.network.specs.Lists.{unlike}
-use Rattle.opening_tests.specs.Texts.{textsFrom}
-use Rattle.opening_tests.proofs.Scans.{unlike-next, unlike-stop, unlike-end}
-use Rattle.opening_tests.proofs.Names.{texts-length, text-met}
-use Rattle.opening_tests.proofs.texts.all_unlike.Statement.{statement}
-use Rattle.opening_tests.proofs.texts.all_unlike.Tie as tie
+use Rattle.opening_parts.specs.Texts.{textsFrom}
+use Rattle.opening_parts.proofs.Scans.{unlike-next, unlike-stop, unlike-end}
+use Rattle.opening_parts.proofs.Names.{texts-length, text-met}
+use Rattle.opening_parts.proofs.texts.all_unlike.Statement.{statement}
+use Rattle.opening_parts.proofs.texts.all_unlike.Tie as tie
 
 abbrev Inv-loop : tie.InvT-loop
 Inv-loop names start stride n k₀ k = (k ≤ n) × (unlike (textsFrom names start stride n) ≡ unlike (drop k (textsFrom names start stride n)))

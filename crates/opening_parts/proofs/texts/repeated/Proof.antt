@@ -5,12 +5,12 @@ use borrow.Author.Needs.{needs}
 use lib.ListN.{drop}
 use Rattle.network.specs.Lists.{same, some-of}
 use Rattle.network.specs.Tables.{textAt}
-use Rattle.opening_tests.specs.Texts.{textsFrom}
-use Rattle.opening_tests.proofs.Scans.{some-next, some-stop, some-end}
-use Rattle.opening_tests.proofs.Names.{place, inside, texts-length, text-asked}
+use Rattle.opening_parts.specs.Texts.{textsFrom}
+use Rattle.opening_parts.proofs.Scans.{some-next, some-stop, some-end}
+use Rattle.opening_parts.proofs.Names.{place, inside, texts-length, text-asked}
 use mathlib.Core.List.{[]}
-use Rattle.opening_tests.proofs.texts.repeated.Statement.{statement}
-use Rattle.opening_tests.proofs.texts.repeated.Tie as tie
+use Rattle.opening_parts.proofs.texts.repeated.Statement.{statement}
+use Rattle.opening_parts.proofs.texts.repeated.Tie as tie
 
 abbrev Inv-loop : tie.InvT-loop
 Inv-loop names start stride n k j₀ j = (k + 1 ≤ j) × (j ≤ n) × (some-of (same (textAt names (start + k * stride))) (drop (k + 1) (textsFrom names start stride n)) ≡ some-of (same (textAt names (start + k * stride))) (drop j (textsFrom names start stride n)))

@@ -1,7 +1,7 @@
-use Rattle.opening_tests.proofs.Sums.{sum-low, sum-odd, sum-even}
+use Rattle.opening_parts.proofs.Division.{sum-low, sum-odd, sum-even}
 use borrow.Author.Needs.{needs}
-use Rattle.opening_tests.proofs.lengths.is_sum.Statement.{statement}
-use Rattle.opening_tests.proofs.lengths.is_sum.Tie as tie
+use Rattle.opening_parts.proofs.sums.is_sum.Statement.{statement}
+use Rattle.opening_parts.proofs.sums.is_sum.Tie as tie
 
 returns : tie.Need-returns
 returns c = sum-low _ _ _ _ (c .if1 .taken)

@@ -8,9 +8,7 @@ ghost use Rattle.rows.specs.Rows.{allOf};
 ghost use Rattle.network.specs.Lists.{every, below, same, some-of, unlike};
 ghost use Rattle.network.specs.Tables.{cell, textAt};
 ghost use Rattle.network.specs.Limits.{textTests, unlikeTests};
-ghost use Rattle.opening_tests.specs.Given.{sizesOf};
-ghost use Rattle.opening_tests.specs.Texts.{Laid, Short, NamesHeld, textsFrom, Inside};
-use crate::NetworkSizes;
+ghost use Rattle.opening_parts.specs.Texts.{Laid, Short, NamesHeld, textsFrom, Inside, counted};
 
 fn wide(x: u8) -> usize
     ensures { λ r. ⌜ (r ≡ x) × (r < 256) ⌝ }
@@ -76,12 +74,12 @@ fn all_unlike(names: &[u8], start: usize, stride: usize, n: usize) -> bool
 }
 
 // Type names and shard keys.
-pub fn names_admitted(names: &[u8], sizes: NetworkSizes) -> bool
-    requires { ⌜ NamesHeld (now names) sizes ⌝ }
-    ensures { λ r. ⌜ r ≡ every (every (textTests (sizesOf sizes) (now (names .entry))) ∷ every (unlikeTests (sizesOf sizes) (now (names .entry))) ∷ []) ⌝ }
+pub fn names_admitted(names: &[u8], types: u64, shards: u64) -> bool
+    requires { ⌜ NamesHeld (now names) (counted types shards) ⌝ }
+    ensures { λ r. ⌜ r ≡ every (every (textTests (counted types shards) (now (names .entry))) ∷ every (unlikeTests (counted types shards) (now (names .entry))) ∷ []) ⌝ }
 {
-    let types = sizes.types as usize;
-    let shards = sizes.shards as usize;
+    let types = types as usize;
+    let shards = shards as usize;
     if !lengths_fit(names, 0, held_rows::NAME_WIDTH, types, held::LONGEST_NAME) {
         return false;
     }

@@ -17,10 +17,8 @@ use Rattle.network.specs.Opening.{longestName, longestKey}
 use Rattle.network.specs.Lists.{every, below, same, some-of, unlike}
 use Rattle.network.specs.Tables.{cell, textAt, shardAt}
 use Rattle.network.specs.Limits.{textTests, unlikeTests}
-use Rattle.opening_tests.proofs.Scans.{same-next, same-stop, same-end}
-use Rattle.opening_tests.specs.declared.NetworkSizes.{NetworkSizes}
-use Rattle.opening_tests.specs.Given.{sizesOf}
-use Rattle.opening_tests.specs.Texts.{textsFrom, Laid, Short, Inside}
+use Rattle.opening_parts.proofs.Scans.{same-next, same-stop, same-end}
+use Rattle.opening_parts.specs.Texts.{textsFrom, Laid, Short, Inside, counted}
 
 module _ (names : List ℕ) (i : ℕ) (h : Inside names i) where
   pub text-length : length (textAt names i) ≡ cell names i
@@ -83,18 +81,18 @@ short-ones names start stride n most h e = record {
 }
 
 -- the tests of type names, which start at 0, and of shard keys
-module _ (names : List ℕ) (z : NetworkSizes) where
+module _ (names : List ℕ) (types shards : ℕ) where
   abbrev pub namesShort : Bool
-  namesShort = allOf (λ k. leb (cell names (0 + k * (1 + longestName))) longestName) (below (z .types))
+  namesShort = allOf (λ k. leb (cell names (0 + k * (1 + longestName))) longestName) (below types)
 
   abbrev pub keysShort : Bool
-  keysShort = allOf (λ k. leb (cell names (shardAt k)) longestKey) (below (z .shards))
+  keysShort = allOf (λ k. leb (cell names (shardAt k)) longestKey) (below shards)
 
   abbrev pub namesUnlike : Bool
-  namesUnlike = unlike (textsFrom names 0 (1 + longestName) (z .types))
+  namesUnlike = unlike (textsFrom names 0 (1 + longestName) types)
 
   abbrev pub keysUnlike : Bool
-  keysUnlike = unlike (upTo (z .shards) (λ k. textAt names (shardAt k)))
+  keysUnlike = unlike (upTo shards (λ k. textAt names (shardAt k)))
 
   two : (a b c d : Bool) → (a && (b && (c && d))) ≡ ((a && (b && true)) && ((c && (d && true)) && true))
   two true true true true = refl
@@ -104,7 +102,7 @@ module _ (names : List ℕ) (z : NetworkSizes) where
   two false b c d = refl
 
   pub admitted : {r : Bool} → r ≡ (namesShort && (keysShort && (namesUnlike && keysUnlike)))
-      → r ≡ every (every (textTests (sizesOf z) names) ∷ every (unlikeTests (sizesOf z) names) ∷ [])
+      → r ≡ every (every (textTests (counted types shards) names) ∷ every (unlikeTests (counted types shards) names) ∷ [])
   admitted h = h ∙ two namesShort keysShort namesUnlike keysUnlike
-      ∙ (λ j. (allOf (λ k. leb (cell names (zero-add (k * (1 + longestName)) j)) longestName) (below (z .types)) && (keysShort && true))
-      && ((unlike (upTo (z .types) (λ k. textAt names (zero-add (k * (1 + longestName)) j))) && (keysUnlike && true)) && true))
+      ∙ (λ j. (allOf (λ k. leb (cell names (zero-add (k * (1 + longestName)) j)) longestName) (below types) && (keysShort && true))
+      && ((unlike (upTo types (λ k. textAt names (zero-add (k * (1 + longestName)) j))) && (keysUnlike && true)) && true))

@@ -5,10 +5,10 @@ use borrow.Author.Needs.{needs}
 use lib.ListN.{drop}
 use Rattle.network.specs.Lists.{same}
 use Rattle.network.specs.Tables.{cell, textAt}
-use Rattle.opening_tests.proofs.Scans.{same-lengths}
-use Rattle.opening_tests.proofs.Names.{text-length, text-next, text-stop, text-end}
-use Rattle.opening_tests.proofs.texts.same_text.Statement.{statement}
-use Rattle.opening_tests.proofs.texts.same_text.Tie as tie
+use Rattle.opening_parts.proofs.Scans.{same-lengths}
+use Rattle.opening_parts.proofs.Names.{text-length, text-next, text-stop, text-end}
+use Rattle.opening_parts.proofs.texts.same_text.Statement.{statement}
+use Rattle.opening_parts.proofs.texts.same_text.Tie as tie
 
 abbrev Inv-loop : tie.InvT-loop
 Inv-loop names i j n k₀ k = (k ≤ n) × (n ≡ cell names i) × (n ≡ cell names j) × (same (textAt names i) (textAt names j) ≡ same (drop k (textAt names i)) (drop k (textAt names j)))

@@ -6,8 +6,8 @@ use lib.ListN.{getD}
 use Rattle.scan.specs.Scan.{columnWithin}
 use Rattle.network.specs.Tables.{cell}
 use Rattle.held.proofs.Rows.{alike}
-use Rattle.opening_tests.proofs.texts.lengths_fit.Statement.{statement}
-use Rattle.opening_tests.proofs.texts.lengths_fit.Tie as tie
+use Rattle.opening_parts.proofs.texts.lengths_fit.Statement.{statement}
+use Rattle.opening_parts.proofs.texts.lengths_fit.Tie as tie
 
 lengths-within-requires : tie.Need-lengths-within-requires
 lengths-within-requires c κs = (omega (arith, c .before .pre .some), c .before .pre .room)

@@ -1,7 +1,7 @@
-use Rattle.opening_tests.proofs.Sums.{product-none, product-odd, product-even}
+use Rattle.opening_parts.proofs.Division.{product-none, product-odd, product-even}
 use borrow.Author.Needs.{needs}
-use Rattle.opening_tests.proofs.lengths.is_product.Statement.{statement}
-use Rattle.opening_tests.proofs.lengths.is_product.Tie as tie
+use Rattle.opening_parts.proofs.sums.is_product.Statement.{statement}
+use Rattle.opening_parts.proofs.sums.is_product.Tie as tie
 
 returns : tie.Need-returns
 returns c = product-none _ _ _ (c .if1 .taken)

@@ -4,9 +4,8 @@ use mathlib.Core.Path.{_≡_}
 use mathlib.Core.List.{List}
 use lib.ListN.{length}
 use Rattle.rows.specs.Lists.{upTo}
-use Rattle.network.specs.Opening.{mostTypes, mostShards}
+use Rattle.network.specs.Opening.{Sizes, mostTypes, mostShards}
 use Rattle.network.specs.Tables.{cell, textAt, namesWidth}
-use Rattle.opening_tests.specs.declared.NetworkSizes.{NetworkSizes}
 
 -- n texts from a start
 abbrev pub textsFrom : List ℕ → (start stride n : ℕ) → List (List ℕ)
@@ -25,7 +24,11 @@ pub record Short (names : List ℕ) (start stride n : ℕ) : Type 0 where
 pub record Inside (names : List ℕ) (i : ℕ) : Type 0 where
   pub inside : i + 1 + cell names i ≤ length names
 
-pub record NamesHeld (names : List ℕ) (z : NetworkSizes) : Type 0 where
+pub record NamesHeld (names : List ℕ) (z : Sizes) : Type 0 where
   pub long : length names ≡ namesWidth
   pub types : z .types ≤ mostTypes
   pub shards : z .shards ≤ mostShards
+
+-- sizes of which only types and shards are asked
+abbrev pub counted : (types shards : ℕ) → Sizes
+counted types shards = record { tills = 0; types = types; classes = 0; shards = shards; seenSlots = 0; waitSlots = 0; logSlots = 0 }

@@ -1,0 +1,4 @@
+pub mod Scans
+pub mod Names
+pub mod Masks
+pub mod Division
