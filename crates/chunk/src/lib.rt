@@ -14,7 +14,7 @@ ghost use Rattle.chunk.specs.Chunk.{wordsOf, chunk, parent};
 ghost use Rattle.chunk.specs.Copy.{Placed};
 
 // The words of a whole block.
-fn words_whole(s: &[u8]) -> Words
+pub fn words_whole(s: &[u8]) -> Words
     requires { ⌜ 64 ≤ length (now s) ⌝ }
     ensures { λ r. ⌜ listOf r ≡ wordsOf (now (s .entry)) ⌝ }
 {

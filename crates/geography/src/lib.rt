@@ -1,14 +1,14 @@
-// Where tills sit, and what a delivery between two regions costs. The links' prices lie in lent memory.
+// Where tills sit, the price of a link between two regions, drawn, and the time on the wire.
 use draw::range64;
 use streams::Cursor;
 use time::Time;
 ghost use mathlib.Core.Path.{_≡_};
-ghost use Prim.Native.Nat.{_+_, _-_, _*_, _<_, _≤_, _^_};
-ghost use lib.ListN.{length, getD, set};
+ghost use Prim.Native.Nat.{_+_, _<_, _≤_, _^_};
+ghost use lib.ListN.{length};
 ghost use Rattle.streams.specs.Streams.{Holds, Moved};
 ghost use Rattle.word.specs.Word.{le8};
 ghost use Rattle.geography.specs.Bytes.{hostBytes, linksBytes, derive, host, links};
-ghost use Rattle.geography.specs.Geography.{atLeastOne, regionOf, transmissionOf, bandOf, drawnLink, linkWords, putLink, putPair, linkAt, linkAdmitted, costOf, Stands, allCount, pricedRow, pricedAll, pricesOf, mostRegions, mostBytes};
+ghost use Rattle.geography.specs.Geography.{atLeastOne, regionOf, transmissionOf, bandOf, drawnLink, linkWords, linkAdmitted, mostBytes};
 
 // What a delivery between two regions costs: latency before jitter, and bytes carried a second.
 pub struct Link {
@@ -106,7 +106,7 @@ fn host_digest(seed: u64, till: u32) -> [u32; 8]
     digest::hash_parts(&head, &tail)
 }
 
-fn links_digest(seed: u64) -> [u32; 8]
+pub fn links_digest(seed: u64) -> [u32; 8]
     ensures { λ r. ⌜ r ≡ derive seed links 0 ⌝ }
 {
     let head = seed_bytes(seed);
@@ -157,7 +157,7 @@ fn drawn_link(c: Cursor, s: Band) -> Priced
 }
 
 // The price of the link between regions a and b.
-fn price(c: Cursor, a: u64, b: u64) -> Priced
+pub fn price(c: Cursor, a: u64, b: u64) -> Priced
     requires { ⌜ (c .count + 7 < 2 ^ 63) × Holds c ⌝ }
     ensures { λ r. ⌜ (r .link ≡ drawnLink (c .key) (c .count) (bandOf a b)) × Moved c (linkWords (c .key) (c .count) (bandOf a b)) (r .next) ⌝ }
 {
@@ -167,125 +167,10 @@ fn price(c: Cursor, a: u64, b: u64) -> Priced
     drawn_link(c, Band::FAR)
 }
 
-fn put(s: &mut [u64], i: usize, v: u64)
-    ensures { λ _. ⌜ now (s .exit) ≡ set (now (s .entry)) i v ⌝ }
-{
-    if i < s.len() {
-        s[i] = v;
-    }
-}
-
-fn put_link(prices: &mut [u64], i: u64, l: Link)
-    requires { ⌜ i < 2 ^ 32 ⌝ }
-    ensures { λ _. ⌜ now (prices .exit) ≡ putLink (now (prices .entry)) i l ⌝ }
-{
-    let at = (2 * i) as usize;
-    let base = l.base;
-    put(prices, at, base.ns);
-    put(prices, at + 1, l.rate);
-}
-
-// The link between a and b, both ways.
-fn put_pair(prices: &mut [u64], regions: u64, a: u64, b: u64, l: Link)
-    requires { ⌜ (a < mostRegions) × (b < mostRegions) × (regions ≤ mostRegions) ⌝ }
-    ensures { λ _. ⌜ now (prices .exit) ≡ putPair (now (prices .entry)) regions a b l ⌝ }
-{
-    put_link(prices, a * regions + b, l);
-    put_link(prices, b * regions + a, l);
-}
-
-// Row a: the pairs (a, a), (a, a + 1), ..
-fn price_row(prices: &mut [u64], c: Cursor, regions: u64, a: u64) -> Cursor
-    requires { ⌜ (a < regions) × (regions ≤ mostRegions) × (c .count ≡ allCount (c .key) regions a) × Holds c ⌝ }
-    ensures { λ r. ⌜ (now (prices .exit) ≡ pricedRow (c .key) regions a (regions - a) (now (prices .entry))) × Stands (c .key) (allCount (c .key) regions (a + 1)) r ⌝ }
-{
-    let mut d = c;
-    let mut b = a;
-    while b < regions {
-        let p = price(d, a, b);
-        let next = p.next;
-        put_pair(prices, regions, a, b, p.link);
-        d = next;
-        b += 1;
-    }
-    d
-}
-
-// Every row.
-fn price_rows(prices: &mut [u64], c: Cursor, regions: u64)
-    requires { ⌜ (regions ≤ mostRegions) × (c .count ≡ 0) × Holds c ⌝ }
-    ensures { λ _. ⌜ now (prices .exit) ≡ pricedAll (c .key) regions regions (now (prices .entry)) ⌝ }
-{
-    let mut d = c;
-    let mut a: u64 = 0;
-    while a < regions {
-        let next = price_row(prices, d, regions, a);
-        d = next;
-        a += 1;
-    }
-}
-
-// Prices every pair of regions of a plan, in a lent table.
-pub fn price_links(prices: &mut [u64], seed: u64, regions: u64)
-    requires { ⌜ regions ≤ mostRegions ⌝ }
-    ensures { λ _. ⌜ now (prices .exit) ≡ pricesOf seed regions (now (prices .entry)) ⌝ }
-{
-    let n = at_least_one(regions);
-    let key = links_digest(seed);
-    let c = streams::at(key, 0);
-    price_rows(prices, c, n);
-}
-
-fn get(s: &[u64], i: usize) -> u64
-    ensures { λ r. ⌜ r ≡ getD (now (s .entry)) i 0 ⌝ }
-{
-    if i < s.len() { s[i] } else { 0 }
-}
-
-// The link between regions a and b.
-pub fn link_between(prices: &[u64], regions: u64, a: u64, b: u64) -> Link
-    requires { ⌜ (a < mostRegions) × (b < mostRegions) × (regions ≤ mostRegions) ⌝ }
-    ensures { λ r. ⌜ r ≡ linkAt (now (prices .entry)) regions a b ⌝ }
-{
-    let n = at_least_one(regions);
-    let at = (2 * (a * n + b)) as usize;
-    let base = Time::from_nanos(get(prices, at));
-    let rate = get(prices, at + 1);
-    Link { base, rate }
-}
-
 // Whether a plan can give this link: at most 160 ms, and at least 100,000,000 bytes a second.
 pub fn link_admitted(l: Link) -> bool
     ensures { λ r. ⌜ r ≡ linkAdmitted l ⌝ }
 {
     let base = l.base;
     base.ns <= 160_000_000 && 100_000_000 <= l.rate
-}
-
-// What a delivery costs: by its link, or without a plan the set latency and no time on the wire.
-pub fn cost_between(
-    prices: &[u64],
-    planned: bool,
-    regions: u64,
-    a: u64,
-    b: u64,
-    latency: Time,
-    bytes: u64,
-) -> Cost
-    requires { ⌜ (a < mostRegions) × (b < mostRegions) × (regions ≤ mostRegions) × (bytes ≤ mostBytes) ⌝ }
-    ensures { λ r. ⌜ r ≡ costOf planned (now (prices .entry)) regions a b (latency .ns) bytes ⌝ }
-{
-    if planned {
-        let l = link_between(prices, regions, a, b);
-        let base = l.base;
-        let wire = transmission(bytes, l.rate);
-        return Cost {
-            base,
-            transmission: wire,
-        };
-    }
-    Cost {
-        base: latency,
-        transmission: Time::ZERO,
-    }
 }

@@ -9,7 +9,7 @@ use Rattle.compress.specs.Compress.{iv, compressed}
 use Rattle.chunk.specs.Chunk.{wordsOf, blocks, chunk, parent}
 use Rattle.parts.proofs.Parts.{take-none, take-past}
 use Rattle.chunk.proofs.Laws.{words-take, blocks-next, blocks-last}
-use Rattle.lanes.specs.Lanes.{lane8, lane16, chunkAt, fourOf}
+use Rattle.lanes.specs.Lanes.{lane8, chunkAt, fourOf}
 
 -- what is left of chunk l, where the first chunk has all but the last 3072 bytes left
 pub left : List ℕ → ℕ → List ℕ
@@ -51,21 +51,21 @@ under-start s t h l n p =
     let e : length s - 3072 ≡ 1024 = omega arith in
     ap₂ (λ k i. blocks ((length (take k (drop (1024 * l) s)) - 1) / 64) i (take k (drop (1024 * l) s)) (t + l) 1 0) e p
 
-pub under-turn : (s : List ℕ) (t d : ℕ) (h rest m h′ next : List ℕ) (l : ℕ) → l < 4 → 3136 < length rest → Under s t d h rest l
-    → lane16 m l ≡ wordsOf (drop (1024 * l) rest) → lane8 h′ l ≡ compressed (lane8 h l) (lane16 m l) (t + l) 64 d → next ≡ drop 64 rest → Under s t 0 h′ next l
+pub under-turn : (s : List ℕ) (t d : ℕ) (h rest h′ next : List ℕ) (l : ℕ) → l < 4 → 3136 < length rest → Under s t d h rest l
+    → lane8 h′ l ≡ compressed (lane8 h l) (wordsOf (drop (1024 * l) rest)) (t + l) 64 d → next ≡ drop 64 rest → Under s t 0 h′ next l
 unfolding Under
-under-turn s t d h rest m h′ next l g n u p q r =
+under-turn s t d h rest h′ next l g n u q r =
     let a : length (left rest l) ≡ length rest - 3072 = length-left rest l g (omega arith) in
-    blocks-next (lane8 h l) (left rest l) (t + l) d 0 (omega arith) (left-next rest l r) refl (p ∙ left-words rest l (omega arith)) q ∙ u
+    blocks-next (lane8 h l) (left rest l) (t + l) d 0 (omega arith) (left-next rest l r) refl (left-words rest l (omega arith)) q ∙ u
 
-pub under-end : (s : List ℕ) (t d : ℕ) (h rest m r : List ℕ) (l : ℕ) → l < 4 → length rest ≡ 3136 → Under s t d h rest l
-    → lane16 m l ≡ wordsOf (drop (1024 * l) rest) → lane8 r l ≡ compressed (lane8 h l) (lane16 m l) (t + l) 64 (d + 2) → lane8 r l ≡ chunk (chunkAt s l) (t + l) 0
+pub under-end : (s : List ℕ) (t d : ℕ) (h rest r : List ℕ) (l : ℕ) → l < 4 → length rest ≡ 3136 → Under s t d h rest l
+    → lane8 r l ≡ compressed (lane8 h l) (wordsOf (drop (1024 * l) rest)) (t + l) 64 (d + 2) → lane8 r l ≡ chunk (chunkAt s l) (t + l) 0
 unfolding Under
-under-end s t d h rest m r l g n u p q =
+under-end s t d h rest r l g n u q =
     let a : length (left rest l) ≡ 64 = length-left rest l g (omega arith) ∙ ap (λ k. k - 3072) n in
     let e : d + 2 ≡ d + 2 + 0 = omega arith in
-    blocks-last (lane8 h l) (left rest l) (t + l) d 0 (omega arith) (p ∙ left-words rest l (omega arith) ∙ ap wordsOf (sym (take-past 64 (left rest l) (omega arith))))
-    (q ∙ ap₂ (λ b f. compressed (lane8 h l) (lane16 m l) (t + l) b f) (sym a) e) ∙ u
+    blocks-last (lane8 h l) (left rest l) (t + l) d 0 (omega arith) (left-words rest l (omega arith) ∙ ap wordsOf (sym (take-past 64 (left rest l) (omega arith))))
+    (q ∙ ap₂ (λ b f. compressed (lane8 h l) (wordsOf (drop (1024 * l) rest)) (t + l) b f) (sym a) e) ∙ u
 
 pub four-made : (s : List ℕ) (t e : ℕ) (h c0 c1 c2 c3 a b : List ℕ) {v : List ℕ} → ((l : ℕ) → l < 4 → lane8 h l ≡ chunk (chunkAt s l) (t + l) 0)
     → c0 ≡ lane8 h 0 → c1 ≡ lane8 h 1 → c2 ≡ lane8 h 2 → c3 ≡ lane8 h 3 → a ≡ parent c0 c1 0 → b ≡ parent c2 c3 0 → v ≡ parent a b e → v ≡ fourOf s t e

@@ -11,7 +11,7 @@ use Rattle.compress.specs.Compress.{compressed, folded, roundOf, rounds}
 use Rattle.chunk.specs.Chunk.{wordsOf}
 use Rattle.word.specs.Word.{leWord}
 use Rattle.lanes.specs.Schedule.{scheduled}
-use Rattle.lanes.specs.Lanes.{lane8, lane16}
+use Rattle.lanes.specs.Lanes.{lane8}
 
 -- seven rounds
 pub rounds-made : (m l0 l1 l2 l3 l4 l5 l6 : List ℕ) {l7 : List ℕ}
@@ -77,15 +77,15 @@ length-compressed : (h m : List ℕ) (t b d : ℕ) → length (compressed h m t 
 unfolding compressed folded
 length-compressed h m t b d = refl
 
--- a turn of the loop over the lanes
-module _ (h m out r : List ℕ) (t d l : ℕ) where
-  here : length out ≡ 32 → l < 4 → r ≡ compressed (lane8 h l) (lane16 m l) (t + l) 64 d → lane8 (stored out l 0 (getD r 0 0 ∷ getD r 1 0 ∷ getD r 2 0 ∷ getD r 3 0 ∷ getD r 4 0 ∷ getD r 5 0 ∷ getD r 6 0 ∷ getD r 7 0 ∷ [])) l ≡ compressed (lane8 h l) (lane16 m l) (t + l) 64 d
+-- a turn of the loop over the lanes; m l are the message words of lane l
+module _ (h : List ℕ) (m : ℕ → List ℕ) (out r : List ℕ) (t d l : ℕ) where
+  here : length out ≡ 32 → l < 4 → r ≡ compressed (lane8 h l) (m l) (t + l) 64 d → lane8 (stored out l 0 (getD r 0 0 ∷ getD r 1 0 ∷ getD r 2 0 ∷ getD r 3 0 ∷ getD r 4 0 ∷ getD r 5 0 ∷ getD r 6 0 ∷ getD r 7 0 ∷ [])) l ≡ compressed (lane8 h l) (m l) (t + l) 64 d
   here n g p =
       lane8-same out l (getD r 0 0) (getD r 1 0) (getD r 2 0) (getD r 3 0) (getD r 4 0) (getD r 5 0) (getD r 6 0) (getD r 7 0) n g
-      ∙ sym (eight r (ap length p ∙ length-compressed (lane8 h l) (lane16 m l) (t + l) 64 d)) ∙ p
+      ∙ sym (eight r (ap length p ∙ length-compressed (lane8 h l) (m l) (t + l) 64 d)) ∙ p
 
-  pub step-turn : length out ≡ 32 → l < 4 → ((j : ℕ) → j < l → lane8 out j ≡ compressed (lane8 h j) (lane16 m j) (t + j) 64 d) → r ≡ compressed (lane8 h l) (lane16 m l) (t + l) 64 d
-      → (j : ℕ) → j < l + 1 → lane8 (stored out l 0 (getD r 0 0 ∷ getD r 1 0 ∷ getD r 2 0 ∷ getD r 3 0 ∷ getD r 4 0 ∷ getD r 5 0 ∷ getD r 6 0 ∷ getD r 7 0 ∷ [])) j ≡ compressed (lane8 h j) (lane16 m j) (t + j) 64 d
+  pub step-turn : length out ≡ 32 → l < 4 → ((j : ℕ) → j < l → lane8 out j ≡ compressed (lane8 h j) (m j) (t + j) 64 d) → r ≡ compressed (lane8 h l) (m l) (t + l) 64 d
+      → (j : ℕ) → j < l + 1 → lane8 (stored out l 0 (getD r 0 0 ∷ getD r 1 0 ∷ getD r 2 0 ∷ getD r 3 0 ∷ getD r 4 0 ∷ getD r 5 0 ∷ getD r 6 0 ∷ getD r 7 0 ∷ [])) j ≡ compressed (lane8 h j) (m j) (t + j) 64 d
   step-turn n g inv p =
       below-more _ _ (λ j k. lane8-other out l (getD r 0 0) (getD r 1 0) (getD r 2 0) (getD r 3 0) (getD r 4 0) (getD r 5 0) (getD r 6 0) (getD r 7 0) j (λ e. omega arith) g (omega arith) ∙ inv j k) (here n g p)
 
@@ -96,73 +96,3 @@ below-four P a b c d (suc zero) h = b
 below-four P a b c d (suc (suc zero)) h = c
 below-four P a b c d (suc (suc (suc zero))) h = d
 below-four P a b c d (suc (suc (suc (suc l)))) h = absurd (omega arith)
-
--- a word of what follows the first n bytes
-word-drop : (n : ℕ) (s : List ℕ) (i : ℕ) → leWord (drop n s) i ≡ leWord s (i + n)
-unfolding leWord
-word-drop n s i =
-    let e0 : n + i ≡ i + n = omega arith in
-    let e1 : n + (i + 1) ≡ i + n + 1 = omega arith in
-    let e2 : n + (i + 2) ≡ i + n + 2 = omega arith in
-    let e3 : n + (i + 3) ≡ i + n + 3 = omega arith in
-    let a0 : getD (drop n s) i 0 ≡ getD s (i + n) 0 = getD-drop n s i 0 ∙ ap (λ k. getD s k 0) e0 in
-    let a1 : getD (drop n s) (i + 1) 0 ≡ getD s (i + n + 1) 0 = getD-drop n s (i + 1) 0 ∙ ap (λ k. getD s k 0) e1 in
-    let a2 : getD (drop n s) (i + 2) 0 ≡ getD s (i + n + 2) 0 = getD-drop n s (i + 2) 0 ∙ ap (λ k. getD s k 0) e2 in
-    let a3 : getD (drop n s) (i + 3) 0 ≡ getD s (i + n + 3) 0 = getD-drop n s (i + 3) 0 ∙ ap (λ k. getD s k 0) e3 in
-    cc
-
--- the words of the first i places of every lane are loaded
-pub record Loaded (m s : List ℕ) (i : ℕ) : Type 0 where
-  pub len : length m ≡ 64
-  pub word : (j : ℕ) → j < i → (l : ℕ) → l < 4 → getD m (4 * j + l) 0 ≡ leWord s (4 * j + 1024 * l)
-
-pub loaded-none : (m s : List ℕ) → length m ≡ 64 → Loaded m s 0
-loaded-none m s n = record { len = n; word = λ j h. absurd (omega arith) }
-
--- a turn of the loop over the words
-module _ (m s : List ℕ) (i w0 w1 w2 w3 : ℕ) where
-  four-set : List ℕ
-  four-set = set (set (set (set m (4 * i + 0) w0) (4 * i + 1) w1) (4 * i + 2) w2) (4 * i + 3) w3
-
-  before : (p : ℕ) → p < 4 * i → getD four-set p 0 ≡ getD m p 0
-  unfolding four-set
-  before p h =
-      getD-set-other (set (set (set m (4 * i + 0) w0) (4 * i + 1) w1) (4 * i + 2) w2) (4 * i + 3) p w3 0 (λ e. omega arith)
-      ∙ getD-set-other (set (set m (4 * i + 0) w0) (4 * i + 1) w1) (4 * i + 2) p w2 0 (λ e. omega arith)
-      ∙ getD-set-other (set m (4 * i + 0) w0) (4 * i + 1) p w1 0 (λ e. omega arith)
-      ∙ getD-set-other m (4 * i + 0) p w0 0 (λ e. omega arith)
-
-  pub load-turn : Loaded m s i → i < 16 → w0 ≡ leWord s (4 * i + 0) → w1 ≡ leWord s (4 * i + 1024) → w2 ≡ leWord s (4 * i + 2048) → w3 ≡ leWord s (4 * i + 3072)
-      → Loaded (set (set (set (set m (4 * i + 0) w0) (4 * i + 1) w1) (4 * i + 2) w2) (4 * i + 3) w3) s (i + 1)
-  unfolding four-set
-  load-turn ld h p0 p1 p2 p3 =
-      let n0 : length m ≡ 64 = ld .len in
-      let n1 : length (set m (4 * i + 0) w0) ≡ 64 = length-set m (4 * i + 0) w0 ∙ n0 in
-      let n2 : length (set (set m (4 * i + 0) w0) (4 * i + 1) w1) ≡ 64 = length-set (set m (4 * i + 0) w0) (4 * i + 1) w1 ∙ n1 in
-      let n3 : length (set (set (set m (4 * i + 0) w0) (4 * i + 1) w1) (4 * i + 2) w2) ≡ 64 = length-set (set (set m (4 * i + 0) w0) (4 * i + 1) w1) (4 * i + 2) w2 ∙ n2 in
-      let n4 : length four-set ≡ 64 = length-set (set (set (set m (4 * i + 0) w0) (4 * i + 1) w1) (4 * i + 2) w2) (4 * i + 3) w3 ∙ n3 in
-      let a3 : getD four-set (4 * i + 3) 0 ≡ w3 = getD-set-same (set (set (set m (4 * i + 0) w0) (4 * i + 1) w1) (4 * i + 2) w2) (4 * i + 3) w3 0 (omega arith) in
-      let a2 : getD four-set (4 * i + 2) 0 ≡ w2
-      = getD-set-other (set (set (set m (4 * i + 0) w0) (4 * i + 1) w1) (4 * i + 2) w2) (4 * i + 3) (4 * i + 2) w3 0 (λ e. omega arith)
-      ∙ getD-set-same (set (set m (4 * i + 0) w0) (4 * i + 1) w1) (4 * i + 2) w2 0 (omega arith) in
-      let a1 : getD four-set (4 * i + 1) 0 ≡ w1
-      = getD-set-other (set (set (set m (4 * i + 0) w0) (4 * i + 1) w1) (4 * i + 2) w2) (4 * i + 3) (4 * i + 1) w3 0 (λ e. omega arith)
-      ∙ getD-set-other (set (set m (4 * i + 0) w0) (4 * i + 1) w1) (4 * i + 2) (4 * i + 1) w2 0 (λ e. omega arith)
-      ∙ getD-set-same (set m (4 * i + 0) w0) (4 * i + 1) w1 0 (omega arith) in
-      let a0 : getD four-set (4 * i + 0) 0 ≡ w0
-      = getD-set-other (set (set (set m (4 * i + 0) w0) (4 * i + 1) w1) (4 * i + 2) w2) (4 * i + 3) (4 * i + 0) w3 0 (λ e. omega arith)
-      ∙ getD-set-other (set (set m (4 * i + 0) w0) (4 * i + 1) w1) (4 * i + 2) (4 * i + 0) w2 0 (λ e. omega arith)
-      ∙ getD-set-other (set m (4 * i + 0) w0) (4 * i + 1) (4 * i + 0) w1 0 (λ e. omega arith)
-      ∙ getD-set-same m (4 * i + 0) w0 0 (omega arith) in
-      record {
-        len = n4;
-        word = below-more _ _ (λ j k l g. before (4 * j + l) (omega arith) ∙ ld .word j k l g)
-            (below-four (λ l. getD four-set (4 * i + l) 0 ≡ leWord s (4 * i + 1024 * l)) (a0 ∙ p0) (a1 ∙ p1) (a2 ∙ p2) (a3 ∙ p3));
-      }
-
--- every word is loaded
-pub loaded-words : (m s : List ℕ) (i : ℕ) → i ≡ 16 → Loaded m s i → (l : ℕ) → l < 4 → lane16 m l ≡ wordsOf (drop (1024 * l) s)
-unfolding lane16 wordsOf
-loaded-words m s i e ld l h =
-    let at : (j : ℕ) → j < 16 → getD m (4 * j + l) 0 ≡ leWord (drop (1024 * l) s) (4 * j) = λ j k. ld .word j (omega arith) l h ∙ sym (word-drop (1024 * l) s (4 * j)) in
-    list16 (at 0 (omega arith)) (at 1 (omega arith)) (at 2 (omega arith)) (at 3 (omega arith)) (at 4 (omega arith)) (at 5 (omega arith)) (at 6 (omega arith)) (at 7 (omega arith)) (at 8 (omega arith)) (at 9 (omega arith)) (at 10 (omega arith)) (at 11 (omega arith)) (at 12 (omega arith)) (at 13 (omega arith)) (at 14 (omega arith)) (at 15 (omega arith))

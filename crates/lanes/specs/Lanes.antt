@@ -8,10 +8,6 @@ use Rattle.chunk.specs.Chunk.{chunkBytes, chunk, parent}
 unfoldable pub lane8 : List ℕ → ℕ → List ℕ
 lane8 xs l = getD xs (0 + l) 0 ∷ getD xs (4 + l) 0 ∷ getD xs (8 + l) 0 ∷ getD xs (12 + l) 0 ∷ getD xs (16 + l) 0 ∷ getD xs (20 + l) 0 ∷ getD xs (24 + l) 0 ∷ getD xs (28 + l) 0 ∷ []
 
--- a lane's message block, of 16 words
-unfoldable pub lane16 : List ℕ → ℕ → List ℕ
-lane16 xs l = getD xs (0 + l) 0 ∷ getD xs (4 + l) 0 ∷ getD xs (8 + l) 0 ∷ getD xs (12 + l) 0 ∷ getD xs (16 + l) 0 ∷ getD xs (20 + l) 0 ∷ getD xs (24 + l) 0 ∷ getD xs (28 + l) 0 ∷ getD xs (32 + l) 0 ∷ getD xs (36 + l) 0 ∷ getD xs (40 + l) 0 ∷ getD xs (44 + l) 0 ∷ getD xs (48 + l) 0 ∷ getD xs (52 + l) 0 ∷ getD xs (56 + l) 0 ∷ getD xs (60 + l) 0 ∷ []
-
 -- chunk l of the bytes s
 unfoldable pub chunkAt : List ℕ → ℕ → List ℕ
 chunkAt s l = take chunkBytes (drop (chunkBytes * l) s)

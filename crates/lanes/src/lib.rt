@@ -2,19 +2,19 @@
 mod rounds;
 
 use chunk::parent_value;
+use chunk::words_whole;
 use compress::Words;
 use compress::fold;
 use compress::start;
 use parts::back;
 use rounds::seven_rounds;
-use word::le_word;
 ghost use mathlib.Core.Path.{_≡_};
 ghost use Prim.Native.Nat.{ℕ, _+_, _*_, _<_, _≤_, _^_};
 ghost use lib.ListN.{length, drop};
 ghost use Rattle.compress.specs.Compress.{iv, compressed};
 ghost use Rattle.compress.specs.Words.{listOf};
 ghost use Rattle.chunk.specs.Chunk.{wordsOf, chunk};
-ghost use Rattle.lanes.specs.Lanes.{lane8, lane16, chunkAt, fourOf};
+ghost use Rattle.lanes.specs.Lanes.{lane8, chunkAt, fourOf};
 
 // The compression of a whole block.
 fn compress_block(h: [u32; 8], m: Words, t: u64, d: u32) -> [u32; 8]
@@ -40,40 +40,16 @@ fn lane(h: &[u32; 32], l: usize) -> [u32; 8]
     ]
 }
 
-// The message words of lane l.
-fn message(m: &[u32; 64], l: usize) -> Words
-    requires { ⌜ l < 4 ⌝ }
-    ensures { λ r. ⌜ listOf r ≡ lane16 (now (m .entry)) l ⌝ }
-{
-    Words {
-        w0: m[0 + l],
-        w1: m[4 + l],
-        w2: m[8 + l],
-        w3: m[12 + l],
-        w4: m[16 + l],
-        w5: m[20 + l],
-        w6: m[24 + l],
-        w7: m[28 + l],
-        w8: m[32 + l],
-        w9: m[36 + l],
-        w10: m[40 + l],
-        w11: m[44 + l],
-        w12: m[48 + l],
-        w13: m[52 + l],
-        w14: m[56 + l],
-        w15: m[60 + l],
-    }
-}
-
-// One block of each lane.
-fn step(h: [u32; 32], m: [u32; 64], t: u64, d: u32) -> [u32; 32]
-    requires { ⌜ t ≤ 2 ^ 32 ⌝ }
-    ensures { λ r. ⌜ ((l : ℕ) → l < 4 → lane8 r l ≡ compressed (lane8 h l) (lane16 m l) (t + l) 64 d) ⌝ }
+// One block of each lane: the first 64 bytes of s, and those 1,024, 2,048 and 3,072 bytes behind them.
+fn step(h: [u32; 32], s: &[u8], t: u64, d: u32) -> [u32; 32]
+    requires { ⌜ (3136 ≤ length (now s)) × (t ≤ 2 ^ 32) ⌝ }
+    ensures { λ r. ⌜ ((l : ℕ) → l < 4 → lane8 r l ≡ compressed (lane8 h l) (wordsOf (drop (1024 * l) (now (s .entry)))) (t + l) 64 d) ⌝ }
 {
     let mut out = [0u32; 32];
     let mut l: usize = 0;
     while l < 4 {
-        let r = compress_block(lane(&h, l), message(&m, l), t + l as u64, d);
+        let m = words_whole(back(s, 1024 * l));
+        let r = compress_block(lane(&h, l), m, t + l as u64, d);
         out[0 + l] = r[0];
         out[4 + l] = r[1];
         out[8 + l] = r[2];
@@ -85,23 +61,6 @@ fn step(h: [u32; 32], m: [u32; 64], t: u64, d: u32) -> [u32; 32]
         l += 1;
     }
     out
-}
-
-// The words of the next block of each lane.
-fn load(s: &[u8]) -> [u32; 64]
-    requires { ⌜ 3136 ≤ length (now s) ⌝ }
-    ensures { λ r. ⌜ ((l : ℕ) → l < 4 → lane16 r l ≡ wordsOf (drop (1024 * l) (now (s .entry)))) ⌝ }
-{
-    let mut m = [0u32; 64];
-    let mut i: usize = 0;
-    while i < 16 {
-        m[4 * i + 0] = le_word(s, 4 * i + 0);
-        m[4 * i + 1] = le_word(s, 4 * i + 1024);
-        m[4 * i + 2] = le_word(s, 4 * i + 2048);
-        m[4 * i + 3] = le_word(s, 4 * i + 3072);
-        i += 1;
-    }
-    m
 }
 
 // The initial chaining value in each lane.
@@ -153,13 +112,13 @@ fn chunks(s: &[u8], t: u64) -> [u32; 32]
     let mut d: u32 = 1;
     let mut rest = s;
     while 3136 < rest.len() {
-        let next = step(h, load(rest), t, d);
+        let next = step(h, rest, t, d);
         h = next;
         d = 0;
         let more = back(rest, 64);
         rest = more;
     }
-    step(h, load(rest), t, d + 2)
+    step(h, rest, t, d + 2)
 }
 
 // The chaining value of the tree over four whole chunks, from chunk t on.

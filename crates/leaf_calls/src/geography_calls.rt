@@ -59,7 +59,7 @@ fn link_in(prices: &[u64], regions: u64, a: u64, b: u64) -> Link {
     if held::MOST_REGIONS <= b {
         return no_link();
     }
-    geography::link_between(prices, regions, a, b)
+    link_prices::link_between(prices, regions, a, b)
 }
 
 fn link(setup: &[u64], prices: &[u64], from: u64, to: u64) -> Link {
@@ -193,7 +193,7 @@ fn cost(setup: &[u64], prices: &[u64], from: u64, to: u64, bytes: u64) -> Cost {
         return no_cost();
     }
     let latency = Time::from_nanos(held::cell(setup, held::LATENCY));
-    geography::cost_between(prices, is_planned(setup), regions, a, b, latency, bytes)
+    link_prices::cost_between(prices, is_planned(setup), regions, a, b, latency, bytes)
 }
 
 // A latency in nanoseconds, and the stream's count behind it.

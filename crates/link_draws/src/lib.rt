@@ -121,7 +121,7 @@ fn cost(setup: &[u64], prices: &[u64], from: usize, to: usize, bytes: u64) -> Co
     let a = region(setup, prices, from);
     let b = region(setup, prices, to);
     let latency = Time::from_nanos(setup[held::LATENCY]);
-    geography::cost_between(
+    link_prices::cost_between(
         prices,
         setup[held::PLANNED] != 0,
         setup[held::REGIONS],

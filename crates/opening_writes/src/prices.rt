@@ -18,7 +18,7 @@ fn price_pairs(prices: &mut [u64], n: usize, seed: u64, regions: u64)
     ensures { λ _. ⌜ now (prices .exit) ≡ pricesOf seed regions (replicate n 0) ++ drop n (now (prices .entry)) ⌝ }
 {
     fill::clear(prices, n);
-    geography::price_links(&mut prices[0..n], seed, regions);
+    link_prices::price_links(&mut prices[0..n], seed, regions);
 }
 
 // The regions of `tills` tills, behind the first n cells.

@@ -1,9 +1,11 @@
-// A call of a script on the tables of the network that is open: front parts of its sizes are lent, and the call is made.
+// A call of a script on the tables of the network that is open: front parts of its sizes are lent, the call is made, and notes are taken of it.
 use opening_tests::NetworkSizes;
 use opening_tests::RegionPlan;
 use opening_tests::TableSizes;
 use outcome::Outcome;
 use script::calls;
+use session::lines;
+use session::lines::Session;
 
 // The sizes of the network that is open, as its opening wrote them.
 fn open_sizes(setup: &[u64]) -> TableSizes {
@@ -197,10 +199,12 @@ fn size_of(which: u64, v: [u64; 8]) -> usize {
     v[0] as usize
 }
 
-// A call on the tables of the largest sizes; `room` holds the bytes that it was given.
+// A call on the tables of the largest sizes, and the notes for the figures of the run, which stand behind the due copies; `room` holds the bytes
+// that the call was given.
 pub fn call(
     which: u64,
     v: [u64; 8],
+    r: Session,
     room: &[u8],
     setup: &[u64],
     net: &mut [u64],
@@ -218,10 +222,11 @@ pub fn call(
     out: &mut [u64],
     due: &mut [u64],
     text: &mut [u8],
-    used: usize,
-) -> Outcome {
+) -> Session {
+    notes::before(due, which, setup, log);
+    let stood = notes::marks(setup, seen);
     let n = open_sizes(setup);
-    act(
+    let told = act(
         which,
         v,
         spelling::words::part(room, 0, size_of(which, v)),
@@ -241,6 +246,20 @@ pub fn call(
         out,
         due,
         text,
-        used,
-    )
+        r.used,
+    );
+    let counts = told.counts;
+    notes::after(
+        due,
+        which,
+        v,
+        told.number,
+        counts,
+        stood,
+        setup,
+        net,
+        seen,
+        out,
+    );
+    lines::called(text, r, told)
 }

@@ -76,6 +76,14 @@ pub fn verdict(p: Parsed, o: Opening, r: Session) -> u64 {
     calls::NONE
 }
 
+// Is a line skipped, or bad?
+pub fn passes(which: u64) -> bool {
+    if which == SKIPPED {
+        return true;
+    }
+    which == calls::NONE
+}
+
 // The run behind a line that is skipped, or bad.
 pub fn passed(text: &mut [u8], r: Session, which: u64) -> Session {
     let mut next = r;

@@ -6,69 +6,6 @@ use session::lines::Parsed;
 use session::lines::Session;
 use session::turns;
 
-// A call on the network that is open, with the notes for the figures of the run, which stand behind the due copies.
-fn call_line(
-    which: u64,
-    v: [u64; 8],
-    r: Session,
-    room: &[u8],
-    setup: &[u64],
-    net: &mut [u64],
-    names: &[u8],
-    tills: &mut [u64],
-    words: &mut [u64],
-    keys: &[u32],
-    prices: &[u64],
-    seen: &mut [u64],
-    waiting: &mut [u64],
-    rings: &mut [u64],
-    rules: &mut [u64],
-    blocks: &mut [u64],
-    log: &mut [u64],
-    out: &mut [u64],
-    due: &mut [u64],
-    text: &mut [u8],
-) -> Session {
-    notes::before(due, which, setup, log);
-    let stood = notes::marks(setup, seen);
-    let told = script_acts::call(
-        which,
-        v,
-        room,
-        setup,
-        net,
-        names,
-        tills,
-        words,
-        keys,
-        prices,
-        seen,
-        waiting,
-        rings,
-        rules,
-        blocks,
-        log,
-        out,
-        due,
-        text,
-        r.used,
-    );
-    let counts = told.counts;
-    notes::after(
-        due,
-        which,
-        v,
-        told.number,
-        counts,
-        stood,
-        setup,
-        net,
-        seen,
-        out,
-    );
-    lines::called(text, r, told)
-}
-
 // A line, acted on: an opening, a call on the network that is open, or neither.
 fn act(
     p: Parsed,
@@ -94,10 +31,7 @@ fn act(
 ) -> Session {
     let which = lines::verdict(p, o, r);
     let v = p.v;
-    if which == calls::NONE {
-        return lines::passed(text, r, which);
-    }
-    if which == lines::SKIPPED {
+    if lines::passes(which) {
         return lines::passed(text, r, which);
     }
     if which == calls::OPEN {
@@ -123,7 +57,7 @@ fn act(
             text,
         );
     }
-    call_line(
+    script_acts::call(
         which,
         v,
         r,

@@ -19,9 +19,6 @@ iv-lanes-requires c κs = search needs
 loop-holds : tie.Need-loop-holds Inv-loop μ-loop
 loop-holds c = let n = c .before .before .pre .0 in (omega arith, ap (λ k. k % 64) n, omega arith, λ l g. under-start _ _ _ l n (c .iv-lanes .ensures l g))
 
-load-requires : tie.Need-load-requires Inv-loop μ-loop
-load-requires c κs = search needs
-
 step-requires : tie.Need-step-requires Inv-loop μ-loop
 step-requires c κs = search needs
 
@@ -29,14 +26,11 @@ back-requires : tie.Need-back-requires Inv-loop μ-loop
 back-requires c κs = search needs
 
 loop-less : tie.Need-loop-less Inv-loop μ-loop
-loop-less c = let n = ap length (c .back .ensures) ∙ length-drop 64 (c .before .before .before .before .loop .rest .now) in omega arith
+loop-less c = let n = ap length (c .back .ensures) ∙ length-drop 64 (c .before .before .before .loop .rest .now) in omega arith
 
 loop-again : tie.Need-loop-again Inv-loop μ-loop
-loop-again c = let n = ap length (c .back .ensures) ∙ length-drop 64 (c .before .before .before .before .loop .rest .now) in let v = c .before .before .before .before .loop .inv in
-    (omega arith, omega arith, omega arith, λ l g. under-turn _ _ (c .before .before .before .before .loop .d) (c .before .before .before .before .loop .h) (c .before .before .before .before .loop .rest .now) (c .before .before .load .result) (c .before .step .result) (c .back .result .now) l g (omega arith) (v .3 l g) (c .before .before .load .ensures l g) (c .before .step .ensures l g) (c .back .ensures))
-
-load-requires-2 : tie.Need-load-requires-2 Inv-loop μ-loop
-load-requires-2 c κs = search needs
+loop-again c = let n = ap length (c .back .ensures) ∙ length-drop 64 (c .before .before .before .loop .rest .now) in let v = c .before .before .before .loop .inv in
+    (omega arith, omega arith, omega arith, λ l g. under-turn _ _ (c .before .before .before .loop .d) (c .before .before .before .loop .h) (c .before .before .before .loop .rest .now) (c .before .step .result) (c .back .result .now) l g (omega arith) (v .3 l g) (c .before .step .ensures l g) (c .back .ensures))
 
 add-step : tie.Need-add-step Inv-loop μ-loop
 add-step c = search needs
@@ -45,7 +39,7 @@ step-requires-2 : tie.Need-step-requires-2 Inv-loop μ-loop
 step-requires-2 c κs = search needs
 
 returns : tie.Need-returns Inv-loop μ-loop
-returns c = let v = c .before .before .before .loop .inv in λ l g. under-end _ _ (c .before .before .before .loop .d) (c .before .before .before .loop .h) (c .before .before .before .loop .rest .now) (c .before .load2 .result) (c .step2 .result) l g (omega arith) (v .3 l g) (c .before .load2 .ensures l g) (c .step2 .ensures l g)
+returns c = let v = c .before .before .loop .inv in λ l g. under-end _ _ (c .before .before .loop .d) (c .before .before .loop .h) (c .before .before .loop .rest .now) (c .step2 .result) l g (omega arith) (v .3 l g) (c .step2 .ensures l g)
 
 pub chunks-spec : {M : Type 1} → statement M
 chunks-spec =
@@ -55,12 +49,10 @@ chunks-spec =
     μ-loop
     iv-lanes-requires
     loop-holds
-    load-requires
     step-requires
     back-requires
     loop-less
     loop-again
-    load-requires-2
     add-step
     step-requires-2
     returns)

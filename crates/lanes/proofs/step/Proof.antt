@@ -1,28 +1,39 @@
 use native.Mathlib.Omega.{arith}
 use borrow.Author.Needs.{needs}
 use Rattle.lanes.proofs.Laws.{step-turn}
-use Rattle.lanes.specs.Lanes.{lane8, lane16}
+use Rattle.lanes.specs.Lanes.{lane8}
+use Rattle.chunk.specs.Chunk.{wordsOf}
 use Rattle.compress.specs.Compress.{compressed}
-use lib.ListN.{length, length-set}
-use mathlib.Core.Path.{_≡_, refl, ap₂, _∙_}
-use Prim.Native.Nat.{ℕ, _≤_, _<_, _-_, _+_}
+use lib.ListN.{length, drop, length-set, length-drop}
+use mathlib.Core.Path.{_≡_, refl, ap, ap₂, _∙_}
+use Prim.Native.Nat.{ℕ, _≤_, _<_, _-_, _+_, _*_}
 use Rattle.lanes.proofs.step.Statement.{statement}
 use Rattle.lanes.proofs.step.Tie as tie
 
 abbrev Inv-loop : tie.InvT-loop
-Inv-loop t d h m out₀ l₀ out l = (l ≤ 4) × (length out ≡ 32) × ((j : ℕ) → j < l → lane8 out j ≡ compressed (lane8 h j) (lane16 m j) (t + j) 64 d)
+Inv-loop s t d h out₀ l₀ out l = (l ≤ 4) × (length out ≡ 32) × ((j : ℕ) → j < l → lane8 out j ≡ compressed (lane8 h j) (wordsOf (drop (1024 * j) s)) (t + j) 64 d)
 
 abbrev μ-loop : tie.MeasureT-loop
-μ-loop t d h m out₀ l₀ out l = 4 - l
+μ-loop s t d h out₀ l₀ out l = 4 - l
 
 loop-holds : tie.Need-loop-holds Inv-loop μ-loop
 loop-holds c = (omega arith, refl, λ j k. absurd (omega arith))
 
+mul-back : tie.Need-mul-back Inv-loop μ-loop
+mul-back c = search needs
+
+back-requires : tie.Need-back-requires Inv-loop μ-loop
+back-requires c κs = search needs
+
+words-whole-requires : tie.Need-words-whole-requires Inv-loop μ-loop
+words-whole-requires c κs =
+    let l = c .before .before .loop in
+    let a = c .before .before .before .before .args in
+    let n = ap length (c .back .ensures) ∙ length-drop (1024 * l .l) (a .s .now) in
+    omega arith
+
 lane-requires : tie.Need-lane-requires Inv-loop μ-loop
 lane-requires c κs = search needs
-
-message-requires : tie.Need-message-requires Inv-loop μ-loop
-message-requires c κs = search needs
 
 add-compress-block : tie.Need-add-compress-block Inv-loop μ-loop
 add-compress-block c = search needs
@@ -133,7 +144,15 @@ loop-less : tie.Need-loop-less Inv-loop μ-loop
 loop-less c = search needs
 
 loop-again : tie.Need-loop-again Inv-loop μ-loop
-loop-again c = let l = c .before .before .before .before .before .before .loop in let a = c .before .before .before .before .before .before .before .args in (omega arith, simp length-set (l .inv .1), step-turn (a .t1) (a .t2) (l .out) (c .compress-block .result) (a .t) (a .d) (l .l) (l .inv .1) (omega arith) (l .inv .2) (c .compress-block .ensures ∙ ap₂ (λ x y. compressed x y (a .t + l .l) 64 (a .d)) (c .before .before .before .lane .ensures) (c .before .message .ensures)))
+loop-again c =
+    let l = c .before .before .before .before .before .before .loop in
+    let a = c .before .before .before .before .before .before .before .before .args in
+    let m = c .before .before .before .words-whole .ensures ∙ ap wordsOf (c .before .before .before .before .back .ensures) in (
+      omega arith,
+      simp length-set (l .inv .1),
+      step-turn (a .t1) (λ j. wordsOf (drop (1024 * j) (a .s .now))) (l .out) (c .compress-block .result) (a .t) (a .d) (l .l) (l .inv .1) (omega arith) (l .inv .2)
+          (c .compress-block .ensures ∙ ap₂ (λ x y. compressed x y (a .t + l .l) 64 (a .d)) (c .before .lane .ensures) m),
+    )
 
 returns : tie.Need-returns Inv-loop μ-loop
 returns c = let l = c .before .loop in λ j k. l .inv .2 j (omega arith)
@@ -145,8 +164,10 @@ step-spec =
     Inv-loop
     μ-loop
     loop-holds
+    mul-back
+    back-requires
+    words-whole-requires
     lane-requires
-    message-requires
     add-compress-block
     compress-block-requires
     array-read-out
