@@ -81,11 +81,11 @@ unfolding wordPair
 pair c d x y m p q = ap₂ (λ a b. a + 4294967296 * b) p (q ∙ ap₂ wordAt (m .key) (m .count))
 
 -- a draw on a stream record
-pub stepped : (key : List ℕ) (count v : ℕ) (c : Cursor) → count < 2 ^ 40 → c .key ≡ key → c .count ≡ count → v ≡ wordPair (c .key) (c .count)
+pub stepped : (key : List ℕ) (count v : ℕ) (c : Cursor) → count < 2 ^ 62 → c .key ≡ key → c .count ≡ count → v ≡ wordPair (c .key) (c .count)
     → _≡_ {A = Step} (record { value = v; count = count + 2 }) (stepOf key count)
 unfolding stepOf
-stepped key count v c h p q r = simp (lt-ltb count (2 ^ 40) h) (ap (λ x. record { value = x; count = count + 2 }) (r ∙ ap₂ wordPair p q))
+stepped key count v c h p q r = simp (lt-ltb count (2 ^ 62) h) (ap (λ x. record { value = x; count = count + 2 }) (r ∙ ap₂ wordPair p q))
 
-pub stands : (key : List ℕ) (count : ℕ) → 2 ^ 40 ≤ count → _≡_ {A = Step} (record { value = 0; count = count }) (stepOf key count)
+pub stands : (key : List ℕ) (count : ℕ) → 2 ^ 62 ≤ count → _≡_ {A = Step} (record { value = 0; count = count }) (stepOf key count)
 unfolding stepOf
-stands key count h = simp (le-ltb count (2 ^ 40) h)
+stands key count h = simp (le-ltb count (2 ^ 62) h)
