@@ -17,7 +17,7 @@ use Rattle.network.specs.Calls.{Call, Answer, answerOf, countsIn, rowsIn, deliv
 use Rattle.network.specs.Questions.{asked, firstNo}
 use Rattle.network.specs.Tables.{Tables, live}
 use Rattle.network.specs.Real.{openingOf, openingAt}
-use Rattle.network.specs.Writes.{Reply, isNumber, numberOf, exitT, answerT, tablesBy, replyBy, outputOf, callTables, callReply}
+use Rattle.network.specs.Writes.{Reply, isNumber, numberOf, exitT, answerT, tablesBy, replyBy, outputOf, callReply}
 use Rattle.network.specs.Open.{askedOpening, openNumber, openTables, openExit}
 use Rattle.book.specs.Book.{Book, landedIn, droppedIn, bookStep, expected, opened}
 use Rattle.book.specs.History.{hasSequence}
@@ -42,9 +42,6 @@ module _ (o : Opening) where
   module _ (T : Tables) (s : Live) (h : Held o T s) (c : Call) where
     reply-is : callReply T c ≡ replyBy o T c
     reply-is = ap (λ (q : Opening). replyBy q T c) (h .fixed .opening)
-
-    tables-are : callTables T c ≡ tablesBy o T c
-    tables-are = ap (λ (q : Opening). tablesBy q T c) (h .fixed .opening)
 
     pub number-is : numberOf o T c ≡ firstNo (asked o s c)
     number-is = rw (yes1 o T s h c) (ap (λ (q : Live). firstNo (asked o q c)) (h .wrote .holds))

@@ -172,7 +172,7 @@ pick-neg a b c h = go (ltb a b) (nltb→le a b)
     go false k = absurd (not-le-of-lt h (k tt))
 
 -- the order of the fractions is that of the units
-order : (X a dx Y b dy q : ℕ) → 0 < q → X * q ≡ a * dx → Y * q ≡ b * dy → b ≤ a → Y * dx ≤ X * dy
+pub order : (X a dx Y b dy q : ℕ) → 0 < q → X * q ≡ a * dx → Y * q ≡ b * dy → b ≤ a → Y * dx ≤ X * dy
 order X a dx Y b dy q K p r h = transfer Y X dy dx b a q q K K r p (mul-le-mul-right q h)
 
 order-lt : (X a dx Y b dy q : ℕ) → 0 < dx → 0 < dy → 0 < q → X * q ≡ a * dx → Y * q ≡ b * dy → a < b → X * dy < Y * dx

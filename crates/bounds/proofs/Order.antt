@@ -16,7 +16,7 @@ use lib.Ieee.Nearest.{closest-same}
 use lib.Ieee.Positive.{num, den, den-pos, value→cross}
 use Rattle.time.specs.Seconds.{second, nanos, nearestEven, milli, top, InRange}
 use Rattle.time.proofs.Limits.{nanos-most}
-use Rattle.bounds.proofs.Near.{Q}
+use Rattle.bounds.proofs.Near.{Q, order}
 use Rattle.bounds.proofs.Chain.{Val}
 
 -- ---- small things
@@ -36,9 +36,6 @@ neg-neg (fin true m e) = refl
 neg-neg (fin false m e) = refl
 
 -- ---- the order of two values, by their units
-turn-le : (X a dx Y b dy q : ℕ) → 0 < q → X * q ≡ a * dx → Y * q ≡ b * dy → b ≤ a → Y * dx ≤ X * dy
-turn-le X a dx Y b dy q K p r h = transfer Y X dy dx b a q q K K r p (mul-le-mul-right q h)
-
 back-le : (X a dx Y b dy q : ℕ) → 0 < dx → 0 < dy → 0 < q → X * q ≡ a * dx → Y * q ≡ b * dy → Y * dx ≤ X * dy → b ≤ a
 back-le X a dx Y b dy q DX DY K p r h = le-of-mul-le-mul-right (transfer b a q q Y X dy dx DY DX (sym r) (sym p) h) K
 
@@ -57,7 +54,7 @@ lt-value (fin false m e) (fin true n d) a b h k = absurd (true≢false (k .0))
 lt-value (fin false m e) (fin false n d) a b h k = go (ltb (m * up e * down d) (n * up d * down e)) (ltb→lt (m * up e * down d) (n * up d * down e)) (nltb→le (m * up e * down d) (n * up d * down e))
   where
     go : (t : Bool) → (T t → m * up e * down d < n * up d * down e) → (T (not t) → n * up d * down e ≤ m * up e * down d) → Ordered t a b
-    go true l r = lt-of-not-le (λ (g : b ≤ a). not-le-of-lt (l tt) (turn-le (m * up e) a (down e) (n * up d) b (down d) Q (pow-pos 1074) (h .1) (k .1) g))
+    go true l r = lt-of-not-le (λ (g : b ≤ a). not-le-of-lt (l tt) (order (m * up e) a (down e) (n * up d) b (down d) Q (pow-pos 1074) (h .1) (k .1) g))
     go false l r = back-le (m * up e) a (down e) (n * up d) b (down d) Q (down-pos e) (down-pos d) (pow-pos 1074) (h .1) (k .1) (r tt)
 
 pub lt-negative : (x : Float) (a : ℕ) → HasValue x true a Q → lt x milli ≡ true

@@ -3,8 +3,9 @@ use Prim.Native.Nat.{ℕ, suc, _+_, _-_, _<_, _≤_}
 use native.Mathlib.Omega.{arith}
 use mathlib.Core.Path.{_≡_, refl, ap, ap₂, sym, _∙_}
 use mathlib.Core.List.{List, [], _∷_}
+use lib.ListN.{length}
 use Rattle.compress.specs.declared.Quad.{Quad}
-use Rattle.compress.specs.Compress.{mixOf, putQuad, mixAt, columns, diagonals, permuted, roundOf, rounds}
+use Rattle.compress.specs.Compress.{mixOf, putQuad, mixAt, columns, diagonals, permuted, roundOf, rounds, folded, compressed}
 
 -- the state after the four diagonals, in its order
 unfoldable pub laid : Quad → Quad → Quad → Quad → List ℕ
@@ -44,3 +45,8 @@ unfolding rounds
 rounds-done i v m h k p =
     let e : 7 - i ≡ 0 = omega arith in
     sym (ap (λ n. rounds n v m) e) ∙ p
+
+-- a chaining value has 8 words
+pub length-compressed : (h m : List ℕ) (t b d : ℕ) → length (compressed h m t b d) ≡ 8
+unfolding compressed folded
+length-compressed h m t b d = refl

@@ -3,7 +3,7 @@ use mathlib.Core.Path.{_≡_, refl, sym, ap, _∙_, subst}
 use mathlib.Core.Bool.{true, false, _&&_, _||_, true≢false}
 use mathlib.Core.List.{List, [], _∷_}
 use Prim.Native.Nat.{ℕ, zero, suc, _+_, _*_, _/_, _%_, _^_, _≤_, _<_}
-use native.Mathlib.Nat.{lt-of-lt-of-le, le-of-lt, mul-comm, mul-assoc, mul-one, mul-pos, mul-lt-mul-of-pos-right, lt-of-mul-lt-mul-right, mul-mul-mul-comm, mod-lt}
+use native.Mathlib.Nat.{lt-of-lt-of-le, le-of-lt, mul-comm, mul-assoc, mul-one, mul-lt-mul-of-pos-right, lt-of-mul-lt-mul-right, mod-lt}
 use native.Mathlib.Omega.{arith}
 use lib.IntN.{pos}
 use lib.Dec.{eqb, ltb, lit≤, lit<}
@@ -14,7 +14,6 @@ use lib.Ieee.Bits.{is-true}
 use lib.Ieee.Exact.{HasValue, round-exact}
 use lib.Ieee.Back.{round-whole}
 use lib.Ieee.Fits.{down-pos}
-use lib.Ieee.Scale.{round-same}
 use lib.Ieee.Order.{le-of-values}
 use borrow.Author.Tests.{le-ltb, ne-eqb}
 use Rattle.word.specs.Word.{add32}
@@ -22,6 +21,7 @@ use Rattle.chacha.specs.Chacha.{wordAt, blockOf, sums, doubleRounds, initial}
 use Rattle.streams.specs.Streams.{wordPair}
 use Rattle.float.specs.Float.{zero64, one64}
 use Rattle.draw.specs.Fraction.{fraction, tiny53}
+use Rattle.bounds.proofs.Near.{mul-is}
 
 -- ---- a draw is below 2^64
 sums-lt : (s t : List ℕ) (i : ℕ) → getD (sums s t) i 0 < 2 ^ 32
@@ -40,21 +40,6 @@ unfolding wordPair
 pair-lt key n = let a = word-lt key n in let b = word-lt key (n + 1) in omega (arith, a, b)
 
 -- ---- its fraction is exact: the top 53 bits over 2^53
-cross-mul : (X a dx Y b dy q u : ℕ) → X * q ≡ a * dx → Y * u ≡ b * dy → X * Y * (q * u) ≡ a * b * (dx * dy)
-cross-mul X a dx Y b dy q u p r = mul-mul-mul-comm X Y q u ∙ ap (λ (z : ℕ). z * (Y * u)) p ∙ ap (λ (z : ℕ). a * dx * z) r ∙ mul-mul-mul-comm a dx b dy
-
-mul-is : (x y : Float) (a c b c' : ℕ) → 0 < c → 0 < c' → HasValue x false a c → HasValue y false b c' → mul binary64 x y ≡ round binary64 false (a * b) (c * c')
-unfolding mul
-mul-is nan y a c b c' C C' h k = absurd h
-mul-is (inf s) y a c b c' C C' h k = absurd h
-mul-is (fin s m e) nan a c b c' C C' h k = absurd k
-mul-is (fin s m e) (inf t) a c b c' C C' h k = absurd k
-mul-is (fin true m e) (fin t n d) a c b c' C C' h k = absurd (true≢false (h .0))
-mul-is (fin false m e) (fin true n d) a c b c' C C' h k = absurd (true≢false (k .0))
-mul-is (fin false m e) (fin false n d) a c b c' C C' h k =
-    round-same binary64 false (m * up e * (n * up d)) (down e * down d) (a * b) (c * c') (mul-pos (down-pos e) (down-pos d)) (mul-pos C C')
-    (cross-mul (m * up e) a (down e) (n * up d) b (down d) c c' (h .1) (k .1))
-
 of : ℕ → Float
 of k = ofInt binary64 (pos k)
 

@@ -1,21 +1,22 @@
 -- Ladders of tests: the way down a chain of `&&` or of `cond`, and what a ladder that was passed says. Assumes nothing.
-use mathlib.Core.Path.{_≡_, refl, sym, ap, _∙_}
+use mathlib.Core.Path.{_≡_, refl, sym, _∙_}
 use mathlib.Core.Bool.{Bool, true, false, cond, not, _&&_, false≢true}
 use Prim.Native.Nat.{ℕ, suc, _≤_, _<_}
 use native.Mathlib.Nat.{suc-ne-zero}
 use native.Mathlib.Omega.{arith}
 use lib.Dec.{leb}
 use borrow.Author.Tests.{le-leb, lt-leb}
+use Rattle.rule.proofs.Laws as rule
 
 -- ---- Questions with numbers: `firstNo` is a chain of `cond`
 
 -- a question that is answered "yes"
 pub yes : {A : Type 0} (b : Bool) (r x y : A) → b ≡ true → r ≡ x → r ≡ cond b x y
-yes b r x y e h = h ∙ ap (λ (c : Bool). cond c x y) (sym e)
+yes b r x y e h = rule.yes b r x y e h
 
 -- the question that is answered "no"
 pub no : {A : Type 0} (b : Bool) (r x y : A) → b ≡ false → r ≡ y → r ≡ cond b x y
-no b r x y e h = h ∙ ap (λ (c : Bool). cond c x y) (sym e)
+no b r x y e h = rule.no b r x y e h
 
 -- a ladder that ends in 0 has passed its first question
 pub under : (b : Bool) (x k : ℕ) → cond b x (suc k) ≡ 0 → (b ≡ true) × (x ≡ 0)

@@ -2,14 +2,13 @@
 use Prim.Native.Nat.{ℕ, zero, suc, _+_, _*_, _<_, _≤_}
 use mathlib.Core.Path.{_≡_, refl, ap, ap₂, sym, _∙_}
 use mathlib.Core.List.{List, [], _∷_}
-use lib.ListN.{getD, set, length, drop, length-set}
-use lib.Seq.{getD-set-same, getD-set-other, getD-drop}
+use lib.ListN.{getD, set, length, length-set}
+use lib.Seq.{getD-set-same, getD-set-other}
 use native.Mathlib.Omega.{arith}
 use borrow.Author.Count.{below-more}
-use Rattle.word.proofs.Lists.{eight, list16}
-use Rattle.compress.specs.Compress.{compressed, folded, roundOf, rounds}
-use Rattle.chunk.specs.Chunk.{wordsOf}
-use Rattle.word.specs.Word.{leWord}
+use Rattle.word.proofs.Lists.{eight}
+use Rattle.compress.specs.Compress.{compressed, roundOf, rounds}
+use Rattle.compress.proofs.Laws.{length-compressed}
 use Rattle.lanes.specs.Schedule.{scheduled}
 use Rattle.lanes.specs.Lanes.{lane8}
 
@@ -25,10 +24,6 @@ rounds-made m l0 l1 l2 l3 l4 l5 l6 p1 p2 p3 p4 p5 p6 p7 =
 abbrev pub stored : List ℕ → ℕ → ℕ → List ℕ → List ℕ
 stored xs l k [] = xs
 stored xs l k (v ∷ vs) = stored (set xs (k + l) v) l (k + 4) vs
-
-pub length-stored : (xs : List ℕ) (l k : ℕ) (vs : List ℕ) → length (stored xs l k vs) ≡ length xs
-length-stored xs l k [] = refl
-length-stored xs l k (v ∷ vs) = length-stored (set xs (k + l) v) l (k + 4) vs ∙ length-set xs (k + l) v
 
 -- a place below the stored ones keeps what it had
 stored-below : (xs : List ℕ) (l k : ℕ) (vs : List ℕ) (p : ℕ) → p < k + l → getD (stored xs l k vs) p 0 ≡ getD xs p 0
@@ -72,10 +67,6 @@ module _ (xs : List ℕ) (l : ℕ) (v0 v1 v2 v3 v4 v5 v6 v7 : ℕ) where
   unfolding lane8
   lane8-other j n g h =
       cc (stored-other xs l 0 (v0 ∷ v1 ∷ v2 ∷ v3 ∷ v4 ∷ v5 ∷ v6 ∷ v7 ∷ []) 0 j n g h, stored-other xs l 0 (v0 ∷ v1 ∷ v2 ∷ v3 ∷ v4 ∷ v5 ∷ v6 ∷ v7 ∷ []) 1 j n g h, stored-other xs l 0 (v0 ∷ v1 ∷ v2 ∷ v3 ∷ v4 ∷ v5 ∷ v6 ∷ v7 ∷ []) 2 j n g h, stored-other xs l 0 (v0 ∷ v1 ∷ v2 ∷ v3 ∷ v4 ∷ v5 ∷ v6 ∷ v7 ∷ []) 3 j n g h, stored-other xs l 0 (v0 ∷ v1 ∷ v2 ∷ v3 ∷ v4 ∷ v5 ∷ v6 ∷ v7 ∷ []) 4 j n g h, stored-other xs l 0 (v0 ∷ v1 ∷ v2 ∷ v3 ∷ v4 ∷ v5 ∷ v6 ∷ v7 ∷ []) 5 j n g h, stored-other xs l 0 (v0 ∷ v1 ∷ v2 ∷ v3 ∷ v4 ∷ v5 ∷ v6 ∷ v7 ∷ []) 6 j n g h, stored-other xs l 0 (v0 ∷ v1 ∷ v2 ∷ v3 ∷ v4 ∷ v5 ∷ v6 ∷ v7 ∷ []) 7 j n g h)
-
-length-compressed : (h m : List ℕ) (t b d : ℕ) → length (compressed h m t b d) ≡ 8
-unfolding compressed folded
-length-compressed h m t b d = refl
 
 -- a turn of the loop over the lanes; m l are the message words of lane l
 module _ (h : List ℕ) (m : ℕ → List ℕ) (out r : List ℕ) (t d l : ℕ) where

@@ -9,7 +9,7 @@ use lib.Dec.{eqb, leb, ltb}
 use lib.ListN.{length, getD, take, drop, replicate, length-append, length-replicate, List·getD-append}
 use lib.Seq.{take-at, drop-append-add, getD-append-add}
 use borrow.Author.Tests.{lt-ltb}
-use Rattle.compress.specs.Compress.{compressed, folded}
+use Rattle.compress.proofs.Laws.{length-compressed}
 use Rattle.chunk.specs.Chunk.{chunk, blocks, parent}
 use Rattle.digest.specs.Blake3.{hash, tree, pick}
 use Rattle.rows.specs.Rows.{flat}
@@ -23,10 +23,6 @@ use Rattle.network.specs.Tables.{cell}
 use Rattle.network.specs.Real.{keyWidth, keysOf, keyOf, pairCells, pricesWidth, pricedBy, regionAt}
 
 -- ---- A digest has 8 words
-
-length-compressed : (h m : List ℕ) (t b d : ℕ) → length (compressed h m t b d) ≡ 8
-unfolding compressed folded
-length-compressed h m t b d = refl
 
 length-blocks : (k : ℕ) (h s : List ℕ) (t d e : ℕ) → length (blocks k h s t d e) ≡ 8
 unfolding blocks

@@ -5,10 +5,10 @@ use mathlib.Core.List.{List, _∷_, _++_}
 use Prim.Native.Nat.{ℕ, _+_, _*_, _≤_, _<_}
 use native.Mathlib.Nat.{add-mul, mul-le-mul-right}
 use native.Mathlib.Omega.{arith}
-use lib.ListN.{length, take, drop, set, length-append, length-set, length-drop, take-append-drop}
+use lib.ListN.{length, take, drop, set, length-set, length-drop, take-append-drop}
 use lib.Seq.{drop-drop, length-take-le, take-set-le, take-set-lt, drop-set-lt, drop-set-add}
-use Rattle.rows.specs.Rows.{rows, keep, flat, kept}
-use Rattle.rows.proofs.Rows.{rows-put, length-flat, count-le}
+use Rattle.rows.specs.Rows.{rows, kept}
+use Rattle.rows.proofs.Rows.{rows-put}
 
 -- a store at word j of the S words from b
 set-part : (ws : List ℕ) (S b j v : ℕ) → j < S → set ws (b + j) v ≡ take b ws ++ (set (take S (drop b ws)) j v ++ drop (b + S) ws)
@@ -31,16 +31,6 @@ module _ {R : Type 0} (S : ℕ) (read : List ℕ → R) (alone : (l m : List ℕ
       let k : S ≤ length (drop (p * S) ws) = rw length-drop (omega (arith, q, add-mul p 1 S)) in
       ap (λ (x : List ℕ). rows S read x n) (set-part ws S (p * S) j v h)
       ∙ rows-put S read alone ws (set (take S (drop (p * S) ws)) j v) n p (length-set (take S (drop (p * S) ws)) j v ∙ length-take-le S (drop (p * S) ws) k) l room
-
--- kept rows leave the table as long as it was
-pub length-kept : {R : Type 0} (S : ℕ) (read : List ℕ → R) (words : R → List ℕ) (q : R → Bool) (len : (r : R) → length (words r) ≡ S)
-    (back : (r : R) (m : List ℕ) → read (words r ++ m) ≡ r) (ws : List ℕ) (n : ℕ) → n * S ≤ length ws → length (kept S read words q ws n) ≡ length ws
-unfolding kept
-length-kept {R} S read words q len back ws n room =
-    let l : List R = keep q (rows S read ws n) in
-    let f : length (flat words l) ≡ length l * S = length-flat S read words q len back l in
-    let k : length l * S ≤ n * S = mul-le-mul-right S (count-le S read words q len back ws n) in
-    length-append (flat words l) (drop (length l * S) ws) ∙ rw (f, length-drop) (omega arith)
 
 -- so does a write that is made only where a test holds
 pub chosen-length : (b : Bool) (x y : List ℕ) → (b ≡ true → length x ≡ length y) → length (cond b x y) ≡ length y

@@ -1,4 +1,3 @@
-use mathlib.Core.Path.{refl}
 use borrow.Author.Needs.{needs}
 use Rattle.script_acts.proofs.traffic.Statement.{statement}
 use Rattle.script_acts.proofs.traffic.Tie as tie
