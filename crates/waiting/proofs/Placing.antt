@@ -6,15 +6,14 @@ use Prim.Native.Nat.{ℕ, zero, suc, _+_, _*_, _-_, _≤_, _<_}
 use native.Mathlib.Nat.{zero-add}
 use native.Mathlib.Omega.{arith}
 use lib.Dec.{ltb}
-use lib.ListN.{length, take, drop, length-drop}
+use lib.ListN.{length, take, drop}
 use borrow.Author.Tests.{lt-ltb, le-ltb, eq-eqb, ne-eqb, le-leb, lt-leb}
 use Rattle.shift.specs.Shift.{putWords, opened}
-use Rattle.shift.proofs.Laws.{opened-put, length-opened}
-use Rattle.shift.proofs.Blocks.{up-part, opened-before}
+use Rattle.shift.proofs.Laws.{opened-put}
 use Rattle.rows.specs.Lists.{front}
 use Rattle.rows.specs.Table.{over}
 use Rattle.rows.proofs.Rows.{rows-split, rows-next, rows-first, rows-end, length-rows}
-use Rattle.rows.proofs.Table.{over-inserted, read-within}
+use Rattle.rows.proofs.Table.{over-inserted}
 use Rattle.waiting.specs.declared.Copy.{Copy}
 use Rattle.waiting.specs.Waiting.{width, read, words, form, copies, before, passes, insertCopy, past, placeOf, onTime}
 use Rattle.waiting.proofs.Reading.{exact}
@@ -108,27 +107,6 @@ module _ (c : Copy) where
 
     pub first : After 0 → 0 ≡ placeOf c (copies ws n)
     first a = sym (sym (ap (placeOf c) (rows-first width read ws n)) ∙ a)
-
-    -- a row that has not moved yet reads as it did
-    pub unmoved : (i : ℕ) → 0 < i → i ≤ n → (n + 1) * width ≤ length ws → read (drop ((i - 1) * width) (opened ws (i * width) (n * width) width)) ≡ read (drop ((i - 1) * width) ws)
-    unmoved i h k room =
-        let w : List ℕ = opened ws (i * width) (n * width) width in
-        let lo : length w ≡ length ws = length-opened ws (i * width) (n * width) width (omega arith) (omega arith) in
-        read-within form exact ws w (i * width) ((i - 1) * width) (opened-before ws (i * width) (n * width) width (omega arith)) (omega arith) (omega arith) (omega arith)
-
-    -- a row more is moved
-    pub moved : (i : ℕ) (r : Copy) → 0 < i → i ≤ n → (n + 1) * width ≤ length ws → r ≡ read (drop ((i - 1) * width) (opened ws (i * width) (n * width) width))
-        → putWords (opened ws (i * width) (n * width) width) ((i - 1) * width + width) (words r) ≡ opened ws ((i - 1) * width) (n * width) width
-    moved i r h k room e =
-        let b : ℕ = (i - 1) * width in
-        let q : i * width ≡ b + width = omega arith in
-        let w : List ℕ = opened ws (b + width) (n * width) width in
-        let lo : length w ≡ length ws = length-opened ws (b + width) (n * width) width (omega arith) (omega arith) in
-        let is : opened ws (i * width) (n * width) width ≡ w = ap (λ (j : ℕ). opened ws j (n * width) width) q in
-        let row : words r ≡ take width (drop b w) = ap words (e ∙ ap (λ (x : List ℕ). read (drop b x)) is) ∙ exact .whole (drop b w) (rw length-drop (omega arith)) in
-        ap (λ (x : List ℕ). putWords x (b + width) (words r)) is
-        ∙ ap (putWords w (b + width)) row
-        ∙ up-part ws b width (n * width) width (omega arith) (omega arith) lo
 
 -- what `insert` leaves
 pub inserted : (ws : List ℕ) (n : ℕ) (c : Copy) (p : ℕ) (l : List ℕ) → (n + 1) * width ≤ length ws → p ≡ placeOf c (copies ws n) → l ≡ opened ws (p * width) (n * width) width

@@ -65,32 +65,50 @@ fn is_before(a: Copy, b: Copy) -> bool
     false
 }
 
-// The rows at the back that c is before move up by one; the place that is free then.
-fn make_room(ws: &mut [u64], n: usize, c: Copy) -> usize
-    requires { ⌜ (n + 1) * width ≤ length (now ws) ⌝ }
-    ensures place { λ r. ⌜ r ≡ placeOf c (copies (now (ws .entry)) n) ⌝ }
-    ensures moved { λ r. ⌜ now (ws .exit) ≡ opened (now (ws .entry)) (r * width) (n * width) width ⌝ }
+// The place of c among n rows, found from the back: behind the last row that it is not before.
+fn place(ws: &[u64], n: usize, c: Copy) -> usize
+    requires { ⌜ n * width ≤ length (now ws) ⌝ }
+    ensures is { λ r. ⌜ r ≡ placeOf c (copies (now (ws .entry)) n) ⌝ }
     ensures within { λ r. ⌜ r ≤ n ⌝ }
 {
     let mut i = n;
     while 0 < i {
-        let b = (i - 1) * WIDTH;
-        let r = get(ws, b);
+        let r = get(ws, (i - 1) * WIDTH);
         if !is_before(c, r) {
             return i;
         }
-        put(ws, b + WIDTH, r);
         i -= 1;
     }
     0
 }
 
-// c among n rows, at its place.
+// The first n words move up by a row, the last one first. The distance is a constant, so LLVM makes one memmove of it.
+fn lift(ws: &mut [u64], n: usize)
+    requires { ⌜ n + width ≤ length (now ws) ⌝ }
+    ensures { λ r. ⌜ now (ws .exit) ≡ opened (now (ws .entry)) 0 n width ⌝ }
+{
+    let mut k = n;
+    while 0 < k {
+        k -= 1;
+        ws[k + WIDTH] = ws[k];
+    }
+}
+
+// The words from..to move up by a row.
+fn raise(ws: &mut [u64], from: usize, to: usize)
+    requires { ⌜ («from» ≤ to) × (to + width ≤ length (now ws)) ⌝ }
+    ensures { λ r. ⌜ now (ws .exit) ≡ opened (now (ws .entry)) «from» to width ⌝ }
+{
+    lift(&mut ws[from..], to - from);
+}
+
+// c among n rows, at its place; those from there on move up in one shift.
 pub fn insert(ws: &mut [u64], n: usize, c: Copy)
     requires { ⌜ (n + 1) * width ≤ length (now ws) ⌝ }
     ensures { λ r. ⌜ now (ws .exit) ≡ over form (insertCopy c (copies (now (ws .entry)) n)) (now (ws .entry)) ⌝ }
 {
-    let p = make_room(ws, n, c);
+    let p = place(ws, n, c);
+    raise(ws, p * WIDTH, n * WIDTH);
     put(ws, p * WIDTH, c);
 }
 

@@ -1,12 +1,20 @@
 use mathlib.Core.Path.{_∙_}
 use borrow.Author.Needs.{needs}
-use Rattle.waiting.specs.Waiting.{before}
 use Rattle.waiting.proofs.Placing.{inserted}
 use Rattle.waiting.proofs.insert.Statement.{statement}
 use Rattle.waiting.proofs.insert.Tie as tie
 
-make-room-requires : tie.Need-make-room-requires
-make-room-requires c κs = search needs
+place-requires : tie.Need-place-requires
+place-requires c κs = search needs
+
+mul-raise : tie.Need-mul-raise
+mul-raise c = search needs
+
+mul-raise-2 : tie.Need-mul-raise-2
+mul-raise-2 c = search needs
+
+raise-requires : tie.Need-raise-requires
+raise-requires c κs = search needs
 
 mul-put : tie.Need-mul-put
 mul-put c = search needs
@@ -18,7 +26,21 @@ same-length : tie.Need-same-length
 same-length c = search needs
 
 returns : tie.Need-returns
-returns c = let a = c .before .before .before .before .before .before .before .before .before .args in c .before .before .put .ensures ∙ inserted (a .ws .now) (a .n) (a .c) (c .before .before .before .before .before .before .make-room .result) (c .before .before .before .before .before .before .make-room .last .0) (c .before .before .before .before .before .before .before .before .before .pre) (c .before .before .before .before .before .before .make-room .ensures .0) (c .before .before .before .before .before .before .make-room .ensures .1 .0)
+returns c =
+    let a = c .before .before .before .before .before .before .before .before .before .before .before .args in
+    let p = c .before .before .before .before .before .before .before .before .place in
+    let m = c .before .before .before .before .before .before .raise in
+    c .before .before .put .ensures ∙ inserted (a .ws .now) (a .n) (a .c) (p .result) (m .last .0) (c .before .before .before .before .before .before .before .before .before .before .before .pre) (p .ensures .0) (m .ensures)
 
 pub insert-spec : {M : Type 1} → statement M
-insert-spec = tie.close (tie.spec make-room-requires mul-put put-requires same-length returns)
+insert-spec =
+    tie.close
+    (tie.spec
+    place-requires
+    mul-raise
+    mul-raise-2
+    raise-requires
+    mul-put
+    put-requires
+    same-length
+    returns)
