@@ -18,7 +18,7 @@ use Rattle.waiting.specs.Waiting as waiting
 use Rattle.waiting.specs.Waiting.{onTime}
 use Rattle.waiting.specs.declared.Copy.{Copy}
 use Rattle.marks.specs.Marks.{idsOf, removed}
-use Rattle.marks.proofs.Rising.{length-removed}
+use Rattle.marks.proofs.Ordered.{length-removed}
 use Rattle.card.specs.Card as card
 use Rattle.card.specs.Card.{fieldsOf}
 use Rattle.rule.specs.Rule.{has}

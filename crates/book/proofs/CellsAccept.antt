@@ -19,7 +19,7 @@ use Rattle.waiting.specs.Waiting as waiting
 use Rattle.waiting.specs.Waiting.{insertCopy}
 use Rattle.waiting.specs.declared.Copy.{Copy}
 use Rattle.waiting.proofs.Order.{length-insert, each-insert}
-use Rattle.marks.proofs.Rising.{length-placed}
+use Rattle.marks.proofs.Ordered.{each-placed, each-removed, length-placed}
 use Rattle.marks.specs.Marks.{idsOf, placed, removed, position, found}
 use Rattle.rings.specs.Rings as rings
 use Rattle.rules.specs.Rules.{ruleWidth, firedWord, fireTable}
@@ -94,14 +94,10 @@ ids-fit z T t f =
     each-at (Fit 64) (live z T .seen) t [] (each-upTo (Fit 64) (z .tills) (λ k. idsOf (T .seen) (idsStart z k) (cell (T .seen) k)) (λ k l. each-take In (cell (T .seen) k) (drop (idsStart z k) (T .seen)) (each-drop In (idsStart z k) (T .seen) (f .seen)))) tt
 
 pub placed-fit : (i : ℕ) (ids : List ℕ) → i < 2 ^ 64 → Fit 64 ids → Fit 64 (placed i ids)
-placed-fit i ids h e = each-append In (take (position i ids) ids) (i ∷ drop (position i ids) ids) (each-take In (position i ids) ids e) (h, each-drop In (position i ids) ids e)
+placed-fit i ids h e = each-placed (λ (v : ℕ). v < 2 ^ 64) i ids h e
 
 pub removed-fit : (i : ℕ) (ids : List ℕ) → Fit 64 ids → Fit 64 (removed i ids)
-removed-fit i ids e = go (found i ids)
-  where
-    go : (b : Bool) → Fit 64 (cond b (take (position i ids) ids ++ drop (suc (position i ids)) ids) ids)
-    go true = each-append (λ (v : ℕ). v < 2 ^ 64) (take (position i ids) ids) (drop (suc (position i ids)) ids) (each-take (λ (v : ℕ). v < 2 ^ 64) (position i ids) ids e) (each-drop (λ (v : ℕ). v < 2 ^ 64) (suc (position i ids)) ids e)
-    go false = e
+removed-fit i ids e = each-removed (λ (v : ℕ). v < 2 ^ 64) i ids e
 
 -- a cell anew stays at or below what old and new are
 pub set-most : (l : List ℕ) (i v j B : ℕ) → getD l j 0 ≤ B → v ≤ B → getD (set l i v) j 0 ≤ B

@@ -6,8 +6,8 @@ use mathlib.Core.Bool.{Bool, true, false, false≢true}
 use mathlib.Core.List.{List, [], _∷_, _++_, reverseAux}
 use lib.ListN.{length, drop}
 use Rattle.waiting.proofs.Order.{front-all}
-use Rattle.marks.specs.Marks.{Rises}
-use Rattle.marks.proofs.Rising.{found-member}
+use Rattle.marks.specs.Marks.{Ordered}
+use Rattle.marks.proofs.Ordered.{none-ordered, found-member}
 use Rattle.network.specs.Lists.{count}
 use Rattle.network.specs.Opening.{Settings, Opening}
 use Rattle.network.specs.Live.{Live, idsAt}
@@ -196,7 +196,7 @@ module _ (o : Opening) where
     same-copies = k .places;
     one-place = λ n. sym (k .places (hasSequence n)) ∙ k .numbers n;
     two-apart = λ after between before c d t i e oc od. two-originals (b .past) after between before c d t i (k .apart) e oc od;
-    marks = λ t i. found-member i (idsAt (b .live) t) (each-at Rises (b .live .seen) t [] (k .rises) tt) ∙ sym (k .marks t i);
+    marks = λ t i. found-member i (idsAt (b .live) t) (each-at Ordered (b .live .seen) t [] (k .ordered) none-ordered) ∙ sym (k .marks t i);
     sorted = k .order;
     due-all = λ now. front-all now (b .live .waiting) (k .order);
     rule-ids = k .ids;

@@ -17,8 +17,8 @@ use Rattle.delivery.specs.declared.Delivery.{Delivery}
 use Rattle.waiting.specs.Waiting.{insertCopy}
 use Rattle.waiting.specs.declared.Copy.{Copy}
 use Rattle.waiting.proofs.Order.{length-insert, each-insert}
-use Rattle.marks.specs.Marks.{placed, Rises}
-use Rattle.marks.proofs.Rising.{length-placed, rises-placed}
+use Rattle.marks.specs.Marks.{placed, Ordered}
+use Rattle.marks.proofs.Ordered.{none-ordered, length-placed, ordered-placed}
 use Rattle.rules.specs.declared.FaultRule.{FaultRule}
 use Rattle.decide.specs.Decide.{Decision, rulesAfter}
 use Rattle.network.specs.Opening.{Sizes, Opening, links, longestWire, mostTills, mostTypes, mostClasses, mostShards, mostSlots}
@@ -133,7 +133,7 @@ module _ (z : Sizes) where
     pub masks : Each (λ (t : Till). nearTill z t ≡ true) (s .tills)
     pub hosts : length (s .seen) ≡ z .tills
     pub seen : Each (Small (z .seenSlots)) (s .seen)
-    pub rises : Each Rises (s .seen)
+    pub ordered : Each Ordered (s .seen)
     pub engine : EngineFits (s .engine)
     pub rings : RingsFit (s .rings)
     pub words : length (s .words) ≡ links
@@ -217,14 +217,14 @@ module _ (o : Opening) (m : Message) where
     pub effect-fits : (c : Class) → (c ≡ sent → marked s t (m .id) ≡ false) → t < o .sizes .tills → Ready s t → length (s .waiting) + 3 ≤ o .sizes .waitSlots → Fits (o .sizes) (effect o m c s d t)
     effect-fits deduplicated h b r w = f
     effect-fits partition h b r w = f
-    effect-fits loss h b r w = record { tills = f .tills; masks = f .masks; hosts = f .hosts; seen = f .seen; rises = f .rises; engine = f .engine; rings = f .rings; words = length-set (s .words) _ _ ∙ f .words; queue = f .queue; log = f .log }
-    effect-fits fault h b r w = record { tills = f .tills; masks = f .masks; hosts = f .hosts; seen = f .seen; rises = f .rises; engine = ruled-fits (o .sizes) (s .engine) (d .verdict) (f .engine); rings = f .rings; words = length-set (s .words) _ _ ∙ f .words; queue = f .queue; log = f .log }
+    effect-fits loss h b r w = record { tills = f .tills; masks = f .masks; hosts = f .hosts; seen = f .seen; ordered = f .ordered; engine = f .engine; rings = f .rings; words = length-set (s .words) _ _ ∙ f .words; queue = f .queue; log = f .log }
+    effect-fits fault h b r w = record { tills = f .tills; masks = f .masks; hosts = f .hosts; seen = f .seen; ordered = f .ordered; engine = ruled-fits (o .sizes) (s .engine) (d .verdict) (f .engine); rings = f .rings; words = length-set (s .words) _ _ ∙ f .words; queue = f .queue; log = f .log }
     effect-fits sent h b r w = record {
       tills = f .tills;
       masks = f .masks;
       hosts = length-set (s .seen) t _ ∙ f .hosts;
       seen = each-set (Small (o .sizes .seenSlots)) (s .seen) t (placed (m .id) (idsAt s t)) (f .seen) (omega (arith, room s t r (h refl), length-placed (m .id) (idsAt s t)));
-      rises = each-set Rises (s .seen) t (placed (m .id) (idsAt s t)) (f .rises) (rises-placed (m .id) (idsAt s t) (h refl) (each-at Rises (s .seen) t [] (f .rises) tt));
+      ordered = each-set Ordered (s .seen) t (placed (m .id) (idsAt s t)) (f .ordered) (ordered-placed (m .id) (idsAt s t) (h refl) (each-at Ordered (s .seen) t [] (f .ordered) none-ordered));
       engine = ruled-fits (o .sizes) (s .engine) (d .verdict) (f .engine);
       rings = remembered-fits k (s .rings) (f .rings);
       words = length-set (s .words) _ _ ∙ f .words;
@@ -253,8 +253,8 @@ module _ (o : Opening) (m : Message) where
         go : (x : Bool) → eqb u t ≡ x → Ready (effect o m sent s d t) u
         go true p = rw (there, found-placed (m .id) (idsAt s t) own (h refl))
           where
-            own : Rises (idsAt s t)
-            own = each-at Rises (s .seen) t [] (f .rises) tt
+            own : Ordered (idsAt s t)
+            own = each-at Ordered (s .seen) t [] (f .ordered) none-ordered
 
             there : getD (mark t (m .id) (s .seen)) u [] ≡ placed (m .id) (idsAt s t)
             there = ap (λ (x : ℕ). getD (mark t (m .id) (s .seen)) x []) (eqb-true u t p) ∙ getD-set-same (s .seen) t (placed (m .id) (idsAt s t)) [] (omega (arith, f .hosts))

@@ -13,8 +13,8 @@ use Rattle.book.specs.History.{originalOf, clears, standing}
 use Rattle.rows.specs.Rows.{pick}
 use Rattle.rows.specs.Lists.{Each}
 use Rattle.waiting.specs.declared.Copy.{Copy}
-use Rattle.marks.specs.Marks.{found, placed, removed, Rises, member}
-use Rattle.marks.proofs.Rising.{place, without, found-member, placed-place, removed-without, rises-placed, rises-removed}
+use Rattle.marks.specs.Marks.{found, placed, removed, Ordered, member}
+use Rattle.marks.proofs.Ordered.{removed-none, none-ordered, found-member, member-placed, member-removed, ordered-placed, ordered-removed}
 use Rattle.network.specs.Accept.{mark}
 use Rattle.book.proofs.Each.{each-at, each-set}
 use Rattle.network.specs.Flush.{unmark, clearing, stops}
@@ -38,29 +38,16 @@ module _ {A : Type 0} (d : A) where
   getD-update f h (x ∷ xs) zero = refl
   getD-update f h (x ∷ xs) (suc t) = getD-update f h xs t
 
-pub member-place : (i j : ℕ) (l : List ℕ) → member i (place j l) ≡ (eqb i j || member i l)
-member-place i j [] = refl
-member-place i j (x ∷ l) = go (ltb x j) (member-place i j l)
-  where
-    swap : (a b c : Bool) → (a || (b || c)) ≡ (b || (a || c))
-    swap true true c = refl
-    swap true false c = refl
-    swap false b c = refl
-
-    go : (u : Bool) → member i (place j l) ≡ (eqb i j || member i l) → member i (cond u (x ∷ place j l) (j ∷ x ∷ l)) ≡ (eqb i j || (eqb i x || member i l))
-    go true h = ap (λ (z : Bool). eqb i x || z) h ∙ swap (eqb i x) (eqb i j) (member i l)
-    go false h = refl
-
-pub found-placed : (i : ℕ) (l : List ℕ) → Rises l → found i l ≡ false → found i (placed i l) ≡ true
-found-placed i l r f = found-member i (placed i l) (rises-placed i l f r) ∙ ap (member i) (placed-place i l r) ∙ member-place i i l ∙ rw (eq-eqb i i refl)
+pub found-placed : (i : ℕ) (l : List ℕ) → Ordered l → found i l ≡ false → found i (placed i l) ≡ true
+found-placed i l r f = found-member i (placed i l) (ordered-placed i l f r) ∙ member-placed i i l r ∙ rw (eq-eqb i i refl)
 
 -- the mark of j at u is set: read at i, t
-pub member-set : (seen : List (List ℕ)) (u j t i : ℕ) → u < length seen → Each Rises seen
+pub member-set : (seen : List (List ℕ)) (u j t i : ℕ) → u < length seen → Each Ordered seen
     → member i (getD (mark u j seen) t []) ≡ ((eqb i j && eqb t u) || member i (getD seen t []))
-member-set seen u j t i h r = ap (λ (l : List ℕ). member i (getD (set seen u l) t [])) (placed-place j (getD seen u []) (each-at Rises seen u [] r tt)) ∙ go (eqb t u) refl
+member-set seen u j t i h r = go (eqb t u) refl
   where
     new : List ℕ
-    new = place j (getD seen u [])
+    new = placed j (getD seen u [])
 
     and-true : (b : Bool) → (b && true) ≡ b
     and-true true = refl
@@ -71,31 +58,13 @@ member-set seen u j t i h r = ap (λ (l : List ℕ). member i (getD (set seen u 
     and-false false = refl
 
     go : (b : Bool) → eqb t u ≡ b → member i (getD (set seen u new) t []) ≡ ((eqb i j && b) || member i (getD seen t []))
-    go true p = rw (and-true (eqb i j), eqb-true t u p, getD-set-same seen u new [] h) (member-place i j (getD seen u []))
+    go true p = rw (and-true (eqb i j), eqb-true t u p, getD-set-same seen u new [] h) (member-placed i j (getD seen u []) (each-at Ordered seen u [] r none-ordered))
     go false p = rw (and-false (eqb i j)) (ap (member i) (getD-set-other seen u t new [] (eqb-false t u p)))
 
--- keeping all but j
-pub member-keep : (l : List ℕ) (j i : ℕ) → member i (without j l) ≡ (not (eqb i j) && member i l)
-member-keep [] j i = go (eqb i j)
-  where
-    go : (b : Bool) → false ≡ (not b && false)
-    go true = refl
-    go false = refl
-member-keep (x ∷ xs) j i = go (eqb j x) (eqb i x) (eqb i j) refl refl refl (member-keep xs j i)
-  where
-    go : (a b c : Bool) → eqb j x ≡ a → eqb i x ≡ b → eqb i j ≡ c → member i (without j xs) ≡ (not (eqb i j) && member i xs)
-        → member i (pick (not a) (x ∷ without j xs) (without j xs)) ≡ (not (eqb i j) && (b || member i xs))
-    go true b true p q r h = h ∙ rw r
-    go true true false p q r h = absurd (eqb-false i j r (eqb-true i x q ∙ sym (eqb-true j x p)))
-    go true false false p q r h = h
-    go false true true p q r h = absurd (eqb-false j x p (sym (eqb-true i j r) ∙ eqb-true i x q))
-    go false false true p q r h = rw (q, h)
-    go false b false p q r h = rw (q, h, r)
-
 -- the mark of j at u is cleared
-pub member-clear : (seen : List (List ℕ)) (u j t i : ℕ)
-    → member i (getD (set seen u (without j (getD seen u []))) t []) ≡ (not (eqb i j && eqb t u) && member i (getD seen t []))
-member-clear seen u j t i = go (eqb t u) refl
+pub member-clear : (seen : List (List ℕ)) (u j t i : ℕ) → Each Ordered seen
+    → member i (getD (set seen u (removed j (getD seen u []))) t []) ≡ (not (eqb i j && eqb t u) && member i (getD seen t []))
+member-clear seen u j t i r = go (eqb t u) refl
   where
     and-true : (b : Bool) → (b && true) ≡ b
     and-true true = refl
@@ -106,11 +75,11 @@ member-clear seen u j t i = go (eqb t u) refl
     and-false false = refl
 
     new : List ℕ
-    new = without j (getD seen u [])
+    new = removed j (getD seen u [])
 
-    go : (b : Bool) → eqb t u ≡ b → member i (getD (set seen u (without j (getD seen u []))) t []) ≡ (not (eqb i j && b) && member i (getD seen t []))
+    go : (b : Bool) → eqb t u ≡ b → member i (getD (set seen u (removed j (getD seen u []))) t []) ≡ (not (eqb i j && b) && member i (getD seen t []))
     go true p =
-        rw (and-true (eqb i j), eqb-true t u p) (ap (member i) (getD-update [] (without j) refl seen u) ∙ member-keep (getD seen u []) j i)
+        rw (and-true (eqb i j), eqb-true t u p) (ap (member i) (getD-update [] (removed j) (removed-none j) seen u) ∙ member-removed i j (getD seen u []) (each-at Ordered seen u [] r none-ordered))
     go false p = rw (and-false (eqb i j)) (ap (member i) (getD-set-other seen u t new [] (eqb-false t u p)))
 
 -- all marks of u are cleared
@@ -123,24 +92,22 @@ member-empty seen u t i = go (eqb t u) refl
 
 -- ---- A flush clears the marks of the originals that it drops
 
-pub clearing-rises : (s : Live) (cs : List Copy) (seen : List (List ℕ)) → Each Rises seen → Each Rises (clearing s cs seen)
-clearing-rises s [] seen e = e
-clearing-rises s (c ∷ cs) seen e = clearing-rises s cs (cond (stops s c && isOriginal c) (unmark (c .delivery .to) (c .id) seen) seen) (go (stops s c && isOriginal c))
+pub clearing-ordered : (s : Live) (cs : List Copy) (seen : List (List ℕ)) → Each Ordered seen → Each Ordered (clearing s cs seen)
+clearing-ordered s [] seen e = e
+clearing-ordered s (c ∷ cs) seen e = clearing-ordered s cs (cond (stops s c && isOriginal c) (unmark (c .delivery .to) (c .id) seen) seen) (go (stops s c && isOriginal c))
   where
-    go : (b : Bool) → Each Rises (cond b (unmark (c .delivery .to) (c .id) seen) seen)
-    go true = each-set Rises seen (c .delivery .to) (removed (c .id) (getD seen (c .delivery .to) [])) e (rises-removed (c .id) (getD seen (c .delivery .to) []) (each-at Rises seen (c .delivery .to) [] e tt))
+    go : (b : Bool) → Each Ordered (cond b (unmark (c .delivery .to) (c .id) seen) seen)
+    go true = each-set Ordered seen (c .delivery .to) (removed (c .id) (getD seen (c .delivery .to) [])) e (ordered-removed (c .id) (getD seen (c .delivery .to) []) (each-at Ordered seen (c .delivery .to) [] e none-ordered))
     go false = e
 
 pub clearing-agrees : (s : Live) (cs : List Copy) (es : List Event) (seen : List (List ℕ))
-    → Each Rises seen → ((t i : ℕ) → standing t i es ≡ member i (getD seen t [])) → (t i : ℕ) → standing t i (flushEvents s cs es) ≡ member i (getD (clearing s cs seen) t [])
+    → Each Ordered seen → ((t i : ℕ) → standing t i es ≡ member i (getD seen t [])) → (t i : ℕ) → standing t i (flushEvents s cs es) ≡ member i (getD (clearing s cs seen) t [])
 clearing-agrees s [] es seen r h = h
 clearing-agrees s (c ∷ cs) es seen r h =
-    clearing-agrees s cs (cond (stops s c) (dropped c) (landed c) ∷ es) (cond (stops s c && isOriginal c) (unmark (c .delivery .to) (c .id) seen) seen) (clearing-rises s (c ∷ []) seen r) (one (stops s c) (isOriginal c) refl)
+    clearing-agrees s cs (cond (stops s c) (dropped c) (landed c) ∷ es) (cond (stops s c && isOriginal c) (unmark (c .delivery .to) (c .id) seen) seen) (clearing-ordered s (c ∷ []) seen r) (one (stops s c) (isOriginal c) refl)
   where
     cut : (t i : ℕ) → member i (getD (unmark (c .delivery .to) (c .id) seen) t []) ≡ (not (eqb i (c .id) && eqb t (c .delivery .to)) && member i (getD seen t []))
-    cut t i =
-        ap (λ (l : List ℕ). member i (getD (set seen (c .delivery .to) l) t [])) (removed-without (c .id) (getD seen (c .delivery .to) []) (each-at Rises seen (c .delivery .to) [] r tt))
-        ∙ member-clear seen (c .delivery .to) (c .id) t i
+    cut t i = member-clear seen (c .delivery .to) (c .id) t i r
 
     one : (b k : Bool) → isOriginal c ≡ k → (t i : ℕ) → standing t i (cond b (dropped c) (landed c) ∷ es) ≡ member i (getD (cond (b && k) (unmark (c .delivery .to) (c .id) seen) seen) t [])
     one true true p t i = rw (p, h t i) (sym (cut t i))

@@ -17,7 +17,7 @@ use Rattle.waiting.specs.Waiting as waiting
 use Rattle.waiting.specs.Waiting.{onTime}
 use Rattle.waiting.specs.declared.Copy.{Copy}
 use Rattle.marks.specs.Marks.{idsOf, placed, removed}
-use Rattle.marks.proofs.Rising.{length-placed, length-removed}
+use Rattle.marks.proofs.Ordered.{length-placed, length-removed}
 use Rattle.rings.specs.Rings as rings
 use Rattle.card.specs.Card.{exact, fieldsOf}
 use Rattle.rules.specs.Rules.{ruleSlots, mostRules, installNumber, without}

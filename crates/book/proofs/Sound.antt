@@ -12,8 +12,8 @@ use Rattle.waiting.specs.Waiting.{insertCopy, onTime, Sorted}
 use Rattle.waiting.specs.declared.Copy.{Copy}
 use Rattle.waiting.proofs.Order.{sorted-insert, sorted-drop}
 use Rattle.rows.proofs.Lists.{drop-front}
-use Rattle.marks.specs.Marks.{Rises, member}
-use Rattle.marks.proofs.Rising.{found-member, rises-placed}
+use Rattle.marks.specs.Marks.{Ordered, member}
+use Rattle.marks.proofs.Ordered.{none-ordered, found-member, ordered-placed}
 use Rattle.rule.specs.declared.DropSpec.{DropSpec}
 use Rattle.card.specs.Card.{fieldsOf}
 use Rattle.rules.specs.Rules.{Ascending, fireAt, withRule}
@@ -29,7 +29,7 @@ use Rattle.network.specs.Calls.{Call, liveStep, accept, flush, takeDown, bringU
 use Rattle.book.specs.Book.{Book, Event, scheduledIn, landedIn, droppedIn, eventsOf, offerEvents, eventsAfter, happened, opened, bookStep}
 use Rattle.book.specs.History.{hasSequence, given, standing}
 use Rattle.book.proofs.Counting.{numbered-count, count-split, count-insertAll, scheduling-scheduled, scheduling-landed, scheduling-dropped, flushing-scheduled, flushing-moved}
-use Rattle.book.proofs.Marks.{Apart, Echo, echoes-standing, echoes-apart, member-set, member-empty, clearing-agrees, clearing-rises, flushing-apart}
+use Rattle.book.proofs.Marks.{Apart, Echo, echoes-standing, echoes-apart, member-set, member-empty, clearing-agrees, clearing-ordered, flushing-apart}
 use Rattle.book.proofs.Each.{each-set, each-at, each-replicate, each-upTo}
 use Rattle.book.proofs.Echoing.{drawn-echoes}
 
@@ -41,7 +41,7 @@ pub record Sound (tills : ℕ) (waiting : List Copy) (sequence : ℕ) (seen : Li
   pub apart : Apart past
   pub order : Sorted waiting
   pub shape : length seen ≡ tills
-  pub rises : Each Rises seen
+  pub ordered : Each Ordered seen
   pub ids : Ascending 0 installed rules
 
 abbrev pub SoundLive : Opening → Live → List Event → Type 0
@@ -80,23 +80,23 @@ module _ (o : Opening) (m : Message) (s : Live) (d : Drawn) (t : ℕ) (past : Li
     apart = h .apart;
     order = h .order;
     shape = h .shape;
-    rises = h .rises;
+    ordered = h .ordered;
     ids = ruled-ascends (d .verdict) (s .engine .installed) (s .engine .rules) (h .ids);
   }
   effect-sound sent f b e =
       let cs = copies o m s d t in
       let es = d .echoes .copies in
-      let own = each-at Rises (s .seen) t [] (h .rises) tt in
+      let own = each-at Ordered (s .seen) t [] (h .ordered) none-ordered in
       let unmarked : member (m .id) (idsAt s t) ≡ false = sym (found-member (m .id) (idsAt s t) own) ∙ f refl in
       record {
         places = λ p. rw (scheduling-landed cs past, scheduling-dropped cs past)
             (omega (arith, scheduling-scheduled p cs past, count-insertAll p cs (s .waiting), h .places p));
         numbers = λ n. omega (arith, scheduling-scheduled (hasSequence n) cs past, numbered-count (original m t (d .latency .value) ∷ es) (s .sequence) n, h .numbers n);
-        marks = λ u j. echoes-standing u j (suc (s .sequence)) es _ e ∙ rw (h .marks u j) (sym (member-set (s .seen) t (m .id) u j (omega (arith, h .shape)) (h .rises)));
+        marks = λ u j. echoes-standing u j (suc (s .sequence)) es _ e ∙ rw (h .marks u j) (sym (member-set (s .seen) t (m .id) u j (omega (arith, h .shape)) (h .ordered)));
         apart = echoes-apart (suc (s .sequence)) es _ e (λ z. h .marks t (m .id) ∙ unmarked, h .apart);
         order = sorted-insertAll cs (s .waiting) (h .order);
         shape = length-set (s .seen) t _ ∙ h .shape;
-        rises = each-set Rises (s .seen) t _ (h .rises) (rises-placed (m .id) (idsAt s t) (f refl) own);
+        ordered = each-set Ordered (s .seen) t _ (h .ordered) (ordered-placed (m .id) (idsAt s t) (f refl) own);
         ids = ruled-ascends (d .verdict) (s .engine .installed) (s .engine .rules) (h .ids);
       }
 
@@ -140,7 +140,7 @@ install-next n rs d h = let z : n + 1 ≡ suc n = omega arith in subst (λ (k : 
 
 module _ (o : Opening) where
   with-ids : (s : Live) (past : List Event) → SoundLive o s past → (n : ℕ) (rs : List FaultRule) → Ascending 0 n rs → Sound (o .sizes .tills) (s .waiting) (s .sequence) (s .seen) n rs past
-  with-ids s past h n rs a = record { places = h .places; numbers = h .numbers; marks = h .marks; apart = h .apart; order = h .order; shape = h .shape; rises = h .rises; ids = a }
+  with-ids s past h n rs a = record { places = h .places; numbers = h .numbers; marks = h .marks; apart = h .apart; order = h .order; shape = h .shape; ordered = h .ordered; ids = a }
 
   pub step-sound : (s : Live) (c : Call) (past : List Event) → SoundLive o s past → SoundLive o (liveStep o s c) (happened o s c past)
   step-sound s (accept e true) past h = accept-sound o (messageOf o e) (selected o s (e .scope) (e .from)) s past (selected-below o s (e .scope) (e .from)) h
@@ -149,11 +149,11 @@ module _ (o : Opening) where
     places = λ p. rw (flushing-scheduled s (due now s) past)
         (omega (arith, h .places p, flushing-moved p s (due now s) past, count-split p (onTime now) (s .waiting)));
     numbers = λ n. rw (flushing-scheduled s (due now s) past) (h .numbers n);
-    marks = clearing-agrees s (due now s) past (s .seen) (h .rises) (h .marks);
+    marks = clearing-agrees s (due now s) past (s .seen) (h .ordered) (h .marks);
     apart = flushing-apart s (due now s) past (h .apart);
     order = sorted-behind (onTime now) (s .waiting) (h .order);
     shape = length-clearing s (due now s) (s .seen) ∙ h .shape;
-    rises = clearing-rises s (due now s) (s .seen) (h .rises);
+    ordered = clearing-ordered s (due now s) (s .seen) (h .ordered);
     ids = h .ids;
   }
   step-sound s (takeDown t) past h = record {
@@ -163,7 +163,7 @@ module _ (o : Opening) where
     order = h .order;
     marks = λ u j. rw (h .marks u j) (sym (member-empty (s .seen) t u j));
     shape = length-set (s .seen) t [] ∙ h .shape;
-    rises = each-set Rises (s .seen) t [] (h .rises) tt;
+    ordered = each-set Ordered (s .seen) t [] (h .ordered) none-ordered;
     ids = h .ids;
   }
   step-sound s (bringUp t shards) past h = h
@@ -201,6 +201,6 @@ module _ (o : Opening) where
     apart = tt;
     order = tt;
     shape = length-replicate (o .sizes .tills) [];
-    rises = each-replicate Rises (o .sizes .tills) [] tt;
+    ordered = each-replicate Ordered (o .sizes .tills) [] none-ordered;
     ids = omega arith;
   }

@@ -16,8 +16,8 @@ use Rattle.rows.proofs.Lists.{length-upTo}
 use Rattle.delivery.specs.declared.Delivery.{Delivery}
 use Rattle.waiting.specs.Waiting.{onTime}
 use Rattle.waiting.specs.declared.Copy.{Copy}
-use Rattle.marks.specs.Marks.{removed, Rises}
-use Rattle.marks.proofs.Rising.{length-removed}
+use Rattle.marks.specs.Marks.{removed, Ordered}
+use Rattle.marks.proofs.Ordered.{none-ordered, length-removed}
 use Rattle.rules.specs.declared.FaultRule.{FaultRule}
 use Rattle.network.specs.Lists.{within}
 use Rattle.network.specs.Opening.{Sizes, Opening, links, global, longestWire}
@@ -35,7 +35,7 @@ use Rattle.network.specs.Questions.{asked, firstNo}
 use Rattle.network.specs.Lent.{nearTill, nearDelivery, nearCopy, nearBlock}
 use Rattle.book.proofs.Each.{both, join, each-set, each-at, each-replicate, each-append, each-push, each-keep, each-front, each-behind, each-upTo, all-each}
 use Rattle.book.proofs.Sound.{selected-below, length-clearing}
-use Rattle.book.proofs.Marks.{clearing-rises}
+use Rattle.book.proofs.Marks.{clearing-ordered}
 use Rattle.book.proofs.Asking.{all-yes, rising}
 use Rattle.book.proofs.Fitting.{Limited, Small, Fits, EngineFits, NearRing, LogFits, NearMessage, accept-fits, ruled-fits, length-keep, length-behind, length-push}
 
@@ -104,7 +104,7 @@ add-rule rs r h = omega (arith, length-append rs (r ∷ []), ltb-true (length rs
 
 module _ (o : Opening) where
   with-engine : (s : Live) (e : Engine) → Fits (o .sizes) s → EngineFits (o .sizes) e → Fits (o .sizes) (withEngine s e)
-  with-engine s e f h = record { tills = f .tills; masks = f .masks; hosts = f .hosts; seen = f .seen; rises = f .rises; engine = h; rings = f .rings; words = f .words; queue = f .queue; log = f .log }
+  with-engine s e f h = record { tills = f .tills; masks = f .masks; hosts = f .hosts; seen = f .seen; ordered = f .ordered; engine = h; rings = f .rings; words = f .words; queue = f .queue; log = f .log }
 
   pub add-block : (e : Engine) (b : BlockWindow) → EngineFits (o .sizes) e → ltb (length (e .blocks)) blockSlots ≡ true → nearBlock (o .sizes) b ≡ true → EngineFits (o .sizes) (withBlocks e (e .blocks ++ (b ∷ [])))
   add-block e b f h n = record {
@@ -136,7 +136,7 @@ module _ (o : Opening) where
     masks = each-set (λ (y : Till). nearTill (o .sizes) y ≡ true) (s .tills) t x (f .masks) h;
     hosts = f .hosts;
     seen = f .seen;
-    rises = f .rises;
+    ordered = f .ordered;
     engine = f .engine;
     rings = f .rings;
     words = f .words;
@@ -157,7 +157,7 @@ module _ (o : Opening) where
     masks = f .masks;
     hosts = length-clearing s (due now s) (s .seen) ∙ f .hosts;
     seen = clearing-small (o .sizes .seenSlots) s (due now s) (s .seen) (f .seen);
-    rises = clearing-rises s (due now s) (s .seen) (f .rises);
+    ordered = clearing-ordered s (due now s) (s .seen) (f .ordered);
     engine = f .engine;
     rings = f .rings;
     words = f .words;
@@ -172,7 +172,7 @@ module _ (o : Opening) where
     masks = each-set (λ (x : Till). nearTill (o .sizes) x ≡ true) (s .tills) t downTill (f .masks) (down-near (o .sizes));
     hosts = length-set (s .seen) t [] ∙ f .hosts;
     seen = each-set (Small (o .sizes .seenSlots)) (s .seen) t [] (f .seen) (omega arith);
-    rises = each-set Rises (s .seen) t [] (f .rises) tt;
+    ordered = each-set Ordered (s .seen) t [] (f .ordered) none-ordered;
     engine = f .engine;
     rings = f .rings;
     words = f .words;
@@ -207,7 +207,7 @@ module _ (o : Opening) where
       with-engine s _ f (record { blocks = f .engine .blocks; rules = add-rule (s .engine .rules) _ free; near = f .engine .near })
   step-fits lim s (remove id) h f = with-engine s _ f (record { blocks = f .engine .blocks; rules = le-trans (length-without id (s .engine .rules)) (f .engine .rules); near = f .engine .near })
   step-fits lim s (decide x) h f = with-engine s _ f (ruled-fits (o .sizes) (s .engine) (o .draws .decide x (s .engine .rules) (s .engine .words)) (f .engine))
-  step-fits lim s (drain rows) h f = record { tills = f .tills; masks = f .masks; hosts = f .hosts; seen = f .seen; rises = f .rises; engine = f .engine; rings = f .rings; words = f .words; queue = f .queue; log = record { records = omega arith; tallies = length-replicate log.classes noTally; near = tt } }
+  step-fits lim s (drain rows) h f = record { tills = f .tills; masks = f .masks; hosts = f .hosts; seen = f .seen; ordered = f .ordered; engine = f .engine; rings = f .rings; words = f .words; queue = f .queue; log = record { records = omega arith; tallies = length-replicate log.classes noTally; near = tt } }
   step-fits lim s (reading r) h f = f
 
   -- ---- The opening
@@ -219,7 +219,7 @@ module _ (o : Opening) where
         (λ t l. up-near (o .sizes) (getD masks t 0) (each-at (λ m. within m (o .sizes .shards) ≡ true) masks t 0 (all-each (λ m. within m (o .sizes .shards)) masks h) (zero-within (o .sizes .shards))));
     hosts = length-replicate {A = List ℕ} (o .sizes .tills) [];
     seen = each-replicate (Small (o .sizes .seenSlots)) (o .sizes .tills) [] (omega arith);
-    rises = each-replicate Rises (o .sizes .tills) [] tt;
+    ordered = each-replicate Ordered (o .sizes .tills) [] none-ordered;
     engine = record { blocks = omega arith; rules = omega arith; near = tt };
     rings = record {
       many = length-replicate {A = List Carried} (ringsOf (o .sizes)) [];

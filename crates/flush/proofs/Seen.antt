@@ -9,7 +9,7 @@ use borrow.Author.Tests.{eq-eqb, ne-eqb}
 use Rattle.shift.specs.Shift.{putWords}
 use Rattle.marks.specs.Marks.{idsOf, removed}
 use Rattle.marks.proofs.Search.{length-ids}
-use Rattle.marks.proofs.Rising.{length-removed}
+use Rattle.marks.proofs.Ordered.{length-removed}
 use Rattle.marks.proofs.Tills.{places-end, after-length, counts-within}
 use Rattle.waiting.specs.declared.Copy.{Copy}
 use Rattle.network.specs.Live.{isOriginal}

@@ -11,7 +11,7 @@ use borrow.Author.Tests.{ltb-true, ltb-false, lt-ltb, le-ltb, eqb-true, eqb-fals
 use Rattle.rows.specs.Rows.{keep, pick}
 use Rattle.rows.specs.Lists.{Each}
 use Rattle.rows.proofs.Lists.{each-map}
-use Rattle.marks.specs.Marks.{halve, position, found, placed, removed, Rises, member}
+use Rattle.marks.specs.Marks.{halve, position, foundIn, placedIn, removedIn, Rises, member}
 
 -- how many ids at the front are below i
 abbrev rank : ℕ → List ℕ → ℕ
@@ -139,17 +139,17 @@ rank-removed i (j ∷ l) r = go (ltb j i) refl (rank-removed i l (r .1))
         first false q = rw (none-below i j l (omega (arith, ltb-false j i e)) (r .0)) (ap (λ (m : List ℕ). j ∷ m) (sym (keep-all i j l (omega (arith, ltb-false j i e)) (r .0))))
 
 -- THE LAWS of the answers
-pub found-member : (i : ℕ) (l : List ℕ) → Rises l → found i l ≡ member i l
-found-member i l r = ap (λ (p : ℕ). foundAt p i l) (position-rank i l r) ∙ rank-found i l r
+pub found-member-in : (i : ℕ) (l : List ℕ) → Rises l → foundIn i l ≡ member i l
+found-member-in i l r = ap (λ (p : ℕ). foundAt p i l) (position-rank i l r) ∙ rank-found i l r
 
-pub placed-place : (i : ℕ) (l : List ℕ) → Rises l → placed i l ≡ place i l
+pub placed-place : (i : ℕ) (l : List ℕ) → Rises l → placedIn i l ≡ place i l
 placed-place i l r = ap (λ (p : ℕ). take p l ++ (i ∷ drop p l)) (position-rank i l r) ∙ rank-place i l
 
-pub removed-without : (i : ℕ) (l : List ℕ) → Rises l → removed i l ≡ without i l
-removed-without i l r = (λ j. cond (found-member i l r j) (cut (position-rank i l r j) l) l) ∙ rank-removed i l r
+pub removed-without : (i : ℕ) (l : List ℕ) → Rises l → removedIn i l ≡ without i l
+removed-without i l r = (λ j. cond (found-member-in i l r j) (cut (position-rank i l r j) l) l) ∙ rank-removed i l r
 
 -- THE ORDER is kept
-each-place : (P : ℕ → Type 0) (i : ℕ) (l : List ℕ) → P i → Each P l → Each P (place i l)
+pub each-place : (P : ℕ → Type 0) (i : ℕ) (l : List ℕ) → P i → Each P l → Each P (place i l)
 each-place P i [] h e = (h, tt)
 each-place P i (j ∷ l) h e = go (ltb j i) (each-place P i l h (e .1))
   where
@@ -169,10 +169,10 @@ rises-place i (j ∷ l) f r = go (ltb j i) refl (eqb i j) refl f (λ k. rises-pl
         let lt : i < j = omega (arith, ltb-false j i p, ne) in
         ((lt, each-map (λ (n : ℕ). j < n) (λ (n : ℕ). i < n) l (λ n h. omega (arith, lt, h)) (r .0)), r)
 
-pub rises-placed : (i : ℕ) (l : List ℕ) → found i l ≡ false → Rises l → Rises (placed i l)
-rises-placed i l f r = subst Rises (sym (placed-place i l r)) (rises-place i l (sym (found-member i l r) ∙ f) r)
+pub rises-placed-in : (i : ℕ) (l : List ℕ) → foundIn i l ≡ false → Rises l → Rises (placedIn i l)
+rises-placed-in i l f r = subst Rises (sym (placed-place i l r)) (rises-place i l (sym (found-member-in i l r) ∙ f) r)
 
-each-keep : (P : ℕ → Type 0) (q : ℕ → Bool) (l : List ℕ) → Each P l → Each P (keep q l)
+pub each-keep : (P : ℕ → Type 0) (q : ℕ → Bool) (l : List ℕ) → Each P l → Each P (keep q l)
 each-keep P q [] e = tt
 each-keep P q (j ∷ l) e = go (q j) (each-keep P q l (e .1))
   where
@@ -188,16 +188,28 @@ rises-keep q (i ∷ l) r = go (q i) (rises-keep q l (r .1))
     go true k = (each-keep (λ j. i < j) q l (r .0), k)
     go false k = k
 
-pub rises-removed : (i : ℕ) (l : List ℕ) → Rises l → Rises (removed i l)
-rises-removed i l r = subst Rises (sym (removed-without i l r)) (rises-keep (λ (j : ℕ). not (eqb i j)) l r)
+pub rises-removed-in : (i : ℕ) (l : List ℕ) → Rises l → Rises (removedIn i l)
+rises-removed-in i l r = subst Rises (sym (removed-without i l r)) (rises-keep (λ (j : ℕ). not (eqb i j)) l r)
 
 -- LENGTHS, on any list
-pub length-placed : (i : ℕ) (l : List ℕ) → length (placed i l) ≡ suc (length l)
-length-placed i l = length-append (take (position i l) l) (i ∷ drop (position i l) l) ∙ omega (arith, length-take (position i l) l, length-drop (position i l) l)
+pub length-placed-in : (i : ℕ) (l : List ℕ) → length (placedIn i l) ≡ suc (length l)
+length-placed-in i l = length-append (take (position i l) l) (i ∷ drop (position i l) l) ∙ omega (arith, length-take (position i l) l, length-drop (position i l) l)
 
-pub length-removed : (i : ℕ) (l : List ℕ) → length (removed i l) ≤ length l
-length-removed i l = go (found i l) (position i l)
+pub length-removed-in : (i : ℕ) (l : List ℕ) → length (removedIn i l) ≤ length l
+length-removed-in i l = go (foundIn i l) (position i l)
   where
     go : (b : Bool) (p : ℕ) → length (cond b (cut p l) l) ≤ length l
     go true p = omega (arith, length-append (take p l) (drop (suc p) l), length-take p l, length-drop (suc p) l)
     go false p = le-refl _
+
+-- an id that is found goes
+pub length-found-in : (i : ℕ) (l : List ℕ) → foundIn i l ≡ true → suc (length (removedIn i l)) ≡ length l
+length-found-in i l e =
+    let p : ℕ = position i l in
+    let h = ltb-true (position i l) (length l) (left (ltb (position i l) (length l)) (eqb (getD l (position i l) 0) i) e) in
+    ap (λ (b : Bool). suc (length (cond b (cut (position i l) l) l))) e
+    ∙ omega (arith, h, length-append (take (position i l) l) (drop (suc (position i l)) l), length-take (position i l) l, length-drop (suc (position i l)) l)
+  where
+    left : (x y : Bool) → (x && y) ≡ true → x ≡ true
+    left true y q = refl
+    left false y q = absurd (true≢false (sym q))

@@ -6,13 +6,13 @@ use Prim.Native.Nat.{ℕ, zero, suc, _+_, _-_, _/_, _≤_, _<_}
 use native.Mathlib.Omega.{arith}
 use lib.Dec.{ltb, eqb}
 use lib.ListN.{length, getD, take, drop, set, length-take, length-drop, length-append}
-use lib.Seq.{getD-take, getD-drop, length-take-le}
+use lib.Seq.{getD-take, getD-drop, length-take-le, take-suc, take-suc-set}
 use borrow.Author.Tests.{lt-ltb, le-ltb, eq-eqb, ne-eqb, eqb-true, eqb-false}
 use Rattle.shift.specs.Shift.{putWords, opened, closed}
 use Rattle.shift.proofs.Laws.{opened-set}
 use Rattle.shift.proofs.Parts.{part-inserted, part-closed, is-put}
 use Rattle.marks.specs.declared.Span.{Span}
-use Rattle.marks.specs.Marks.{idsOf, halve, halved, leadsTo, position, found, placedAt, removed}
+use Rattle.marks.specs.Marks.{idsOf, halve, halved, leadsTo, position, foundIn, placedAt, removedIn}
 
 one : (t : ℕ) (ids : List ℕ) (id lo n : ℕ) → 0 < n
     → halve (suc t) ids id lo n ≡ halve t ids id (cond (ltb (getD ids (lo + (n - 1) / 2) 0) id) (lo + (n - 1) / 2 + 1) lo) (n / 2)
@@ -165,32 +165,32 @@ module _ (seen : List ℕ) (start count id : ℕ) (fits : start + count ≤ leng
   pub reads : (k : ℕ) → k < count → getD (idsOf seen start count) k 0 ≡ getD seen (start + k) 0
   reads k h = getD-take count (drop start seen) k 0 h ∙ getD-drop start seen k 0
 
-  -- what stands at the place that was found
+  -- what stands at the place that was foundIn
   module _ (p : ℕ) (at : p ≡ position id (idsOf seen start count)) where
-    pub stands : p < count → eqb (getD seen (start + p) 0) id ≡ found id (idsOf seen start count)
+    pub stands : p < count → eqb (getD seen (start + p) 0) id ≡ foundIn id (idsOf seen start count)
     stands h =
         ap (λ (x : ℕ). eqb x id) (sym (reads p h))
         ∙ ap (λ (b : Bool). b && eqb (getD (idsOf seen start count) p 0) id) (sym (lt-ltb p (length (idsOf seen start count)) (omega (arith, length-ids))))
         ∙ ap (λ (k : ℕ). ltb k (length (idsOf seen start count)) && eqb (getD (idsOf seen start count) k 0) id) at
 
-    pub past : count ≤ p → false ≡ found id (idsOf seen start count)
+    pub past : count ≤ p → false ≡ foundIn id (idsOf seen start count)
     past h =
         ap (λ (b : Bool). b && eqb (getD (idsOf seen start count) p 0) id) (sym (le-ltb p (length (idsOf seen start count)) (omega (arith, length-ids))))
         ∙ ap (λ (k : ℕ). ltb k (length (idsOf seen start count)) && eqb (getD (idsOf seen start count) k 0) id) at
 
-    -- nothing is removed
-    pub kept : false ≡ found id (idsOf seen start count) → (count ≡ length (removed id (idsOf seen start count))) × (seen ≡ putWords seen start (removed id (idsOf seen start count)))
+    -- nothing is removedIn
+    pub kept : false ≡ foundIn id (idsOf seen start count) → (count ≡ length (removedIn id (idsOf seen start count))) × (seen ≡ putWords seen start (removedIn id (idsOf seen start count)))
     kept f =
-        let none : idsOf seen start count ≡ removed id (idsOf seen start count) = ap (λ (b : Bool). cond b (take (position id (idsOf seen start count)) (idsOf seen start count) ++ drop (suc (position id (idsOf seen start count))) (idsOf seen start count)) (idsOf seen start count)) f in
+        let none : idsOf seen start count ≡ removedIn id (idsOf seen start count) = ap (λ (b : Bool). cond b (take (position id (idsOf seen start count)) (idsOf seen start count) ++ drop (suc (position id (idsOf seen start count))) (idsOf seen start count)) (idsOf seen start count)) f in
         (sym length-ids ∙ ap length none, is-put seen seen start count (idsOf seen start count) length-ids refl refl refl ∙ ap (putWords seen start) none)
 
-    -- the id at the place is removed
-    pub gone : p < count → true ≡ found id (idsOf seen start count) → (l : List ℕ) → l ≡ closed seen (start + p + 1) (start + count) 1
-        → (count - 1 ≡ length (removed id (idsOf seen start count))) × (l ≡ putWords seen start (removed id (idsOf seen start count)))
+    -- the id at the place is removedIn
+    pub gone : p < count → true ≡ foundIn id (idsOf seen start count) → (l : List ℕ) → l ≡ closed seen (start + p + 1) (start + count) 1
+        → (count - 1 ≡ length (removedIn id (idsOf seen start count))) × (l ≡ putWords seen start (removedIn id (idsOf seen start count)))
     gone h f l e =
         let ids : List ℕ = idsOf seen start count in
         let n : p + 1 ≡ suc p = omega arith in
-        let one-less : take p ids ++ drop (suc p) ids ≡ removed id ids
+        let one-less : take p ids ++ drop (suc p) ids ≡ removedIn id ids
         = ap (λ (k : ℕ). take k ids ++ drop (suc k) ids) at ∙ ap (λ (b : Bool). cond b (take (position id ids) ids ++ drop (suc (position id ids)) ids) ids) f in
         let ln : length (take p ids ++ drop (suc p) ids) ≡ count - 1 = simp (length-append, length-take, length-drop) (omega (arith, length-ids)) in (
           sym ln ∙ ap length one-less,
@@ -204,3 +204,15 @@ added seen start count id p l room h e =
     ap (λ (x : List ℕ). set x (start + p) id) e
     ∙ opened-set seen (start + p) (start + count) id (omega arith) room
     ∙ part-inserted seen start count p (id ∷ []) h room
+
+-- one word more is copied
+pub copied-more : (seen out : List ℕ) (start i : ℕ) → i < length out → start + i < length seen → take i out ≡ idsOf seen start i
+    → take (i + 1) (set out i (getD seen (start + i) 0)) ≡ idsOf seen start (i + 1)
+copied-more seen out start i h k e =
+    let s : i + 1 ≡ suc i = omega arith in
+    ap (λ (m : ℕ). take m (set out i (getD seen (start + i) 0))) s
+    ∙ take-suc-set out i (getD seen (start + i) 0) h
+    ∙ ap (λ (l : List ℕ). l ++ (getD seen (start + i) 0 ∷ [])) e
+    ∙ ap (λ (x : ℕ). take i (drop start seen) ++ (x ∷ [])) (sym (getD-drop start seen i 0))
+    ∙ sym (take-suc (drop start seen) i 0 (rw length-drop (omega arith)))
+    ∙ ap (λ (m : ℕ). take m (drop start seen)) (sym s)

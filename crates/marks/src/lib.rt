@@ -1,10 +1,15 @@
-// The marks of a till: the ids it has seen, rising, in a part of a table. An id's place is found by halving.
+// The marks of a till: the ids it has seen, in a part of a table: the older ones, then the newest, either part rising. An id's place is found by halving.
 ghost use mathlib.Core.Path.{_≡_};
-ghost use Prim.Native.Nat.{_+_, _≤_};
-ghost use lib.ListN.{length, drop};
-ghost use mathlib.Core.Bool.{cond};
-ghost use Rattle.shift.specs.Shift.{putWords};
-ghost use Rattle.marks.specs.Marks.{idsOf, halve, halved, leadsTo, position, found, placedAt, placed, removed};
+ghost use Prim.Native.Nat.{_+_, _≤_, _<_};
+ghost use lib.ListN.{length, getD, take, drop};
+ghost use mathlib.Core.Bool.{cond, _&&_};
+ghost use mathlib.Core.List.{_++_};
+ghost use lib.Dec.{ltb};
+ghost use Rattle.shift.specs.Shift.{putWords, opened};
+ghost use Rattle.marks.specs.Marks.{idsOf, halve, halved, leadsTo, position, foundIn, placedAt, placedIn, removedIn, merged, refilled, newest, found, placed, removed};
+
+// So many of the newest ids stand apart, or fewer.
+const NEWEST: usize = 128;
 
 // What is left to search: the place is one of lo .. lo + n.
 struct Span {
@@ -88,7 +93,7 @@ fn halve_on(seen: &[u64], start: usize, s: Span, id: u64) -> usize
 }
 
 // The place of id among the `count` ids from `start` on. Twelve halvings stand in a row: they leave at most one below 4,096 ids.
-pub fn find(seen: &[u64], start: usize, count: usize, id: u64) -> usize
+fn find(seen: &[u64], start: usize, count: usize, id: u64) -> usize
     requires { ⌜ start + count ≤ length (now seen) ⌝ }
     ensures is { λ r. ⌜ r ≡ position id (idsOf (now (seen .entry)) start count) ⌝ }
     ensures within { λ r. ⌜ r ≤ count ⌝ }
@@ -99,10 +104,10 @@ pub fn find(seen: &[u64], start: usize, count: usize, id: u64) -> usize
     halve_on(seen, start, c, id)
 }
 
-// Does id stand among them?
-pub fn has(seen: &[u64], start: usize, count: usize, id: u64) -> bool
+// Does id stand in a part?
+fn has_in(seen: &[u64], start: usize, count: usize, id: u64) -> bool
     requires { ⌜ start + count ≤ length (now seen) ⌝ }
-    ensures { λ r. ⌜ r ≡ found id (idsOf (now (seen .entry)) start count) ⌝ }
+    ensures { λ r. ⌜ r ≡ foundIn id (idsOf (now (seen .entry)) start count) ⌝ }
 {
     let p = find(seen, start, count, id);
     if p < count {
@@ -111,8 +116,21 @@ pub fn has(seen: &[u64], start: usize, count: usize, id: u64) -> bool
     false
 }
 
+// Does id stand among them?
+pub fn has(seen: &[u64], start: usize, count: usize, id: u64) -> bool
+    requires { ⌜ start + count ≤ length (now seen) ⌝ }
+    ensures { λ r. ⌜ r ≡ found id (idsOf (now (seen .entry)) start count) ⌝ }
+{
+    let n = count % NEWEST;
+    let k = count - n;
+    if has_in(seen, start, k, id) {
+        return true;
+    }
+    has_in(seen, start + k, n, id)
+}
+
 // id at place p; those from there on move up.
-pub fn insert_at(seen: &mut [u64], start: usize, count: usize, p: usize, id: u64)
+fn insert_at(seen: &mut [u64], start: usize, count: usize, p: usize, id: u64)
     requires { ⌜ (p ≤ count) × (start + count + 1 ≤ length (now seen)) ⌝ }
     ensures { λ r. ⌜ now (seen .exit) ≡ putWords (now (seen .entry)) start (placedAt p id (idsOf (now (seen .entry)) start count)) ⌝ }
 {
@@ -121,20 +139,106 @@ pub fn insert_at(seen: &mut [u64], start: usize, count: usize, p: usize, id: u64
     seen[at] = id;
 }
 
-// One id more, at its place.
-pub fn insert(seen: &mut [u64], start: usize, count: usize, id: u64)
+// One id more in a part, at its place.
+fn insert_in(seen: &mut [u64], start: usize, count: usize, id: u64)
     requires { ⌜ start + count + 1 ≤ length (now seen) ⌝ }
-    ensures { λ r. ⌜ now (seen .exit) ≡ putWords (now (seen .entry)) start (placed id (idsOf (now (seen .entry)) start count)) ⌝ }
+    ensures { λ r. ⌜ now (seen .exit) ≡ putWords (now (seen .entry)) start (placedIn id (idsOf (now (seen .entry)) start count)) ⌝ }
 {
     let p = find(seen, start, count, id);
     insert_at(seen, start, count, p, id);
 }
 
-// One id less, if it stands there; those behind it move down. How many are left.
-pub fn remove(seen: &mut [u64], start: usize, count: usize, id: u64) -> usize
+// The n words from `start` on, up to NEWEST of them.
+fn copied(seen: &[u64], start: usize, n: usize) -> [u64; 128]
+    requires { ⌜ (n ≤ newest) × (start + n ≤ length (now seen)) ⌝ }
+    ensures { λ r. ⌜ (length r ≡ newest) × (take n r ≡ idsOf (now (seen .entry)) start n) ⌝ }
+{
+    let mut out = [0u64; 128];
+    let mut i: usize = 0;
+    while i < n {
+        out[i] = seen[start + i];
+        i += 1;
+    }
+    out
+}
+
+// The first n words move up by `by` places, the last one first. shift's is kept for one distance, which LLVM makes a memmove of.
+fn lift(ws: &mut [u64], n: usize, by: usize)
+    requires { ⌜ n + by ≤ length (now ws) ⌝ }
+    ensures { λ r. ⌜ now (ws .exit) ≡ opened (now (ws .entry)) 0 n by ⌝ }
+{
+    let mut k = n;
+    while 0 < k {
+        k -= 1;
+        ws[k + by] = ws[k];
+    }
+}
+
+// Is i below k, and then the id at place p below id?
+fn below(seen: &[u64], i: usize, k: usize, p: usize, id: u64) -> bool
+    requires { ⌜ (i < k → p < length (now seen)) ⌝ }
+    ensures { λ r. ⌜ r ≡ (ltb i k && ltb (getD (now (seen .entry)) p 0) id) ⌝ }
+{
+    if i < k {
+        return seen[p] < id;
+    }
+    false
+}
+
+// The n newer ids go among the k older ones, which stand n places up from the front.
+fn merge(ws: &mut [u64], k: usize, n: usize, new: &[u64])
+    requires { ⌜ (k + n ≤ length (now ws)) × (n ≤ length (now new)) ⌝ }
+    ensures { λ r. ⌜ now (ws .exit) ≡ merged (take k (drop n (now (ws .entry)))) (take n (now (new .entry))) ++ drop (k + n) (now (ws .entry)) ⌝ }
+{
+    let mut i: usize = 0;
+    let mut j: usize = 0;
+    while j < n {
+        if below(ws, i, k, n + i, new[j]) {
+            ws[i + j] = ws[n + i];
+            i += 1;
+        } else {
+            ws[i + j] = new[j];
+            j += 1;
+        }
+    }
+}
+
+// The n newer ids behind the first k go among them.
+fn settle(ws: &mut [u64], k: usize, n: usize)
+    requires { ⌜ (n ≤ newest) × (k + n ≤ length (now ws)) ⌝ }
+    ensures { λ r. ⌜ now (ws .exit) ≡ merged (take k (now (ws .entry))) (take n (drop k (now (ws .entry)))) ++ drop (k + n) (now (ws .entry)) ⌝ }
+{
+    let new = copied(ws, k, n);
+    lift(ws, k, n);
+    merge(ws, k, n, &new);
+}
+
+// The count ids from `start` on, merged.
+fn settle_at(seen: &mut [u64], start: usize, k: usize, n: usize)
+    requires { ⌜ (n ≤ newest) × (start + (k + n) ≤ length (now seen)) ⌝ }
+    ensures { λ r. ⌜ now (seen .exit) ≡ putWords (now (seen .entry)) start (merged (idsOf (now (seen .entry)) start k) (idsOf (now (seen .entry)) (start + k) n)) ⌝ }
+{
+    settle(&mut seen[start..], k, n);
+}
+
+// One id more.
+pub fn insert(seen: &mut [u64], start: usize, count: usize, id: u64)
+    requires { ⌜ start + count + 1 ≤ length (now seen) ⌝ }
+    ensures { λ r. ⌜ now (seen .exit) ≡ putWords (now (seen .entry)) start (placed id (idsOf (now (seen .entry)) start count)) ⌝ }
+{
+    let n = count % NEWEST;
+    let k = count - n;
+    insert_in(seen, start + k, n, id);
+    if n + 1 == NEWEST {
+        settle_at(seen, start, k, NEWEST);
+    }
+}
+
+// One id less in a part, if it stands there; those behind it move down. How many are left.
+fn remove_in(seen: &mut [u64], start: usize, count: usize, id: u64) -> usize
     requires { ⌜ start + count ≤ length (now seen) ⌝ }
-    ensures left { λ r. ⌜ r ≡ length (removed id (idsOf (now (seen .entry)) start count)) ⌝ }
-    ensures table { λ r. ⌜ now (seen .exit) ≡ putWords (now (seen .entry)) start (removed id (idsOf (now (seen .entry)) start count)) ⌝ }
+    ensures left { λ r. ⌜ r ≡ length (removedIn id (idsOf (now (seen .entry)) start count)) ⌝ }
+    ensures table { λ r. ⌜ now (seen .exit) ≡ putWords (now (seen .entry)) start (removedIn id (idsOf (now (seen .entry)) start count)) ⌝ }
 {
     let p = find(seen, start, count, id);
     if count <= p {
@@ -146,4 +250,35 @@ pub fn remove(seen: &mut [u64], start: usize, count: usize, id: u64) -> usize
     }
     shift::move_down(seen, at + 1, start + count, 1);
     count - 1
+}
+
+// The older ids, one short, take in the first of the n newer ones, which stand behind the free place.
+fn refill(seen: &mut [u64], start: usize, left: usize, n: usize)
+    requires { ⌜ start + left + 1 + n ≤ length (now seen) ⌝ }
+    ensures { λ r. ⌜ now (seen .exit) ≡ putWords (now (seen .entry)) start (refilled (idsOf (now (seen .entry)) start left) (idsOf (now (seen .entry)) (start + left + 1) n)) ⌝ }
+{
+    if n == 0 {
+        return;
+    }
+    let first = start + left + 1;
+    let id = seen[first];
+    insert_in(seen, start, left, id);
+    shift::move_down(seen, first + 1, first + n, 1);
+}
+
+// One id less, if it stands there. How many are left.
+pub fn remove(seen: &mut [u64], start: usize, count: usize, id: u64) -> usize
+    requires { ⌜ start + count ≤ length (now seen) ⌝ }
+    ensures left { λ r. ⌜ r ≡ length (removed id (idsOf (now (seen .entry)) start count)) ⌝ }
+    ensures table { λ r. ⌜ now (seen .exit) ≡ putWords (now (seen .entry)) start (removed id (idsOf (now (seen .entry)) start count)) ⌝ }
+{
+    let n = count % NEWEST;
+    let k = count - n;
+    if has_in(seen, start, k, id) {
+        let left = remove_in(seen, start, k, id);
+        refill(seen, start, left, n);
+        return left + n;
+    }
+    let left = remove_in(seen, start + k, n, id);
+    k + left
 }

@@ -13,7 +13,7 @@ use Rattle.rows.specs.Table.{over}
 use Rattle.rows.proofs.Rows.{length-rows}
 use Rattle.marks.specs.Marks.{idsOf, placed}
 use Rattle.marks.proofs.Search.{length-ids}
-use Rattle.marks.proofs.Rising.{length-placed}
+use Rattle.marks.proofs.Ordered.{length-placed}
 use Rattle.waiting.specs.declared.Copy.{Copy}
 use Rattle.waiting.specs.Waiting.{insertCopy, copies, form, width, read}
 use Rattle.waiting.proofs.Order.{length-insert}

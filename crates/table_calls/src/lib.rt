@@ -56,13 +56,10 @@ pub extern "C" fn tables_marks_add(seen: &mut [u64], count: usize, id: u64) -> u
     if seen.len() <= count {
         return 0;
     }
-    let p = marks::find(seen, 0, count, id);
-    if p < count {
-        if seen[p] == id {
-            return count;
-        }
+    if marks::has(seen, 0, count, id) {
+        return count;
     }
-    marks::insert_at(seen, 0, count, p, id);
+    marks::insert(seen, 0, count, id);
     count + 1
 }
 

@@ -1,28 +1,26 @@
-use native.Mathlib.Omega.{arith}
+use Rattle.marks.proofs.Both.{has-old, has-new}
 use borrow.Author.Needs.{needs}
-use Rattle.marks.proofs.Search.{stands, past}
 use Rattle.marks.proofs.has.Statement.{statement}
 use Rattle.marks.proofs.has.Tie as tie
 
-find-requires : tie.Need-find-requires
-find-requires c κs = search needs
+sub-k : tie.Need-sub-k
+sub-k c = search needs
 
-add-result : tie.Need-add-result
-add-result c = search needs
-
-mul-result : tie.Need-mul-result
-mul-result c = search needs
-
-shared-slice-read-result : tie.Need-shared-slice-read-result
-shared-slice-read-result c = search needs
+has-in-requires : tie.Need-has-in-requires
+has-in-requires c κs = search needs
 
 returns : tie.Need-returns
-returns c = let a = c .before .before .before .before .args in stands (a .seen .now) (a .start) (a .count) (a .id) (omega arith) (c .before .before .find .result) (c .before .before .find .ensures .0) (omega arith)
+returns c = let a = c .before .before .before .args in has-old (a .seen .now) (a .start) (a .count) (a .id) (c .before .before .before .pre) (c .before .has-in .ensures) (c .if1 .taken)
+
+add-has-in : tie.Need-add-has-in
+add-has-in c = search needs
+
+has-in-requires-2 : tie.Need-has-in-requires-2
+has-in-requires-2 c κs = search needs
 
 returns-2 : tie.Need-returns-2
-returns-2 c = let a = c .before .before .before .args in past (a .seen .now) (a .start) (a .count) (a .id) (omega arith) (c .before .find .result) (c .before .find .ensures .0) (omega arith)
+returns-2 c = let a = c .before .before .before .before .args in has-new (a .seen .now) (a .start) (a .count) (a .id) (c .before .before .before .before .pre) (c .before .before .has-in .ensures) (c .before .if1 .left) (c .has-in2 .ensures)
 
 pub has-spec : {M : Type 1} → statement M
 has-spec =
-    tie.close
-    (tie.spec find-requires add-result mul-result shared-slice-read-result returns returns-2)
+    tie.close (tie.spec sub-k has-in-requires returns add-has-in has-in-requires-2 returns-2)

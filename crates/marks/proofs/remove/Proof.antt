@@ -1,72 +1,72 @@
-use mathlib.Core.Path.{_∙_, sym}
 use native.Mathlib.Omega.{arith}
+use Rattle.marks.proofs.Both.{left-old, left-new, less-old, less-new}
 use borrow.Author.Needs.{needs}
-use Rattle.marks.proofs.Search.{stands, past, kept, gone}
-use borrow.Author.Tests.{eq-eqb, ne-eqb}
 use Rattle.marks.proofs.remove.Statement.{statement}
 use Rattle.marks.proofs.remove.Tie as tie
 
-find-requires : tie.Need-find-requires
-find-requires c κs = search needs
+sub-k : tie.Need-sub-k
+sub-k c = search needs
+
+has-in-requires : tie.Need-has-in-requires
+has-in-requires c κs = search needs
+
+remove-in-requires : tie.Need-remove-in-requires
+remove-in-requires c κs = search needs
+
+refill-requires : tie.Need-refill-requires
+refill-requires c κs =
+    let a = c .before .before .before .before .before .before .before .before .before .args in
+    let n = left-old (a .seen .now) (a .start) (a .count) (a .id) (c .before .before .before .before .before .before .before .before .before .pre) (c .before .before .before .remove-in .result) (c .before .before .before .before .before .before .has-in .ensures) (c .before .before .before .before .before .if1 .taken) (c .before .before .before .remove-in .ensures .0) in
+    omega (arith, n, c .before .before .before .remove-in .kept .0)
+
+add-result : tie.Need-add-result
+add-result c =
+    let a = c .before .before .before .before .before .before .before .before .before .before .before .before .args in
+    let n = left-old (a .seen .now) (a .start) (a .count) (a .id) (c .before .before .before .before .before .before .before .before .before .before .before .before .pre) (c .before .before .before .before .before .before .remove-in .result) (c .before .before .before .before .before .before .before .before .before .has-in .ensures) (c .before .before .before .before .before .before .before .before .if1 .taken) (c .before .before .before .before .before .before .remove-in .ensures .0) in
+    omega (arith, n)
 
 same-length : tie.Need-same-length
 same-length c = search needs
 
 returns : tie.Need-returns
-returns c = let a = c .before .before .before .before .args in kept (a .seen .now) (a .start) (a .count) (a .id) (c .before .before .before .before .pre) (c .before .find .result) (c .before .find .ensures .0) (past (a .seen .now) (a .start) (a .count) (a .id) (c .before .before .before .before .pre) (c .before .find .result) (c .before .find .ensures .0) (omega arith))
+returns c =
+    let a = c .before .before .before .before .before .before .before .before .before .before .before .before .args in
+    less-old (a .seen .now) (a .start) (a .count) (a .id) (c .before .before .before .before .before .before .before .before .before .before .before .before .pre) (c .before .before .before .before .before .before .remove-in .last .0) (c .before .before .refill .last .0) (c .before .before .before .before .before .before .remove-in .result)
+    (c .before .before .before .before .before .before .before .before .before .has-in .ensures) (c .before .before .before .before .before .before .before .before .if1 .taken) (c .before .before .before .before .before .before .remove-in .ensures .0) (c .before .before .before .before .before .before .remove-in .ensures .1) (c .before .before .refill .ensures)
 
-add-at : tie.Need-add-at
-add-at c = search needs
+add-remove-in : tie.Need-add-remove-in
+add-remove-in c = search needs
 
-mul-if2 : tie.Need-mul-if2
-mul-if2 c = search needs
+remove-in-requires-2 : tie.Need-remove-in-requires-2
+remove-in-requires-2 c κs = search needs
 
-slice-read-if2 : tie.Need-slice-read-if2
-slice-read-if2 c = search needs
+add-result-2 : tie.Need-add-result-2
+add-result-2 c =
+    let a = c .before .before .before .before .before .before .before .before .args in
+    let n = left-new (a .seen .now) (a .start) (a .count) (a .id) (c .before .before .before .before .before .before .before .before .pre) (c .before .before .remove-in2 .result) (c .before .before .remove-in2 .ensures .0) in
+    omega (arith, n)
 
 same-length-2 : tie.Need-same-length-2
 same-length-2 c = search needs
 
 returns-2 : tie.Need-returns-2
-returns-2 c = let a = c .before .before .before .before .before .before .args in
-    let p = c .before .before .before .find .result in
-    kept (a .seen .now) (a .start) (a .count) (a .id) (c .before .before .before .before .before .before .pre) p (c .before .before .before .find .ensures .0) (sym (ne-eqb _ _ (c .if2 .taken)) ∙ stands (a .seen .now) (a .start) (a .count) (a .id) (c .before .before .before .before .before .before .pre) p (c .before .before .before .find .ensures .0) (omega arith))
-
-add-move-down : tie.Need-add-move-down
-add-move-down c = search needs
-
-add-move-down-2 : tie.Need-add-move-down-2
-add-move-down-2 c = search needs
-
-move-down-requires : tie.Need-move-down-requires
-move-down-requires c κs = search needs
-
-sub-result : tie.Need-sub-result
-sub-result c = search needs
-
-same-length-3 : tie.Need-same-length-3
-same-length-3 c = search needs
-
-returns-3 : tie.Need-returns-3
-returns-3 c = let a = c .before .before .before .before .before .before .before .before .before .before .args in
-    let p = c .before .before .before .before .before .before .before .find .result in
-    gone (a .seen .now) (a .start) (a .count) (a .id) (c .before .before .before .before .before .before .before .before .before .before .pre) p (c .before .before .before .before .before .before .before .find .ensures .0) (omega arith) (sym (eq-eqb _ _ (c .before .before .before .before .if2 .left)) ∙ stands (a .seen .now) (a .start) (a .count) (a .id) (c .before .before .before .before .before .before .before .before .before .before .pre) p (c .before .before .before .before .before .before .before .find .ensures .0) (omega arith)) (c .before .before .move-down .last .0) (c .before .before .move-down .ensures)
+returns-2 c =
+    let a = c .before .before .before .before .before .before .before .before .args in
+    less-new (a .seen .now) (a .start) (a .count) (a .id) (c .before .before .before .before .before .before .before .before .pre) (c .before .before .remove-in2 .last .0) (c .before .before .remove-in2 .result) (c .before .before .before .before .before .has-in .ensures) (c .before .before .before .before .if1 .left) (c .before .before .remove-in2 .ensures .0) (c .before .before .remove-in2 .ensures .1)
 
 pub remove-spec : {M : Type 1} → statement M
 remove-spec =
     tie.close
     (tie.spec
-    find-requires
+    sub-k
+    has-in-requires
+    remove-in-requires
+    refill-requires
+    add-result
     same-length
     returns
-    add-at
-    mul-if2
-    slice-read-if2
+    add-remove-in
+    remove-in-requires-2
+    add-result-2
     same-length-2
-    returns-2
-    add-move-down
-    add-move-down-2
-    move-down-requires
-    sub-result
-    same-length-3
-    returns-3)
+    returns-2)
