@@ -6,12 +6,12 @@ use Prim.Native.Nat.{ℕ, zero, suc, _+_, _-_, _%_, _≤_, _<_}
 use native.Mathlib.Omega.{arith}
 use lib.Dec.{eqb}
 use lib.ListN.{length, getD, take, drop, length-append, length-drop, length-take}
-use lib.Seq.{drop-cons, drop-drop, drop-length, getD-drop, getD-take, length-take-le, take-add, take-all, take-take}
+use lib.Seq.{drop-at, drop-cons, drop-drop, drop-length, getD-drop, getD-take, length-take-le, take-add, take-all, take-at, take-take}
 use borrow.Author.Tests.{eq-eqb, ne-eqb}
 use Rattle.shift.specs.Shift.{putWords, closed}
 use Rattle.shift.proofs.Laws.{drop-take, length-put}
 use Rattle.shift.proofs.Parts.{is-put, part-closed, put-before, put-here, put-behind}
-use Rattle.marks.specs.Marks.{idsOf, foundIn, placedIn, removedIn, merged, refilled, newest, older, oldOf, newOf, found, grown, placed, removed}
+use Rattle.marks.specs.Marks.{idsOf, foundIn, placedIn, removedIn, merged, refilled, newest, older, oldOf, newOf, found, grown, listed, placed, removed}
 use Rattle.marks.proofs.Rising.{length-placed-in, length-removed-in, length-found-in}
 use Rattle.marks.proofs.Search.{length-ids}
 use Rattle.marks.proofs.Parts.{length-merged}
@@ -174,6 +174,17 @@ module _ (seen : List ℕ) (start count id : ℕ) (fits : start + count ≤ leng
             ∙ put-same seen start (removedIn id old) (refilled (removedIn id old) new) (omega (arith, m, n)) (omega (arith, m, n, some, length-old, fits)) ∙ ap (putWords seen start) (sym is),
       )
 
+-- ALL OF THEM, at the front of a table
+pub listed-is : (ws l : List ℕ) (count : ℕ) → count ≤ length ws
+    → l ≡ merged (take (older count) ws) (take (count % newest) (drop (older count) ws)) ++ drop (older count + count % newest) ws → l ≡ listed (take count ws) ++ drop count ws
+listed-is ws l count fits e =
+    let n : older count + count % newest ≡ count = omega arith in
+    let f : 0 + count ≤ length ws = omega arith in
+    let z : 0 + older count ≡ older count = omega arith in
+    let w : newOf (take count ws) ≡ take (count % newest) (drop (older count) ws) = new-is ws 0 count 0 f ∙ ap (λ (j : ℕ). idsOf ws j (count % newest)) z in
+    e ∙ ap₂ (λ (a b : List ℕ). merged a b ++ drop (older count + count % newest) ws) (sym (old-is ws 0 count 0 f)) (sym w)
+    ∙ ap (λ (k : ℕ). listed (take count ws) ++ drop k ws) n
+
 -- ONE ID MORE
 module _ (seen : List ℕ) (start count id : ℕ) (room : start + count + 1 ≤ length seen) where
   fit : start + count ≤ length seen
@@ -212,3 +223,8 @@ module _ (seen : List ℕ) (start count id : ℕ) (room : start + count + 1 ≤ 
       q ∙ ap₂ (λ (x y : List ℕ). putWords seen₁ start (merged x y)) a b ∙ ap (λ (x : List ℕ). putWords x start (merged (idsOf seen start (older count)) more)) p
       ∙ put-over seen start (older count) more (merged (idsOf seen start (older count)) more) (omega (arith, lv)) (omega (arith, lv, far))
       ∙ ap (putWords seen start) (sym (placed-is ∙ ap (λ (b : Bool). cond b (merged (idsOf seen start (older count)) more) (idsOf seen start (older count) ++ more)) (eq-eqb (length more) newest lm)))
+
+-- ids copied to the front of another table, then listed
+pub copied-listed : (own out l₁ l₂ : List ℕ) (n : ℕ) → length own ≡ n → l₁ ≡ own ++ drop n out → l₂ ≡ listed (take n l₁) ++ drop n l₁ → l₂ ≡ listed own ++ drop n out
+copied-listed own out l₁ l₂ n h p q =
+    q ∙ ap (λ (x : List ℕ). listed (take n x) ++ drop n x) p ∙ ap₂ (λ (x y : List ℕ). listed x ++ y) (take-at own (drop n out) n h) (drop-at own (drop n out) n h)

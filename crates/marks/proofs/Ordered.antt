@@ -11,7 +11,7 @@ use borrow.Author.Tests.{ltb-true, ltb-false, eqb-true, eqb-false, eq-eqb, ne-eq
 use Rattle.rows.specs.Rows.{keep, pick}
 use Rattle.rows.specs.Lists.{Each, front, behind}
 use Rattle.rows.proofs.Lists.{each-map, each-drop}
-use Rattle.marks.specs.Marks.{position, foundIn, placedIn, removedIn, merged, refilled, newest, older, oldOf, newOf, found, grown, placed, removed, Rises, member, Ordered}
+use Rattle.marks.specs.Marks.{position, foundIn, placedIn, removedIn, merged, refilled, newest, older, oldOf, newOf, found, grown, listed, placed, removed, Rises, member, Ordered}
 use Rattle.marks.proofs.Rising.{place, without, each-place, each-keep, found-member-in, placed-place, removed-without, rises-placed-in, rises-removed-in, length-placed-in, length-removed-in, length-found-in}
 use Rattle.marks.proofs.Parts.{both-parts, length-merged}
 use Rattle.marks.proofs.Both.{length-refilled}
@@ -406,3 +406,13 @@ ordered-removed j l k = go (foundIn j (oldOf l)) refl
     go false f =
         parts-ordered (oldOf l) (removedIn j (newOf l)) (length l) (length-old l) (omega (arith, few, length-removed-in j (newOf l))) (k .0) (rises-removed-in j (newOf l) (k .1))
         (each-removed-in (λ (i : ℕ). member i (oldOf l) ≡ false) j (newOf l) (k .2))
+
+-- the list rises, and has the ids
+pub listed-rises : (l : List ℕ) → Ordered l → Rises (listed l)
+listed-rises l k = rises-merged (oldOf l) (newOf l) (k .0) (k .1) (k .2)
+
+pub member-listed : (i : ℕ) (l : List ℕ) → member i (listed l) ≡ member i l
+member-listed i l = member-merged i (oldOf l) (newOf l) ∙ sym (member-parts i l)
+
+pub length-listed : (l : List ℕ) → length (listed l) ≡ length l
+length-listed l = length-merged (oldOf l) (newOf l) ∙ omega (arith, length-old l, length-new l)

@@ -88,6 +88,10 @@ refilled old (i ∷ new) = placedIn i old ++ new
 abbrev pub removed : ℕ → List ℕ → List ℕ
 removed id ids = cond (foundIn id (oldOf ids)) (refilled (removedIn id (oldOf ids)) (newOf ids)) (oldOf ids ++ removedIn id (newOf ids))
 
+-- all of them rising, as they are listed
+abbrev pub listed : List ℕ → List ℕ
+listed ids = merged (oldOf ids) (newOf ids)
+
 -- ---- The order
 
 -- each id is below those behind it

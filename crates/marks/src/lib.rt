@@ -6,7 +6,7 @@ ghost use mathlib.Core.Bool.{cond, _&&_};
 ghost use mathlib.Core.List.{_++_};
 ghost use lib.Dec.{ltb};
 ghost use Rattle.shift.specs.Shift.{putWords, opened};
-ghost use Rattle.marks.specs.Marks.{idsOf, halve, halved, leadsTo, position, foundIn, placedAt, placedIn, removedIn, merged, refilled, newest, found, placed, removed};
+ghost use Rattle.marks.specs.Marks.{idsOf, halve, halved, leadsTo, position, foundIn, placedAt, placedIn, removedIn, merged, refilled, newest, found, listed, placed, removed};
 
 // So many of the newest ids stand apart, or fewer.
 const NEWEST: usize = 128;
@@ -219,6 +219,15 @@ fn settle_at(seen: &mut [u64], start: usize, k: usize, n: usize)
     ensures { λ r. ⌜ now (seen .exit) ≡ putWords (now (seen .entry)) start (merged (idsOf (now (seen .entry)) start k) (idsOf (now (seen .entry)) (start + k) n)) ⌝ }
 {
     settle(&mut seen[start..], k, n);
+}
+
+// A till's count ids at the front, with nothing before them: all of them rising.
+pub fn list(ws: &mut [u64], count: usize)
+    requires { ⌜ count ≤ length (now ws) ⌝ }
+    ensures { λ r. ⌜ now (ws .exit) ≡ listed (take count (now (ws .entry))) ++ drop count (now (ws .entry)) ⌝ }
+{
+    let n = count % NEWEST;
+    settle(ws, count - n, n);
 }
 
 // One id more.

@@ -15,6 +15,7 @@ use Rattle.log.specs.declared.Tally.{Tally}
 use Rattle.log.specs.Log.{noTally, Log, emptyLog}
 use Rattle.network.specs.Lists.{bit, count}
 use Rattle.network.specs.Opening.{Opening}
+use Rattle.marks.specs.Marks.{listed}
 use Rattle.network.specs.Live.{Context, Till, downTill, upTill, Live, Engine, withBlocks, withRules, withTills, withSeen, withEngine, withLog, tillAt, idsAt, isUp, inTransit}
 use Rattle.network.specs.Accept.{Entry, messageOf, selected, liveAfter, booked, Counts, noCounts, tally, ruled}
 use Rattle.network.specs.Flush.{Row, rowsOf, dropsOf, handled, due, flushed}
@@ -127,7 +128,7 @@ read s (isDown t) = number 1 (bit (not (isUp s t)))
 read s nextTime = firstTime (s .waiting)
 read s (tallyOf class) = tallied (getD (s .log .tallies) class noTally)
 read s (waitingCopies rows) = copies (s .waiting)
-read s (marksOf t places) = ids (idsAt s t)
+read s (marksOf t places) = ids (listed (idsAt s t))
 
 abbrev pub movedBy : List Row → ℕ → Answer
 movedBy rows n = moved rows (count handled rows) n

@@ -74,7 +74,7 @@ withRules e x installed words = record { blocks = e .blocks; rules = x; installe
 
 pub record Live : Type 0 where
   pub tills : List Till
-  pub seen : List (List ℕ)  -- the marks of each till: ids, rising
+  pub seen : List (List ℕ)  -- the marks of each till
   pub engine : Engine
   pub rings : List (List Carried)  -- oldest first
   pub words : List ℕ  -- the word count of each link

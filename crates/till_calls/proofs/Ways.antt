@@ -12,7 +12,9 @@ use Rattle.shift.specs.Shift.{putWords}
 use Rattle.rows.specs.Table.{rowsOf}
 use Rattle.rows.proofs.Table.{row-at}
 use Rattle.rows.proofs.Lists.{getD-upTo}
-use Rattle.marks.specs.Marks.{idsOf}
+use Rattle.marks.specs.Marks.{idsOf, listed}
+use Rattle.marks.proofs.Ordered.{length-listed}
+use Rattle.marks.proofs.Both.{copied-listed}
 use Rattle.network.specs.Lists.{bit}
 use Rattle.network.specs.Live.{Till, downTill, idsAt}
 use Rattle.network.specs.Calls.{Call, takeDown, bringUp, handlers, reading, isDown, marksOf, number, answerOf, withHandlers, ids}
@@ -127,18 +129,20 @@ module _ (s m out : List ℕ) (t r : ℕ) (e : r ≡ marksNumber s m (length out
       let x = reply.silenced (lendSeen T s m) call r (marks-number T) h in
       (ap marksReply (sym x), ap outBy (sym x), reply.stays (lendSeen T s m) call r (marks-number T) h)
 
-  pub marks-done : r ≡ 0 → (out′ : List ℕ) → out′ ≡ take (cell m t) (drop (idsStart (sizesAt s) t) m) ++ drop (cell m t) out → DoesMarksOf s m out out′ t (record { number = 0; count = cell m t })
+  pub marks-done : r ≡ 0 → (copied out′ : List ℕ) → copied ≡ idsOf m (idsStart (sizesAt s) t) (cell m t) ++ drop (cell m t) out → out′ ≡ listed (take (cell m t) copied) ++ drop (cell m t) copied → DoesMarksOf s m out out′ t (record { number = 0; count = cell m t })
   unfolding DoesMarksOf
-  marks-done h out′ p = λ T.
+  marks-done h copied out′ p q = λ T.
       let k = marks-room s m (length out) t (sym e ∙ h) in
       let z = sizesAt s in
-      let is = take (cell m t) (drop (idsStart z t) m) in
+      let own = idsOf m (idsStart z t) (cell m t) in
+      let is = listed (idsOf m (idsStart z t) (cell m t)) in
       let d = length-drop (idsStart z t) m in
-      let long : length is ≡ cell m t = length-take-le (cell m t) (drop (idsStart z t) m) (omega (arith, k .end, d)) in
-      let at : idsAt (live z (lendSeen T s m)) t ≡ is = getD-upTo (z .tills) (λ i. idsOf m (idsStart z i) (cell m i)) t [] (k .there) in
+      let few : length (idsOf m (idsStart z t) (cell m t)) ≡ cell m t = length-take-le (cell m t) (drop (idsStart z t) m) (omega (arith, k .end, d)) in
+      let long : length (listed (idsOf m (idsStart z t) (cell m t))) ≡ cell m t = length-listed (idsOf m (idsStart z t) (cell m t)) ∙ few in
+      let at : idsAt (live z (lendSeen T s m)) t ≡ own = getD-upTo (z .tills) (λ i. idsOf m (idsStart z i) (cell m i)) t [] (k .there) in
       let x : callReply (lendSeen T s m) call ≡ record { number = 0; answer = ids is }
-      = reply.answered (lendSeen T s m) call r (marks-number T) h ∙ ap (λ (l : List ℕ). record { number = 0; answer = ids l }) at in (
+      = reply.answered (lendSeen T s m) call r (marks-number T) h ∙ ap (λ (l : List ℕ). record { number = 0; answer = ids (listed l) }) at in (
         ap (λ (n : ℕ). record { number = 0; count = n }) (sym long) ∙ ap marksReply (sym x),
-        p ∙ ap (λ (n : ℕ). is ++ drop n out) (sym long) ∙ ap outBy (sym x),
+        copied-listed (idsOf m (idsStart z t) (cell m t)) out copied out′ (cell m t) few p q ∙ ap (λ (n : ℕ). is ++ drop n out) (sym long) ∙ ap outBy (sym x),
         reply.steps (lendSeen T s m) call r (marks-number T) h,
       )

@@ -84,5 +84,6 @@ pub fn marks_of(setup: &[u64], seen: &[u64], t: u64, out: &mut [u64]) -> Marks
     let count = seen[t as usize];
     let start = setup[held::TILLS] as usize + t as usize * setup[held::SEEN_SLOTS] as usize;
     held::copy_front(seen, start, count as usize, out);
+    marks::list(out, count as usize);
     Marks { number: 0, count }
 }

@@ -34,11 +34,17 @@ add-start c = let p = marks-room (c .before .before .before .before .before .bef
 copy-front-requires : tie.Need-copy-front-requires
 copy-front-requires c κs = let p = marks-room (c .before .before .before .before .before .before .before .before .before .args .setup .now) (c .before .before .before .before .before .before .before .before .before .args .seen .now) (length (c .before .before .before .before .before .before .before .before .before .args .out .now)) (c .before .before .before .before .before .before .before .before .before .args .t) (sym (c .before .before .before .before .before .marks-refusal .ensures) ∙ c .before .before .before .before .if1 .left) in (omega (arith, p), omega (arith, p))
 
+list-requires : tie.Need-list-requires
+list-requires c κs =
+    let a = c .before .before .before .before .before .before .before .before .before .before .before .before .before .args in
+    let p = marks-room (a .setup .now) (a .seen .now) (length (a .out .now)) (a .t) (sym (c .before .before .before .before .before .before .before .before .before .marks-refusal .ensures) ∙ c .before .before .before .before .before .before .before .before .if1 .left) in
+    omega (arith, p, c .before .before .before .copy-front .kept)
+
 same-length : tie.Need-same-length
 same-length c = search needs
 
 returns-2 : tie.Need-returns-2
-returns-2 c = let a = c .before .before .before .before .before .before .before .before .before .before .before .before .args in marks-done (a .setup .now) (a .seen .now) (a .out .now) (a .t) _ (c .before .before .before .before .before .before .before .before .marks-refusal .ensures) (c .before .before .before .before .before .before .before .if1 .left) _ (c .before .before .copy-front .ensures)
+returns-2 c = let a = c .before .before .before .before .before .before .before .before .before .before .before .before .before .before .before .before .args in marks-done (a .setup .now) (a .seen .now) (a .out .now) (a .t) _ (c .before .before .before .before .before .before .before .before .before .before .before .before .marks-refusal .ensures) (c .before .before .before .before .before .before .before .before .before .before .before .if1 .left) _ _ (c .before .before .before .before .before .before .copy-front .ensures) (c .before .before .list .ensures)
 
 pub marks-of-spec : {M : Type 1} → statement M
 marks-of-spec =
@@ -53,5 +59,6 @@ marks-of-spec =
     mul-start
     add-start
     copy-front-requires
+    list-requires
     same-length
     returns-2)
