@@ -1,4 +1,4 @@
--- Laws of the rounds with their schedule written in, and of the words of a lane.
+-- Laws of the words of a lane, and of the loop over the lanes.
 use Prim.Native.Nat.{ℕ, zero, suc, _+_, _*_, _<_, _≤_}
 use mathlib.Core.Path.{_≡_, refl, ap, ap₂, sym, _∙_}
 use mathlib.Core.List.{List, [], _∷_}
@@ -7,18 +7,9 @@ use lib.Seq.{getD-set-same, getD-set-other}
 use native.Mathlib.Omega.{arith}
 use borrow.Author.Count.{below-more}
 use Rattle.word.proofs.Lists.{eight}
-use Rattle.compress.specs.Compress.{compressed, roundOf, rounds}
+use Rattle.compress.specs.Compress.{compressed}
 use Rattle.compress.proofs.Laws.{length-compressed}
-use Rattle.lanes.specs.Schedule.{scheduled}
 use Rattle.lanes.specs.Lanes.{lane8}
-
--- seven rounds
-pub rounds-made : (m l0 l1 l2 l3 l4 l5 l6 : List ℕ) {l7 : List ℕ}
-    → l1 ≡ roundOf l0 (scheduled 0 m) → l2 ≡ roundOf l1 (scheduled 1 m) → l3 ≡ roundOf l2 (scheduled 2 m) → l4 ≡ roundOf l3 (scheduled 3 m)
-    → l5 ≡ roundOf l4 (scheduled 4 m) → l6 ≡ roundOf l5 (scheduled 5 m) → l7 ≡ roundOf l6 (scheduled 6 m) → l7 ≡ rounds 7 l0 m
-unfolding rounds scheduled
-rounds-made m l0 l1 l2 l3 l4 l5 l6 p1 p2 p3 p4 p5 p6 p7 =
-    p7 ∙ ap (λ l. roundOf l (scheduled 6 m)) (p6 ∙ ap (λ l. roundOf l (scheduled 5 m)) (p5 ∙ ap (λ l. roundOf l (scheduled 4 m)) (p4 ∙ ap (λ l. roundOf l (scheduled 3 m)) (p3 ∙ ap (λ l. roundOf l (scheduled 2 m)) (p2 ∙ ap (λ l. roundOf l (scheduled 1 m)) p1)))))
 
 -- words vs stored in lane l, from word k on
 abbrev pub stored : List ℕ → ℕ → ℕ → List ℕ → List ℕ

@@ -1,5 +1,6 @@
 // Four whole chunks of BLAKE3 at a time, in lanes that LLVM turns into vector code.
 mod rounds;
+mod rows;
 
 use chunk::parent_value;
 use chunk::words_whole;
