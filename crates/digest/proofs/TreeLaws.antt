@@ -1,9 +1,9 @@
 -- Laws of the tree, for its recursion over two parts in a row.
-use Prim.Native.Nat.{ℕ, zero, suc, _+_, _-_, _*_, _%_, _^_, _<_, _≤_}
+use Prim.Native.Nat.{ℕ, zero, suc, _+_, _-_, _*_, _^_, _<_, _≤_}
 use mathlib.Core.Path.{_≡_, refl, ap, ap₂, sym, _∙_, subst}
 use mathlib.Core.List.{List, _++_}
 use native.Mathlib.Omega.{arith}
-use native.Mathlib.Nat.{one-mul, pow-succ'}
+use native.Mathlib.Nat.{pow-succ'}
 use lib.Pow.{pow-mono}
 use lib.ListN.{length, take, drop, length-append, length-drop}
 use lib.Seq.{length-take-le, take-take, take-all, drop-drop}
@@ -12,7 +12,7 @@ use Rattle.chunk.specs.Chunk.{chunk, parent}
 use Rattle.lanes.specs.Lanes.{full, fullAt, wholeOf}
 use Rattle.lanes.proofs.Blocks.{drop-take}
 use Rattle.lanes.proofs.Laws.{double}
-use Rattle.parts.proofs.Parts.{take-both, drop-both, empty-left}
+use Rattle.parts.proofs.Parts.{take-both, drop-both}
 use Rattle.digest.specs.Blake3.{tree, hash, pick}
 
 -- the level is a successor

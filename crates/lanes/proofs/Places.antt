@@ -1,7 +1,7 @@
 -- Laws of words written into bytes, and of the blocks of four parent nodes.
-use Prim.Native.Nat.{ℕ, _+_, _*_, _/_, _%_, _^_, _<_, _≤_}
-use mathlib.Core.Path.{_≡_, refl, ap, sym, _∙_}
-use mathlib.Core.List.{List, [], _∷_, _++_}
+use Prim.Native.Nat.{ℕ, _+_, _*_, _/_, _%_, _<_, _≤_}
+use mathlib.Core.Path.{_≡_, ap, _∙_}
+use mathlib.Core.List.{List, _++_}
 use lib.ListN.{getD, set, length, drop, length-set}
 use lib.Seq.{getD-drop, getD-set-same, getD-set-other}
 use native.Mathlib.Omega.{arith}

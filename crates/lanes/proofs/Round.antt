@@ -2,7 +2,6 @@
 use Prim.Native.Nat.{ℕ}
 use mathlib.Core.Path.{_≡_, refl, ap, _∙_}
 use mathlib.Core.List.{List, [], _∷_}
-use Rattle.compress.specs.declared.Quad.{Quad}
 use Rattle.compress.specs.Compress.{halfOf, mixOf, putQuad, mixAt, columns, diagonals, roundOf, rounds}
 use Rattle.lanes.specs.declared.rows.Rows.{Rows}
 use Rattle.lanes.specs.Rows.{flat, sumsOf, rotatedOf, halfRows, diagonalsOf, columnsOf}
