@@ -48,7 +48,7 @@ fn half(q: Quad, m: u32, s: u32, t: u32) -> Quad
 }
 
 // G.
-pub fn mix(a: u32, b: u32, c: u32, d: u32, x: u32, y: u32) -> Quad
+fn mix(a: u32, b: u32, c: u32, d: u32, x: u32, y: u32) -> Quad
     ensures { λ r. ⌜ r ≡ mixOf (record { a = a; b = b; c = c; d = d }) x y ⌝ }
 {
     let q = Quad { a, b, c, d };
