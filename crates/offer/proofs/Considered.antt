@@ -8,8 +8,7 @@ use Rattle.draw.specs.declared.Hit.{Hit}
 use Rattle.latency.specs.declared.Sample.{Sample}
 use Rattle.geography.specs.Geography.{Stands}
 use Rattle.rules.specs.Rules.{rulesOf}
-use Rattle.decide.specs.declared.Verdict.{Verdict}
-use Rattle.decide.specs.Decide.{Decision, decision, decideOf}
+use Rattle.decide.specs.Decide.{Decision, decideOf}
 use Rattle.link_draws.specs.Drawing.{Struck, Delayed, delayDraw}
 use Rattle.network.specs.Opening.{Draw, Settings, link}
 use Rattle.network.specs.Live.{Live, Carried, marked, stopped}
@@ -19,8 +18,9 @@ use Rattle.network.specs.Accept as accept
 use Rattle.network.specs.Accept.{Drawn, drawn, context, echoesOf, ringFor, loss, fault, firstFit, classOf}
 use Rattle.offer.specs.declared.Message.{Message}
 use Rattle.offer.specs.declared.Echoes.{Echoes}
+use Rattle.offer.specs.declared.Ruling.{Ruling}
 use Rattle.offer.specs.declared.Offer.the-variants.{Deduplicated, Partition, Loss, Fault, Sent}
-use Rattle.offer.specs.Offering.{keyed, Echoed, Answers}
+use Rattle.offer.specs.Offering.{keyed, Echoed, decisionIn, Answers}
 
 -- ---- The draws of a recipient, read from the tables
 
@@ -80,8 +80,8 @@ module _ (T : Tables) (m : accept.Message) (t : ℕ) where
     unfolding Answers
     is-loss h = (class-by false false true _ free going (loss-value ∙ h) refl, loss-words)
 
-    module _ (past : l .hit ≡ false) (a : Sample) (ha : Delayed x (T .prices) (m .from) t (m .wire) (l .next) a) (f : Cursor) (sf : Stands (faultKeyOf (x .faultKey)) (cell (T .net) faultWordsAt) f)
-        (v : Verdict) (hv : decision v ≡ decideOf (f .key) (context (openingAt T) m t) (rulesOf (T .rules) (cell (T .net) rulesAt)) (f .count)) where
+    module _ (past : l .hit ≡ false) (a : Sample) (ha : Delayed x (T .prices) (m .from) t (m .wire) (l .next) a)
+        (v : Ruling) (hv : decisionIn v ≡ decideOf (faultKeyOf (x .faultKey)) (context (openingAt T) m t) (rulesOf (T .rules) (cell (T .net) rulesAt)) (cell (T .net) faultWordsAt)) where
       same-key : l .next .key ≡ key
       same-key = hl .key ∙ st .key
 
@@ -91,19 +91,19 @@ module _ (T : Tables) (m : accept.Message) (t : ℕ) where
       latency-words : d .latency .words ≡ a .next .count
       latency-words = ap (λ (q : Draw ℕ). q .words) latency-is ∙ sym (ha .words ∙ (λ j. delayDraw x (T .prices) (m .from) t (m .wire) (same-key j) (sym loss-words j) .words))
 
-      verdict : d .verdict ≡ decision v
-      verdict = verdict-is ∙ sym (hv ∙ (λ j. decideOf (sf .key j) (context (openingAt T) m t) (rulesOf (T .rules) (cell (T .net) rulesAt)) (sf .count j)))
+      verdict : d .verdict ≡ decisionIn v
+      verdict = verdict-is ∙ sym hv
 
-      pub is-fault : v .drops ≡ true → Answers (openingAt T) m s t (Fault (record { words = a .next .count; fault = v .next .count; place = v .place }))
+      pub is-fault : v .drops ≡ true → Answers (openingAt T) m s t (Fault (record { words = a .next .count; fault = v .words; place = v .place }))
       unfolding Answers
       is-fault h = (
         class-by false false false true free going (loss-value ∙ past) (ap (λ (q : Decision). q .drops) verdict ∙ h),
         latency-words,
-        verdict ∙ ap (λ (b : Bool). record { drops = b; place = v .place; words = v .next .count }) h,
+        verdict ∙ ap (λ (b : Bool). record { drops = b; place = v .place; words = v .words }) h,
       )
 
       pub is-sent : v .drops ≡ false → (ring : List Carried) → ringFor s m ≡ ring → (e : Echoes) → Echoed m t (echoesOf (keyed x (T .prices) (a .next .key)) m t ring (a .next .count)) e
-          → Answers (openingAt T) m s t (Sent (record { latency = a .latency .ns; echoes = e; fault = v .next .count }))
+          → Answers (openingAt T) m s t (Sent (record { latency = a .latency .ns; echoes = e; fault = v .words }))
       unfolding Answers
       is-sent h ring rq e he =
           let same : echoesOf (keyed x (T .prices) (a .next .key)) m t ring (a .next .count) ≡ d .echoes =

@@ -50,6 +50,13 @@ pub record State (setup net words seen rings rules : List ℕ) : Type 0 where
   pub ringsHeld : RingsHeld (sizesAt setup) rings
   pub rulesSize : length rules ≡ ruleSlots * ruleWidth
 
+-- what the rules' decision needs
+pub record Rulable (net rules : List ℕ) : Type 0 where
+  pub netSize : length net ≡ netWidth
+  pub used : cell net rulesAt ≤ ruleSlots
+  pub words : cell net faultWordsAt < 2 * mostWords
+  pub size : length rules ≡ ruleSlots * ruleWidth
+
 -- what the draws for the recipient need
 pub record Drawable (setup net words keys prices rings rules : List ℕ) (m : Message) (to : ℕ) : Type 0 where
   pub priced : Priced setup prices

@@ -11,7 +11,7 @@ use Rattle.streams.specs.Streams.{Holds}
 use Rattle.draw.specs.Draw.{whole32At, words32At}
 use Rattle.latency.specs.declared.Sample.{Sample}
 use Rattle.latency.specs.Latency.{longest}
-use Rattle.decide.specs.Decide.{decideOf}
+use Rattle.decide.specs.Decide.{Decision, decideOf}
 use Rattle.rings.specs.Rings.{none}
 use Rattle.blocks.specs.Blocks.{blocked, blocksOf}
 use Rattle.waiting.specs.declared.Copy.{Copy}
@@ -29,6 +29,7 @@ use Rattle.offer.specs.declared.Message.{Message}
 use Rattle.offer.specs.declared.Replay.{Replay}
 use Rattle.offer.specs.declared.Echoes.{Echoes}
 use Rattle.offer.specs.declared.Sending.{Sending}
+use Rattle.offer.specs.declared.Ruling.{Ruling}
 use Rattle.offer.specs.declared.Offer.{Offer}
 use Rattle.offer.specs.declared.Offer.the-variants.{Deduplicated, Partition, Loss, Fault, Sent}
 
@@ -97,6 +98,10 @@ pub record Echoed (m : accept.Message) (t : ℕ) (d : accept.Echoes) (e : Echoes
   pub words : d .words ≡ e .words
   pub first : e .duplicate .latency ≤ longest
   pub second : e .replay .latency ≤ longest
+
+-- the decision of the rules
+abbrev pub decisionIn : Ruling → Decision
+decisionIn v = record { drops = v .drops; place = v .place; words = v .words }
 
 -- ---- The offer
 

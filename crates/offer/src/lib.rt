@@ -12,9 +12,12 @@ ghost use Rattle.link_draws.specs.Drawing.{Sent, delayDraw};
 ghost use Rattle.network.specs.Opening.{mostTypes, mostWords, global, link};
 ghost use Rattle.network.specs.Live.{ringsOf};
 ghost use Rattle.network.specs.Accept.{replayed, echoesOf};
-ghost use Rattle.network.specs.Tables.{cell, sizesAt, settingsAt, tillForm, idsStart, setupWidth, blocksAt, netWidth};
-ghost use Rattle.offer.specs.Needed.{Fixed, Ranged, RingsHeld, SeenHeld, State, Drawable};
-ghost use Rattle.offer.specs.Offering.{told, upAt, selectsAt, stoppedAt, echoingAt, keyed, DelayedIf, Replays, noEchoes, Echoed, Draws, Offers};
+ghost use Rattle.rules.specs.Rules.{rulesOf};
+ghost use Rattle.decide.specs.Decide.{decideOf};
+ghost use Rattle.network.specs.Real.{faultKeyOf};
+ghost use Rattle.network.specs.Tables.{cell, sizesAt, settingsAt, tillForm, idsStart, setupWidth, blocksAt, netWidth, rulesAt, faultWordsAt};
+ghost use Rattle.offer.specs.Needed.{Fixed, Ranged, RingsHeld, SeenHeld, State, Rulable, Drawable};
+ghost use Rattle.offer.specs.Offering.{told, upAt, selectsAt, stoppedAt, echoingAt, keyed, DelayedIf, Replays, noEchoes, Echoed, decisionIn, Draws, Offers};
 use latency::Sample;
 use rings::Entry;
 use streams::Cursor;
@@ -66,6 +69,13 @@ pub struct Sending {
     pub latency: u64,
     pub echoes: Echoes,
     pub fault: u64,
+}
+
+// What the rules say: whether one drops the message, its place, and the fault stream's word count.
+pub struct Ruling {
+    pub drops: bool,
+    pub place: usize,
+    pub words: u64,
 }
 
 // The first of the five that fits, with what it leaves to be written.
@@ -263,6 +273,30 @@ fn draw_echoes(
     }
 }
 
+// The rules' decision. Where there are none, the fault stream is not looked at.
+fn decided(setup: &[u64], net: &[u64], rules: &[u64], x: rule::Message) -> Ruling
+    requires { ⌜ (length (now setup) ≡ setupWidth) × Rulable (now net) (now rules) ⌝ }
+    ensures { λ r. ⌜ decisionIn r ≡ decideOf (faultKeyOf (settingsAt (now (setup .entry)) .faultKey)) x (rulesOf (now (rules .entry)) (cell (now (net .entry)) rulesAt)) (cell (now (net .entry)) faultWordsAt) ⌝ }
+{
+    let n = net[held::RULES] as usize;
+    let words = net[held::FAULT_WORDS];
+    if n == 0 {
+        return Ruling {
+            drops: false,
+            place: 0,
+            words,
+        };
+    }
+    let f = link_draws::fault_at(setup, words);
+    let v = decide::decide(rules, n, f, x);
+    let next = v.next;
+    Ruling {
+        drops: v.drops,
+        place: v.place,
+        words: next.count,
+    }
+}
+
 // The draws of a recipient that no mark and no partition stops: one cursor goes through them all.
 fn drawn(
     setup: &[u64],
@@ -301,13 +335,11 @@ fn drawn(
         tier: 0,
         now: m.now,
     };
-    let f = link_draws::fault_at(setup, net[held::FAULT_WORDS]);
-    let v = decide::decide(rules, net[held::RULES] as usize, f, x);
-    let fault = v.next;
+    let v = decided(setup, net, rules, x);
     if v.drops {
         return Offer::Fault(Faulted {
             words: second.count,
-            fault: fault.count,
+            fault: v.words,
             place: v.place,
         });
     }
@@ -315,7 +347,7 @@ fn drawn(
     Offer::Sent(Sending {
         latency: latency.ns,
         echoes: e,
-        fault: fault.count,
+        fault: v.words,
     })
 }
 

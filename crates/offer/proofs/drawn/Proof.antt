@@ -38,28 +38,39 @@ returns c = let a = c .before .before .before .before .before .before .before .b
 delay-requires : tie.Need-delay-requires
 delay-requires c κs = search needs
 
-shared-slice-read-fault-at : tie.Need-shared-slice-read-fault-at
-shared-slice-read-fault-at c = omega (arith, c .before .before .before .before .before .before .before .before .before .before .before .before .before .before .before .before .before .pre .netSize)
-
-fault-at-requires : tie.Need-fault-at-requires
-fault-at-requires c κs = c .before .before .before .before .before .before .before .before .before .before .before .before .before .before .before .before .before .pre .priced .size
-
-shared-slice-read-decide : tie.Need-shared-slice-read-decide
-shared-slice-read-decide c = omega (arith, c .before .before .before .before .before .before .before .before .before .before .before .before .before .before .before .before .before .before .before .pre .netSize)
-
-decide-requires : tie.Need-decide-requires
-decide-requires c κs = (omega (arith, c .before .before .before .before .before .before .before .before .before .before .before .before .before .before .before .before .before .before .before .pre .rulesUsed, c .before .before .before .before .before .before .before .before .before .before .before .before .before .before .before .before .before .before .before .pre .rulesSize), omega (arith, c .before .fault-at .ensures .count, c .before .before .before .before .before .before .before .before .before .before .before .before .before .before .before .before .before .before .before .pre .faultWords, c .before .before .before .before .before .before .before .before .before .before .before .before .before .before .before .before .before .before .before .pre .rulesUsed), c .before .fault-at .ensures .holds)
+decided-requires : tie.Need-decided-requires
+decided-requires c κs =
+    let p = c .before .before .before .before .before .before .before .before .before .before .before .before .before .before .before .before .pre in
+    (p .priced .size, record { netSize = p .netSize; used = p .rulesUsed; words = p .faultWords; size = p .rulesSize })
 
 returns-2 : tie.Need-returns-2
 unfolding Draws
-returns-2 c = let a = c .before .before .before .before .before .before .before .before .before .before .before .before .before .before .before .before .before .before .before .before .before .before .args in λ names tills seen waiting blocks log hm hs. is-fault (tablesOf (a .setup .now) (a .net .now) names tills (a .words .now) (a .keys .now) (a .prices .now) seen waiting (a .rings .now) (a .rules .now) blocks log) (told (a .m)) (a .to) hm hs (c .before .before .before .before .before .before .before .before .before .before .before .before .link-at .result) (c .before .before .before .before .before .before .before .before .before .before .before .before .link-at .ensures) (c .before .before .before .before .before .before .before .before .before .before .before .chance .result) (c .before .before .before .before .before .before .before .before .before .before .before .chance .ensures) (c .before .before .before .before .before .before .before .before .before .if1 .left) (c .before .before .before .before .before .before .before .before .delay .result) (c .before .before .before .before .before .before .before .before .delay .ensures) (c .before .before .before .before .fault-at .result) (c .before .before .before .before .fault-at .ensures) (c .before .before .decide .result) (c .before .before .decide .ensures .0) (c .if2 .taken)
+returns-2 c =
+    let a = c .before .before .before .before .before .before .before .before .before .before .before .before .before .before .before .before .before .before .args in
+    λ names tills seen waiting blocks log hm hs.
+    is-fault (tablesOf (a .setup .now) (a .net .now) names tills (a .words .now) (a .keys .now) (a .prices .now) seen waiting (a .rings .now) (a .rules .now) blocks log) (told (a .m)) (a .to) hm hs (c .before .before .before .before .before .before .before .before .link-at .result) (c .before .before .before .before .before .before .before .before .link-at .ensures) (c .before .before .before .before .before .before .before .chance .result) (c .before .before .before .before .before .before .before .chance .ensures) (c .before .before .before .before .before .if1 .left) (c .before .before .before .before .delay .result) (c .before .before .before .before .delay .ensures) (c .before .decided .result) (c .before .decided .ensures) (c .if2 .taken)
 
 draw-echoes-requires : tie.Need-draw-echoes-requires
-draw-echoes-requires c κs = (record { priced = c .before .before .before .before .before .before .before .before .before .before .before .before .before .before .before .before .before .before .before .before .before .before .pre .priced; sender = c .before .before .before .before .before .before .before .before .before .before .before .before .before .before .before .before .before .before .before .before .before .before .pre .ranged .from; receiver = c .before .before .before .before .before .before .before .before .before .before .before .before .before .before .before .before .before .before .before .before .before .before .pre .below; short = c .before .before .before .before .before .before .before .before .before .before .before .before .before .before .before .before .before .before .before .before .before .before .pre .ranged .wire }, c .before .before .before .before .before .before .before .before .before .before .before .before .before .before .before .before .before .before .before .before .before .before .pre .ringsHeld, c .before .before .before .before .before .before .before .before .before .before .before .before .before .before .before .before .before .before .before .before .before .before .pre .ranged, c .before .before .before .before .before .before .before .before .before .before .before .before .before .before .before .before .before .before .before .before .before .before .pre .types, omega (arith, c .before .before .before .before .before .before .before .before .before .before .before .before .before .before .before .before .before .before .before .before .before .before .pre .fresh, c .before .before .before .before .before .before .before .before .before .before .before .before .link-at .ensures .count, c .before .before .before .before .before .before .before .before .before .before .before .chance .ensures .few, c .before .before .before .before .before .before .before .before .delay .ensures .few), c .before .before .before .before .before .before .before .before .delay .ensures .holds)
+draw-echoes-requires c κs =
+    let p = c .before .before .before .before .before .before .before .before .before .before .before .before .before .before .before .before .before .before .pre in (
+      record { priced = p .priced; sender = p .ranged .from; receiver = p .below; short = p .ranged .wire },
+      p .ringsHeld,
+      p .ranged,
+      p .types,
+      omega (arith, p .fresh, c .before .before .before .before .before .before .before .before .link-at .ensures .count, c .before .before .before .before .before .before .before .chance .ensures .few, c .before .before .before .before .delay .ensures .few),
+      c .before .before .before .before .delay .ensures .holds,
+    )
 
 returns-3 : tie.Need-returns-3
 unfolding Draws
-returns-3 c = let a = c .before .before .before .before .before .before .before .before .before .before .before .before .before .before .before .before .before .before .before .before .before .before .before .args in λ names tills seen waiting blocks log hm hs. is-sent (tablesOf (a .setup .now) (a .net .now) names tills (a .words .now) (a .keys .now) (a .prices .now) seen waiting (a .rings .now) (a .rules .now) blocks log) (told (a .m)) (a .to) hm hs (c .before .before .before .before .before .before .before .before .before .before .before .before .before .link-at .result) (c .before .before .before .before .before .before .before .before .before .before .before .before .before .link-at .ensures) (c .before .before .before .before .before .before .before .before .before .before .before .before .chance .result) (c .before .before .before .before .before .before .before .before .before .before .before .before .chance .ensures) (c .before .before .before .before .before .before .before .before .before .before .if1 .left) (c .before .before .before .before .before .before .before .before .before .delay .result) (c .before .before .before .before .before .before .before .before .before .delay .ensures) (c .before .before .before .before .before .fault-at .result) (c .before .before .before .before .before .fault-at .ensures) (c .before .before .before .decide .result) (c .before .before .before .decide .ensures .0) (c .before .if2 .left) (entries (ringsOf (sizesAt (a .setup .now))) (a .rings .now) (numberOf (a .m .kind) (a .m .scope))) (ring-is (tablesOf (a .setup .now) (a .net .now) names tills (a .words .now) (a .keys .now) (a .prices .now) seen waiting (a .rings .now) (a .rules .now) blocks log) (told (a .m)) (ring-below (sizesAt (a .setup .now)) (a .m .kind) (a .m .scope) (c .before .before .before .before .before .before .before .before .before .before .before .before .before .before .before .before .before .before .before .before .before .before .before .pre .ranged .kind) (c .before .before .before .before .before .before .before .before .before .before .before .before .before .before .before .before .before .before .before .before .before .before .before .pre .ranged .scope))) (c .draw-echoes .result) (c .draw-echoes .ensures)
+returns-3 c =
+    let s = c .before .before .before .before .before .before .before .before .before .before .before .before .before .before .before .before .before .before .before in
+    let a = c .before .before .before .before .before .before .before .before .before .before .before .before .before .before .before .before .before .before .before .args in
+    λ names tills seen waiting blocks log hm hs.
+    is-sent (tablesOf (a .setup .now) (a .net .now) names tills (a .words .now) (a .keys .now) (a .prices .now) seen waiting (a .rings .now) (a .rules .now) blocks log) (told (a .m)) (a .to) hm hs (c .before .before .before .before .before .before .before .before .before .link-at .result) (c .before .before .before .before .before .before .before .before .before .link-at .ensures) (c .before .before .before .before .before .before .before .before .chance .result) (c .before .before .before .before .before .before .before .before .chance .ensures) (c .before .before .before .before .before .before .if1 .left) (c .before .before .before .before .before .delay .result) (c .before .before .before .before .before .delay .ensures) (c .before .before .decided .result) (c .before .before .decided .ensures) (c .before .if2 .left)
+    (entries (ringsOf (sizesAt (a .setup .now))) (a .rings .now) (numberOf (a .m .kind) (a .m .scope)))
+    (ring-is (tablesOf (a .setup .now) (a .net .now) names tills (a .words .now) (a .keys .now) (a .prices .now) seen waiting (a .rings .now) (a .rules .now) blocks log) (told (a .m)) (ring-below (sizesAt (a .setup .now)) (a .m .kind) (a .m .scope) (s .pre .ranged .kind) (s .pre .ranged .scope)))
+    (c .draw-echoes .result) (c .draw-echoes .ensures)
 
 pub drawn-spec : {M : Type 1} → statement M
 drawn-spec =
@@ -74,10 +85,7 @@ drawn-spec =
     chance-requires
     returns
     delay-requires
-    shared-slice-read-fault-at
-    fault-at-requires
-    shared-slice-read-decide
-    decide-requires
+    decided-requires
     returns-2
     draw-echoes-requires
     returns-3)
