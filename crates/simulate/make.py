@@ -283,7 +283,7 @@ def main():
             said.append(answer + '\n')
             if line.startswith('open') and answer == 'open ok':
                 lines = [line]
-    for part, name in ((3, 'faults.py'), (4, 'delays.py')):
+    for part, name in ((3, 'faults.py'), (4, 'delays.py'), (5, 'marks.py')):
         more = printed([sys.executable, os.path.join(HERE, name)], '')
         script.append('# Part %d: by %s; the answers are the original\'s.' % (part, name))
         script += more.splitlines()
