@@ -149,11 +149,11 @@ fn insert_in(seen: &mut [u64], start: usize, count: usize, id: u64)
 }
 
 // The n words from `start` on, up to NEWEST of them.
-fn copied(seen: &[u64], start: usize, n: usize) -> [u64; 128]
+fn copied(seen: &[u64], start: usize, n: usize) -> [u64; NEWEST]
     requires { ⌜ (n ≤ newest) × (start + n ≤ length (now seen)) ⌝ }
     ensures { λ r. ⌜ (length r ≡ newest) × (take n r ≡ idsOf (now (seen .entry)) start n) ⌝ }
 {
-    let mut out = [0u64; 128];
+    let mut out = [0u64; NEWEST];
     let mut i: usize = 0;
     while i < n {
         out[i] = seen[start + i];
@@ -213,7 +213,7 @@ fn settle(ws: &mut [u64], k: usize, n: usize)
     merge(ws, k, n, &new);
 }
 
-// The count ids from `start` on, merged.
+// The k older and n newer ids from `start` on, merged.
 fn settle_at(seen: &mut [u64], start: usize, k: usize, n: usize)
     requires { ⌜ (n ≤ newest) × (start + (k + n) ≤ length (now seen)) ⌝ }
     ensures { λ r. ⌜ now (seen .exit) ≡ putWords (now (seen .entry)) start (merged (idsOf (now (seen .entry)) start k) (idsOf (now (seen .entry)) (start + k) n)) ⌝ }
@@ -221,7 +221,7 @@ fn settle_at(seen: &mut [u64], start: usize, k: usize, n: usize)
     settle(&mut seen[start..], k, n);
 }
 
-// A till's count ids at the front, with nothing before them: all of them rising.
+// A till's ids, the first count words, all of them rising.
 pub fn list(ws: &mut [u64], count: usize)
     requires { ⌜ count ≤ length (now ws) ⌝ }
     ensures { λ r. ⌜ now (ws .exit) ≡ listed (take count (now (ws .entry))) ++ drop count (now (ws .entry)) ⌝ }
