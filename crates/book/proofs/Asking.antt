@@ -7,7 +7,8 @@ use mathlib.Core.List.{List, [], _∷_}
 use lib.Dec.{lit<}
 use borrow.Author.Tests.{eq-eqb, ne-eqb}
 use Rattle.network.specs.Opening.{Settings, Opening}
-use Rattle.network.specs.Live.{Live}
+use Rattle.network.specs.Marking.{Marking}
+use Rattle.network.specs.Live.{LiveBy}
 use Rattle.network.specs.Calls.{Call, Reading, isBlocked, transit, fired, isDown, nextTime, tallyOf, waitingCopies, marksOf, accept, flush, takeDown, bringUp, handlers, block, blockDuring, unblock, install, remove, decide, drain, reading}
 use Rattle.network.specs.Questions.{Asked, firstNo, answerTo, asked, askedReading}
 use Rattle.network.specs.Open.{askedOpening}
@@ -57,7 +58,7 @@ rising-reading o (tallyOf class) = (lit< tt, tt)
 rising-reading o (waitingCopies rows) = (lit< tt, tt)
 rising-reading o (marksOf t places) = (lit< tt, (lit< tt, tt))
 
-pub rising : (o : Opening) (s : Live) (c : Call) → Rising 0 (asked o s c)
+pub rising : (o : Opening) {k : Marking} (s : LiveBy k) (c : Call) → Rising 0 (asked o s c)
 rising o s (accept e true) = (lit< tt, (lit< tt, (lit< tt, (lit< tt, (lit< tt, (lit< tt, (lit< tt, (lit< tt, tt))))))))
 rising o s (accept e false) = (lit< tt, (lit< tt, (lit< tt, (lit< tt, tt))))
 rising o s (flush now rows) = (lit< tt, (lit< tt, tt))

@@ -17,24 +17,23 @@ use Rattle.book.specs.Cells.{Fit, CellsFit, CallFits, ItemFits, ItemsFit
 use Rattle.book.proofs.Each.{every-each}
 use Rattle.book.proofs.Asking.{all-yes, rising-opening}
 use Rattle.book.proofs.Fitting.{Limited}
-use Rattle.book.proofs.Held.{Held}
-use Rattle.book.proofs.Start.{limited, open-held}
+use Rattle.book.proofs.Start.{limited}
 use Rattle.book.proofs.Bounds.{DrawsFit, draws-fit}
 use Rattle.book.proofs.Cells.{step-cells}
 use Rattle.book.proofs.CellsOpen.{open-cells}
-use Rattle.book.proofs.Final.{number-is, held-after}
+use Rattle.book.proofs.Final.{Bears, number-kept, held-after, open-bears}
 
 module _ (o : Opening) (lim : Limited (o .sizes)) (g : DrawsFit o) where
-  call-cells : (T : Tables) (b : Book) (c : Call) → Held o T (b .live) → CallFits c → CellsFit T → (n : ℕ) → n ≡ firstNo (asked o (b .live) c) → CellsFit (exitT o (isNumber n) T c)
-  call-cells T b c h f k zero e = step-cells o lim g c T (b .live) (h .wrote) (h .fits) (sym e) f k
+  call-cells : (T : Tables) (b : Book) (c : Call) (h : Bears o T b) → CallFits c → CellsFit T → (n : ℕ) → n ≡ firstNo (asked o (h .kept) c) → CellsFit (exitT o (isNumber n) T c)
+  call-cells T b c h f k zero e = step-cells o lim g c T (h .kept) (h .held .wrote) (h .held .fits) (sym e) f k
   call-cells T b c h f k (suc n) e = k
 
-  item-cells : (b : Book) (T : Tables) (i : Item) → Held o T (b .live) → ItemFits i → CellsFit T → CellsFit (tablesAfter T i)
-  item-cells b T (own c) h f k = subst (λ (q : Opening). CellsFit (tablesBy q T c)) (sym (h .fixed .opening)) (call-cells T b c h f k (numberOf o T c) (number-is o T (b .live) h c))
+  item-cells : (b : Book) (T : Tables) (i : Item) → Bears o T b → ItemFits i → CellsFit T → CellsFit (tablesAfter T i)
+  item-cells b T (own c) h f k = subst (λ (q : Opening). CellsFit (tablesBy q T c)) (sym (h .held .fixed .opening)) (call-cells T b c h f k (numberOf o T c) (number-kept o T b h c))
   item-cells b T (others X c) h f k = k
   item-cells b T (reopen X y ms) h f k = k
 
-  items-cells : (is : List Item) (b : Book) (T : Tables) → Held o T (b .live) → AllAdmitted is → ItemsFit is → CellsFit T → CellsFit (tablesAtEnd T is)
+  items-cells : (is : List Item) (b : Book) (T : Tables) → Bears o T b → AllAdmitted is → ItemsFit is → CellsFit T → CellsFit (tablesAtEnd T is)
   items-cells [] b T h a f k = k
   items-cells (i ∷ is) b T h a f k = items-cells is (bookAfter o b T i) (tablesAfter T i) (held-after o lim b T i h (a .0)) (a .1) (f .1) (item-cells b T i h (f .0) k)
 
@@ -45,4 +44,4 @@ cells x masks lent h e f is a q =
     let o = openingOf x (lent .names) in
     let y : Each (λ (p : Asked). p .yes ≡ true) (askedOpening x masks lent) = all-yes 0 (askedOpening x masks lent) (rising-opening x masks lent) h in
     let texts = every-each (limitTests x masks lent) (y .1 .0) .1 .0 in
-    items-cells o (limited x masks lent h) (draws-fit x (lent .names) (y .1 .1 .0) texts) is (opened o masks) (openTables x masks lent) (open-held x masks lent h) a q (open-cells x masks lent h e f)
+    items-cells o (limited x masks lent h) (draws-fit x (lent .names) (y .1 .1 .0) texts) is (opened o masks) (openTables x masks lent) (open-bears x masks lent h) a q (open-cells x masks lent h e f)

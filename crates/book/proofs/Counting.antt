@@ -15,7 +15,8 @@ use Rattle.waiting.specs.declared.Copy.{Copy}
 use Rattle.network.specs.Accept.{insertAll}
 use Rattle.network.specs.Flush.{stops}
 use Rattle.network.specs.Lists.{bit, count}
-use Rattle.network.specs.Live.{Live, numbered}
+use Rattle.network.specs.Marking.{plain}
+use Rattle.network.specs.Live.{LiveBy, numbered}
 
 -- one more sequence is given
 pub bit-next : (m n : ℕ) → bit (eqb (suc m) n) + bit (given n m) ≡ bit (given n (suc m))
@@ -68,7 +69,7 @@ pub scheduling-dropped : (cs : List Copy) (es : List Event) → droppedIn (sched
 scheduling-dropped [] es = refl
 scheduling-dropped (c ∷ cs) es = scheduling-dropped cs (scheduled c ∷ es)
 
-pub flushing-scheduled : (s : Live) (cs : List Copy) (es : List Event) → scheduledIn (flushEvents s cs es) ≡ scheduledIn es
+pub flushing-scheduled : (s : LiveBy plain) (cs : List Copy) (es : List Event) → scheduledIn (flushEvents s cs es) ≡ scheduledIn es
 flushing-scheduled s [] es = refl
 flushing-scheduled s (c ∷ cs) es = flushing-scheduled s cs (cond (stops s c) (dropped c) (landed c) ∷ es) ∙ go (stops s c)
   where
@@ -76,7 +77,7 @@ flushing-scheduled s (c ∷ cs) es = flushing-scheduled s cs (cond (stops s c) (
     go true = refl
     go false = refl
 
-pub flushing-moved : (p : Copy → Bool) (s : Live) (cs : List Copy) (es : List Event)
+pub flushing-moved : (p : Copy → Bool) (s : LiveBy plain) (cs : List Copy) (es : List Event)
     → count p (landedIn (flushEvents s cs es)) + count p (droppedIn (flushEvents s cs es)) ≡ count p cs + (count p (landedIn es) + count p (droppedIn es))
 flushing-moved p s [] es = omega arith
 flushing-moved p s (c ∷ cs) es = omega (arith, flushing-moved p s cs (cond (stops s c) (dropped c) (landed c) ∷ es), go (stops s c))

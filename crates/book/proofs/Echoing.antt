@@ -8,7 +8,8 @@ use lib.ListN.{length, getD, length-append}
 use Rattle.rows.specs.Lists.{Each}
 use Rattle.waiting.specs.declared.Copy.{Copy}
 use Rattle.network.specs.Opening.{Opening, Draw}
-use Rattle.network.specs.Live.{Carried, Live}
+use Rattle.network.specs.Marking.{Marking}
+use Rattle.network.specs.Live.{Carried, LiveBy}
 use Rattle.network.specs.Accept.{Message, Echoes, drawn, timed, isEmpty, replayed, echoed, echoesOf, echo, carriedOf, ringFor}
 use Rattle.book.proofs.Each.{each-append, each-at}
 use Rattle.book.proofs.Marks.{Echo}
@@ -41,7 +42,7 @@ module _ (o : Opening) (m : Message) (t : ℕ) where
       go true x h = h
       go false x h = omega arith
 
-  pub drawn-few : (s : Live) → length (drawn o m t s .echoes .copies) ≤ 2
+  pub drawn-few : {k : Marking} (s : LiveBy k) → length (drawn o m t s .echoes .copies) ≤ 2
   unfolding drawn
   drawn-few s = echoes-few (ringFor s m) _
 
@@ -76,7 +77,7 @@ module _ (o : Opening) (m : Message) (t : ℕ) where
         go true x h = h
         go false x h = tt
 
-    pub drawn-each : (s : Live) → Each Q (ringFor s m) → Each P (drawn o m t s .echoes .copies)
+    pub drawn-each : {k : Marking} (s : LiveBy k) → Each Q (ringFor s m) → Each P (drawn o m t s .echoes .copies)
     unfolding drawn
     drawn-each s e = echoes-each (ringFor s m) _ e
 
@@ -85,5 +86,5 @@ module _ (o : Opening) (m : Message) (t : ℕ) where
   every (c ∷ l) = (tt, every l)
 
   -- echoes carry no id
-  pub drawn-echoes : (s : Live) → Each Echo (drawn o m t s .echoes .copies)
+  pub drawn-echoes : {k : Marking} (s : LiveBy k) → Each Echo (drawn o m t s .echoes .copies)
   drawn-echoes s = drawn-each Echo (λ (c : Carried). Unit {0}) (λ c l h. refl) tt s (every (ringFor s m))

@@ -6,14 +6,14 @@ use mathlib.Core.Bool.{Bool, true, false, false≢true}
 use mathlib.Core.List.{List, [], _∷_, _++_, reverseAux}
 use lib.ListN.{length, drop}
 use Rattle.waiting.proofs.Order.{front-all}
-use Rattle.marks.specs.Marks.{Ordered}
-use Rattle.marks.proofs.Ordered.{none-ordered, found-member}
+use Rattle.marks.specs.Marks.{listed}
 use Rattle.network.specs.Lists.{count}
 use Rattle.network.specs.Opening.{Settings, Opening}
-use Rattle.network.specs.Live.{Live, idsAt}
+use Rattle.network.specs.Marking.{plain, table}
+use Rattle.network.specs.Live.{Live, LiveBy, plainly, openingLive}
 use Rattle.network.specs.Accept.{messageOf, selected, booked, noCounts, tally, total}
 use Rattle.network.specs.Flush.{handled}
-use Rattle.network.specs.Calls.{Call, Answer, answerOf, countsIn, rowsIn, deliveredIn, dropsIn, accept, flush, takeDown, bringUp, handlers, block, blockDuring, unblock, install, remove, decide, drain, reading}
+use Rattle.network.specs.Calls.{Call, Answer, liveStep, answerOf, countsIn, rowsIn, deliveredIn, dropsIn, accept, flush, takeDown, bringUp, handlers, block, blockDuring, unblock, install, remove, decide, drain, reading}
 use Rattle.network.specs.Questions.{asked, firstNo}
 use Rattle.network.specs.Tables.{Tables, live}
 use Rattle.network.specs.Real.{openingOf, openingAt}
@@ -22,9 +22,9 @@ use Rattle.network.specs.Open.{askedOpening, openNumber, openTables, openExit}
 use Rattle.book.specs.Book.{Book, landedIn, droppedIn, bookStep, expected, opened}
 use Rattle.book.specs.History.{hasSequence}
 use Rattle.book.specs.Demand3.{Item, own, others, reopen, Admitted, AllAdmitted, replyTo, tablesAfter, tablesAtEnd, refused, Kept, copiesOf, bookAfter, expectedOf, bookAtEnd, OnlyNo, SumOf, isDrain, logFrom, LogOf, CallHolds, CallsHold, BookHolds, Demand3, Run, tablesAfterRun, Accepted, EveryList}
-use Rattle.book.proofs.Each.{each-at}
 use Rattle.book.proofs.Marks.{two-originals}
 use Rattle.book.proofs.Sound.{SoundBook, book-sound, opened-sound}
+use Rattle.book.proofs.Plain as marks
 use Rattle.book.proofs.Sums.{booked-tills, booked-total}
 use Rattle.book.proofs.Moves.{book-rows, book-drops, book-delivered, book-log, quiet}
 use Rattle.book.proofs.Asking.{first-no, rising, rising-opening}
@@ -36,36 +36,54 @@ use Rattle.book.proofs.Unwritten.{same-step}
 use Rattle.book.proofs.Held.{Held, yes1}
 use Rattle.book.proofs.Start.{limited, open-held}
 
+-- the tables hold a live part, and it is the book's once its marks are plain
+pub record Bears (o : Opening) (T : Tables) (b : Book) : Type 0 where
+  pub kept : Live
+  pub held : Held o T kept
+  pub same : plainly kept ≡ b .live
+
 module _ (o : Opening) where
   -- ---- One call: the contracts speak of the book's opening
 
-  module _ (T : Tables) (s : Live) (h : Held o T s) (c : Call) where
+  module _ (T : Tables) (b : Book) (h : Bears o T b) (c : Call) where
     reply-is : callReply T c ≡ replyBy o T c
-    reply-is = ap (λ (q : Opening). replyBy q T c) (h .fixed .opening)
+    reply-is = ap (λ (q : Opening). replyBy q T c) (h .held .fixed .opening)
 
-    pub number-is : numberOf o T c ≡ firstNo (asked o s c)
-    number-is = rw (yes1 o T s h c) (ap (λ (q : Live). firstNo (asked o q c)) (h .wrote .holds))
+    -- the questions of the tables are those of the book
+    pub asked-is : asked o (h .kept) c ≡ asked o (b .live) c
+    asked-is = marks.same-asked o (h .kept) (h .held .fits .ordered) c ∙ ap (λ (q : LiveBy plain). asked o q c) (h .same)
 
-  answer-is : (T : Tables) (b : Book) (c : Call) → live (o .sizes) T ≡ b .live → (r : Bool) → answerT o r T c ≡ expected o b c r
-  answer-is T b c h true = refl
-  answer-is T b c h false = ap (λ (s : Live). answerOf o s c) h
+    pub number-kept : numberOf o T c ≡ firstNo (asked o (h .kept) c)
+    number-kept = rw (yes1 o T (h .kept) (h .held) c) (ap (λ (q : Live). firstNo (asked o q c)) (h .held .wrote .holds))
 
-  held-step : Limited (o .sizes) → (T : Tables) (b : Book) (c : Call) → Held o T (b .live) → (n : ℕ) → n ≡ firstNo (asked o (b .live) c)
-      → Held o (exitT o (isNumber n) T c) (bookStep o b c (isNumber n) .live)
+    pub number-is : numberOf o T c ≡ firstNo (asked o (b .live) c)
+    number-is = number-kept ∙ ap firstNo asked-is
+
+    answer-is : (r : Bool) → answerT o r T c ≡ expected o b c r
+    answer-is true = refl
+    answer-is false =
+        ap (λ (s : Live). answerOf o s c) (h .held .wrote .holds) ∙ marks.same-answer o (h .kept) (h .held .fits .ordered) c ∙ ap (λ (q : LiveBy plain). answerOf o q c) (h .same)
+
+  held-step : Limited (o .sizes) → (T : Tables) (b : Book) (c : Call) (h : Bears o T b) → (n : ℕ) → n ≡ firstNo (asked o (h .kept) c)
+      → Bears o (exitT o (isNumber n) T c) (bookStep o b c (isNumber n))
   held-step lim T b c h zero e = record {
-    fixed = subst (Fixed o) (sym (same-step o T c)) (h .fixed);
-    wrote = step-wrote o lim c T (b .live) (h .wrote) (h .fits) (sym e);
-    fits = step-fits o lim (b .live) c (sym e) (h .fits);
+    kept = liveStep o (h .kept) c;
+    held = record {
+      fixed = subst (Fixed o) (sym (same-step o T c)) (h .held .fixed);
+      wrote = step-wrote o lim c T (h .kept) (h .held .wrote) (h .held .fits) (sym e);
+      fits = step-fits o lim (h .kept) c (sym e) (h .held .fits);
+    };
+    same = marks.same-step o (h .kept) (h .held .fits .ordered) c ∙ ap (λ (q : LiveBy plain). liveStep o q c) (h .same);
   }
   held-step lim T b c h (suc n) e = h
 
   -- ---- What holds of each call
 
-  same-answer : (b : Book) (T : Tables) (i : Item) → Held o T (b .live) → Admitted i → replyTo T i .answer ≡ expectedOf o b T i
+  same-answer : (b : Book) (T : Tables) (i : Item) → Bears o T b → Admitted i → replyTo T i .answer ≡ expectedOf o b T i
   same-answer b T (own c) h a =
-      ap (λ (r : Reply). r .answer) (reply-is T (b .live) h c)
-      ∙ answer-is T b c (h .wrote .holds) (isNumber (numberOf o T c))
-      ∙ ap (λ (r : Reply). expected o b c (isNumber (r .number))) (sym (reply-is T (b .live) h c))
+      ap (λ (r : Reply). r .answer) (reply-is T b h c)
+      ∙ answer-is T b h c (isNumber (numberOf o T c))
+      ∙ ap (λ (r : Reply). expected o b c (isNumber (r .number))) (sym (reply-is T b h c))
   same-answer b T (others X c) h a = rw a
   same-answer b T (reopen X y ms) h a = refl
 
@@ -77,8 +95,8 @@ module _ (o : Opening) where
   only-reopen b X y ms zero h = tt
   only-reopen b X y ms (suc n) h = rw h (first-no 0 (askedOpening y ms X) (rising-opening y ms X) (λ e. omega arith))
 
-  only-no : (b : Book) (T : Tables) (i : Item) → Held o T (b .live) → Admitted i → OnlyNo o b i (replyTo T i .number)
-  only-no b T (own c) h a = only-own b c (callReply T c .number) (ap (λ (r : Reply). r .number) (reply-is T (b .live) h c) ∙ number-is T (b .live) h c)
+  only-no : (b : Book) (T : Tables) (i : Item) → Bears o T b → Admitted i → OnlyNo o b i (replyTo T i .number)
+  only-no b T (own c) h a = only-own b c (callReply T c .number) (ap (λ (r : Reply). r .number) (reply-is T b h c) ∙ number-is T b h c)
   only-no b T (others X c) h a = rw a (refl, a)
   only-no b T (reopen X y ms) h a = only-reopen b X y ms (openNumber y ms X) refl
 
@@ -97,14 +115,14 @@ module _ (o : Opening) where
   kept T (reopen X y ms) a = reopen-kept X y ms (openNumber y ms X) a
 
   -- calls other than an accept count nothing
-  none : (b : Book) (T : Tables) (c : Call) → Held o T (b .live) → countsIn (answerOf o (b .live) c) ≡ noCounts → countsIn (callReply T c .answer) ≡ noCounts
+  none : (b : Book) (T : Tables) (c : Call) → Bears o T b → countsIn (answerOf o (b .live) c) ≡ noCounts → countsIn (callReply T c .answer) ≡ noCounts
   none b T c h e = ap countsIn (same-answer b T (own c) h tt) ∙ go (refused T (own c))
     where
       go : (r : Bool) → countsIn (expected o b c r) ≡ noCounts
       go true = refl
       go false = e
 
-  sum : (b : Book) (T : Tables) (i : Item) → Held o T (b .live) → Admitted i → SumOf o b i (replyTo T i)
+  sum : (b : Book) (T : Tables) (i : Item) → Bears o T b → Admitted i → SumOf o b i (replyTo T i)
   sum b T (own (accept e true)) h a = λ z.
       let c = accept e true in
       let ts = selected o (b .live) (e .scope) (e .from) in
@@ -128,7 +146,7 @@ module _ (o : Opening) where
   sum b T (others X c) h a = rw a
   sum b T (reopen X y ms) h a = refl
 
-  log-of : (b : Book) (T : Tables) (i : Item) → Held o T (b .live) → Admitted i → LogOf o b (bookAfter o b T i) i (replyTo T i)
+  log-of : (b : Book) (T : Tables) (i : Item) → Bears o T b → Admitted i → LogOf o b (bookAfter o b T i) i (replyTo T i)
   log-of b T (own c) h a = λ z.
       ap (λ (k : ℕ). bookStep o b c (isNumber k) .live .log) z ∙ book-log o b c
       ∙ ap (logFrom o (isDrain o c) (b .live .log)) (sym (same-answer b T (own c) h tt ∙ ap (λ (k : ℕ). expected o b c (isNumber k)) z))
@@ -150,7 +168,7 @@ module _ (o : Opening) where
   delivered-count b T (others X c) = book-delivered o b c (refused T (others X c))
   delivered-count b T (reopen X y ms) = refl
 
-  call-holds : (b : Book) (T : Tables) (i : Item) → Held o T (b .live) → Admitted i → CallHolds o b T i
+  call-holds : (b : Book) (T : Tables) (i : Item) → Bears o T b → Admitted i → CallHolds o b T i
   call-holds b T i h a =
       let e = same-answer b T i h a in
       record {
@@ -167,18 +185,18 @@ module _ (o : Opening) where
   -- ---- Every list
 
   module _ (lim : Limited (o .sizes)) where
-    pub held-after : (b : Book) (T : Tables) (i : Item) → Held o T (b .live) → Admitted i → Held o (tablesAfter T i) (bookAfter o b T i .live)
+    pub held-after : (b : Book) (T : Tables) (i : Item) → Bears o T b → Admitted i → Bears o (tablesAfter T i) (bookAfter o b T i)
     held-after b T (own c) h a =
-        subst (λ (q : Opening). Held o (tablesBy q T c) (bookStep o b c (isNumber (numberOf q T c)) .live)) (sym (h .fixed .opening))
-        (held-step lim T b c h (numberOf o T c) (number-is T (b .live) h c))
+        subst (λ (q : Opening). Bears o (tablesBy q T c) (bookStep o b c (isNumber (numberOf q T c)))) (sym (h .held .fixed .opening))
+        (held-step lim T b c h (numberOf o T c) (number-kept T b h c))
     held-after b T (others X c) h a = rw a h
     held-after b T (reopen X y ms) h a = h
 
-    calls-hold : (is : List Item) (b : Book) (T : Tables) → Held o T (b .live) → AllAdmitted is → CallsHold o b T is
+    calls-hold : (is : List Item) (b : Book) (T : Tables) → Bears o T b → AllAdmitted is → CallsHold o b T is
     calls-hold [] b T h a = tt
     calls-hold (i ∷ is) b T h a = (call-holds b T i h (a .0), calls-hold is (bookAfter o b T i) (tablesAfter T i) (held-after b T i h (a .0)) (a .1))
 
-    end-held : (is : List Item) (b : Book) (T : Tables) → Held o T (b .live) → AllAdmitted is → Held o (tablesAtEnd T is) (bookAtEnd o b T is .live)
+    end-held : (is : List Item) (b : Book) (T : Tables) → Bears o T b → AllAdmitted is → Bears o (tablesAtEnd T is) (bookAtEnd o b T is)
     end-held [] b T h a = h
     end-held (i ∷ is) b T h a = end-held is (bookAfter o b T i) (tablesAfter T i) (held-after b T i h (a .0)) (a .1)
 
@@ -196,7 +214,7 @@ module _ (o : Opening) where
     same-copies = k .places;
     one-place = λ n. sym (k .places (hasSequence n)) ∙ k .numbers n;
     two-apart = λ after between before c d t i e oc od. two-originals (b .past) after between before c d t i (k .apart) e oc od;
-    marks = λ t i. found-member i (idsAt (b .live) t) (each-at Ordered (b .live .seen) t [] (k .ordered) none-ordered) ∙ sym (k .marks t i);
+    marks = λ t i. sym (k .marks t i);
     sorted = k .order;
     due-all = λ now. front-all now (b .live .waiting) (k .order);
     rule-ids = k .ids;
@@ -204,18 +222,27 @@ module _ (o : Opening) where
 
 -- ---- THE THEOREM
 
+pub open-bears : (x : Settings) (masks : List ℕ) (lent : Tables) → openNumber x masks lent ≡ 0 → Bears (openingOf x (lent .names)) (openTables x masks lent) (opened (openingOf x (lent .names)) masks)
+open-bears x masks lent n =
+    let s = openingLive table (x .sizes) masks in
+    record {
+      kept = s;
+      held = open-held x masks lent n;
+      same = (λ j. record { tills = s .tills; seen = marks.map-replicate listed (x .sizes .tills) [] j; engine = s .engine; rings = s .rings; words = s .words; sequence = s .sequence; waiting = s .waiting; log = s .log });
+    }
+
 -- for every accepted opening, whatever tables it was lent, and every list of calls
 pub demand3 : (x : Settings) (masks : List ℕ) (lent : Tables) → openNumber x masks lent ≡ 0 → (is : List Item) → AllAdmitted is → Demand3 x masks lent is
 demand3 x masks lent n is a =
     let o = openingOf x (lent .names) in
     let lim = limited x masks lent n in
     let T = openTables x masks lent in
-    let h = open-held x masks lent n in
+    let h = open-bears x masks lent n in
     let end = end-held o lim is (opened o masks) T h a in
     record {
       calls = calls-hold o lim is (opened o masks) T h a;
-      same-live = end .wrote .holds;
-      same-opening = end .fixed .opening;
+      same-live = ap plainly (end .held .wrote .holds) ∙ end .same;
+      same-opening = end .held .fixed .opening;
       book = book-holds o (bookAtEnd o (opened o masks) T is) (end-sound o is (opened o masks) T (opened-sound o masks));
     }
 

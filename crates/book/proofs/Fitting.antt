@@ -26,6 +26,7 @@ use Rattle.rules.specs.Rules.{ruleSlots, fireAt}
 use Rattle.blocks.specs.Blocks.{blockSlots}
 use Rattle.blocks.specs.declared.BlockWindow.{BlockWindow}
 use Rattle.rings.specs.Rings.{slots, numberOf}
+use Rattle.network.specs.Marking.{table}
 use Rattle.network.specs.Live.{numbered, Carried, Till, Engine, Live, ringsOf, idsAt, marked, stopped}
 use Rattle.log.specs.Log as log
 use Rattle.log.specs.Log.{Log}
@@ -256,8 +257,8 @@ module _ (o : Opening) (m : Message) where
             own : Ordered (idsAt s t)
             own = each-at Ordered (s .seen) t [] (f .ordered) none-ordered
 
-            there : getD (mark t (m .id) (s .seen)) u [] ≡ placed (m .id) (idsAt s t)
-            there = ap (λ (x : ℕ). getD (mark t (m .id) (s .seen)) x []) (eqb-true u t p) ∙ getD-set-same (s .seen) t (placed (m .id) (idsAt s t)) [] (omega (arith, f .hosts))
+            there : getD (mark table t (m .id) (s .seen)) u [] ≡ placed (m .id) (idsAt s t)
+            there = ap (λ (x : ℕ). getD (mark table t (m .id) (s .seen)) x []) (eqb-true u t p) ∙ getD-set-same (s .seen) t (placed (m .id) (idsAt s t)) [] (omega (arith, f .hosts))
         go false p = rw (getD-set-other (s .seen) t u (placed (m .id) (idsAt s t)) [] (eqb-false u t p)) r
 
   pub accept-fits : NearMessage (o .sizes) m → (ts : List ℕ) (s : Live) → Below (o .sizes .tills) ts → Each (Ready s) ts → length (s .waiting) + 3 * length ts ≤ o .sizes .waitSlots → Fits (o .sizes) s → Fits (o .sizes) (liveAfter o m s ts)

@@ -7,19 +7,20 @@ use mathlib.Core.List.{List, [], _∷_, _++_}
 use lib.Dec.{T, eqb, ltb}
 use lib.ListN.{length, getD, set}
 use lib.Seq.{getD-set-same, getD-set-other}
-use borrow.Author.Tests.{eqb-true, eqb-false, eq-eqb}
+use borrow.Author.Tests.{eqb-true, eqb-false, eq-eqb, ne-eqb}
 use Rattle.book.specs.Book.{Event, scheduled, landed, dropped, down, flushEvents, scheduling}
 use Rattle.book.specs.History.{originalOf, clears, standing}
 use Rattle.rows.specs.Rows.{pick}
 use Rattle.rows.specs.Lists.{Each}
 use Rattle.waiting.specs.declared.Copy.{Copy}
 use Rattle.marks.specs.Marks.{found, placed, removed, Ordered, member}
-use Rattle.marks.proofs.Ordered.{removed-none, none-ordered, found-member, member-placed, member-removed, ordered-placed, ordered-removed}
+use Rattle.marks.proofs.Ordered.{none-ordered, found-member, member-placed, member-place, ordered-placed, ordered-removed}
 use Rattle.network.specs.Accept.{mark}
 use Rattle.book.proofs.Each.{each-at, each-set}
 use Rattle.network.specs.Flush.{unmark, clearing, stops}
 use Rattle.network.specs.Lists.{some-of}
-use Rattle.network.specs.Live.{isOriginal, Live, numbered}
+use Rattle.network.specs.Marking.{plain, table, inserted, without}
+use Rattle.network.specs.Live.{isOriginal, Live, LiveBy, numbered}
 
 -- an original is scheduled only where none of its id stands for its till
 abbrev pub Apart : List Event → Type 0
@@ -41,13 +42,43 @@ module _ {A : Type 0} (d : A) where
 pub found-placed : (i : ℕ) (l : List ℕ) → Ordered l → found i l ≡ false → found i (placed i l) ≡ true
 found-placed i l r f = found-member i (placed i l) (ordered-placed i l f r) ∙ member-placed i i l r ∙ rw (eq-eqb i i refl)
 
+-- ---- Plain marks
+
+pub member-inserted : (i j : ℕ) (l : List ℕ) → member i (inserted j l) ≡ (eqb i j || member i l)
+member-inserted i j [] = refl
+member-inserted i j (k ∷ l) = go (ltb k j) (member-inserted i j l)
+  where
+    swap : (a b c : Bool) → (a || (b || c)) ≡ (b || (a || c))
+    swap true true c = refl
+    swap true false c = refl
+    swap false true c = refl
+    swap false false c = refl
+
+    go : (b : Bool) → member i (inserted j l) ≡ (eqb i j || member i l) → member i (cond b (k ∷ inserted j l) (j ∷ k ∷ l)) ≡ (eqb i j || (eqb i k || member i l))
+    go true h = rw h (swap (eqb i k) (eqb i j) (member i l))
+    go false h = refl
+
+pub member-without : (i j : ℕ) (l : List ℕ) → member i (without j l) ≡ (not (eqb i j) && member i l)
+member-without i j [] = go (eqb i j)
+  where
+    go : (b : Bool) → false ≡ (not b && false)
+    go true = refl
+    go false = refl
+member-without i j (k ∷ l) = go (eqb j k) refl (eqb i j) refl (member-without i j l)
+  where
+    go : (b : Bool) → eqb j k ≡ b → (a : Bool) → eqb i j ≡ a → member i (without j l) ≡ (not a && member i l) → member i (pick (not b) (k ∷ without j l) (without j l)) ≡ (not a && (eqb i k || member i l))
+    go true p true q h = h
+    go true p false q h = h ∙ rw (ne-eqb i k (λ e. eqb-false i j q (e ∙ sym (eqb-true j k p))))
+    go false p true q h = rw h (ap (λ (b : Bool). b || false) (ne-eqb i k (λ e. eqb-false j k p (sym (eqb-true i j q) ∙ e))))
+    go false p false q h = rw h
+
 -- the mark of j at u is set: read at i, t
-pub member-set : (seen : List (List ℕ)) (u j t i : ℕ) → u < length seen → Each Ordered seen
-    → member i (getD (mark u j seen) t []) ≡ ((eqb i j && eqb t u) || member i (getD seen t []))
-member-set seen u j t i h r = go (eqb t u) refl
+pub member-set : (seen : List (List ℕ)) (u j t i : ℕ) → u < length seen
+    → member i (getD (mark plain u j seen) t []) ≡ ((eqb i j && eqb t u) || member i (getD seen t []))
+member-set seen u j t i h = go (eqb t u) refl
   where
     new : List ℕ
-    new = placed j (getD seen u [])
+    new = inserted j (getD seen u [])
 
     and-true : (b : Bool) → (b && true) ≡ b
     and-true true = refl
@@ -58,13 +89,13 @@ member-set seen u j t i h r = go (eqb t u) refl
     and-false false = refl
 
     go : (b : Bool) → eqb t u ≡ b → member i (getD (set seen u new) t []) ≡ ((eqb i j && b) || member i (getD seen t []))
-    go true p = rw (and-true (eqb i j), eqb-true t u p, getD-set-same seen u new [] h) (member-placed i j (getD seen u []) (each-at Ordered seen u [] r none-ordered))
+    go true p = rw (and-true (eqb i j), eqb-true t u p, getD-set-same seen u new [] h) (member-inserted i j (getD seen u []))
     go false p = rw (and-false (eqb i j)) (ap (member i) (getD-set-other seen u t new [] (eqb-false t u p)))
 
 -- the mark of j at u is cleared
-pub member-clear : (seen : List (List ℕ)) (u j t i : ℕ) → Each Ordered seen
-    → member i (getD (set seen u (removed j (getD seen u []))) t []) ≡ (not (eqb i j && eqb t u) && member i (getD seen t []))
-member-clear seen u j t i r = go (eqb t u) refl
+pub member-clear : (seen : List (List ℕ)) (u j t i : ℕ)
+    → member i (getD (set seen u (without j (getD seen u []))) t []) ≡ (not (eqb i j && eqb t u) && member i (getD seen t []))
+member-clear seen u j t i = go (eqb t u) refl
   where
     and-true : (b : Bool) → (b && true) ≡ b
     and-true true = refl
@@ -75,11 +106,11 @@ member-clear seen u j t i r = go (eqb t u) refl
     and-false false = refl
 
     new : List ℕ
-    new = removed j (getD seen u [])
+    new = without j (getD seen u [])
 
-    go : (b : Bool) → eqb t u ≡ b → member i (getD (set seen u (removed j (getD seen u []))) t []) ≡ (not (eqb i j && b) && member i (getD seen t []))
+    go : (b : Bool) → eqb t u ≡ b → member i (getD (set seen u (without j (getD seen u []))) t []) ≡ (not (eqb i j && b) && member i (getD seen t []))
     go true p =
-        rw (and-true (eqb i j), eqb-true t u p) (ap (member i) (getD-update [] (removed j) (removed-none j) seen u) ∙ member-removed i j (getD seen u []) (each-at Ordered seen u [] r none-ordered))
+        rw (and-true (eqb i j), eqb-true t u p) (ap (member i) (getD-update [] (without j) refl seen u) ∙ member-without i j (getD seen u []))
     go false p = rw (and-false (eqb i j)) (ap (member i) (getD-set-other seen u t new [] (eqb-false t u p)))
 
 -- all marks of u are cleared
@@ -94,27 +125,27 @@ member-empty seen u t i = go (eqb t u) refl
 
 pub clearing-ordered : (s : Live) (cs : List Copy) (seen : List (List ℕ)) → Each Ordered seen → Each Ordered (clearing s cs seen)
 clearing-ordered s [] seen e = e
-clearing-ordered s (c ∷ cs) seen e = clearing-ordered s cs (cond (stops s c && isOriginal c) (unmark (c .delivery .to) (c .id) seen) seen) (go (stops s c && isOriginal c))
+clearing-ordered s (c ∷ cs) seen e = clearing-ordered s cs (cond (stops s c && isOriginal c) (unmark table (c .delivery .to) (c .id) seen) seen) (go (stops s c && isOriginal c))
   where
-    go : (b : Bool) → Each Ordered (cond b (unmark (c .delivery .to) (c .id) seen) seen)
+    go : (b : Bool) → Each Ordered (cond b (unmark table (c .delivery .to) (c .id) seen) seen)
     go true = each-set Ordered seen (c .delivery .to) (removed (c .id) (getD seen (c .delivery .to) [])) e (ordered-removed (c .id) (getD seen (c .delivery .to) []) (each-at Ordered seen (c .delivery .to) [] e none-ordered))
     go false = e
 
-pub clearing-agrees : (s : Live) (cs : List Copy) (es : List Event) (seen : List (List ℕ))
-    → Each Ordered seen → ((t i : ℕ) → standing t i es ≡ member i (getD seen t [])) → (t i : ℕ) → standing t i (flushEvents s cs es) ≡ member i (getD (clearing s cs seen) t [])
-clearing-agrees s [] es seen r h = h
-clearing-agrees s (c ∷ cs) es seen r h =
-    clearing-agrees s cs (cond (stops s c) (dropped c) (landed c) ∷ es) (cond (stops s c && isOriginal c) (unmark (c .delivery .to) (c .id) seen) seen) (clearing-ordered s (c ∷ []) seen r) (one (stops s c) (isOriginal c) refl)
+pub clearing-agrees : (s : LiveBy plain) (cs : List Copy) (es : List Event) (seen : List (List ℕ))
+    → ((t i : ℕ) → standing t i es ≡ member i (getD seen t [])) → (t i : ℕ) → standing t i (flushEvents s cs es) ≡ member i (getD (clearing s cs seen) t [])
+clearing-agrees s [] es seen h = h
+clearing-agrees s (c ∷ cs) es seen h =
+    clearing-agrees s cs (cond (stops s c) (dropped c) (landed c) ∷ es) (cond (stops s c && isOriginal c) (unmark plain (c .delivery .to) (c .id) seen) seen) (one (stops s c) (isOriginal c) refl)
   where
-    cut : (t i : ℕ) → member i (getD (unmark (c .delivery .to) (c .id) seen) t []) ≡ (not (eqb i (c .id) && eqb t (c .delivery .to)) && member i (getD seen t []))
-    cut t i = member-clear seen (c .delivery .to) (c .id) t i r
+    cut : (t i : ℕ) → member i (getD (unmark plain (c .delivery .to) (c .id) seen) t []) ≡ (not (eqb i (c .id) && eqb t (c .delivery .to)) && member i (getD seen t []))
+    cut t i = member-clear seen (c .delivery .to) (c .id) t i
 
-    one : (b k : Bool) → isOriginal c ≡ k → (t i : ℕ) → standing t i (cond b (dropped c) (landed c) ∷ es) ≡ member i (getD (cond (b && k) (unmark (c .delivery .to) (c .id) seen) seen) t [])
+    one : (b k : Bool) → isOriginal c ≡ k → (t i : ℕ) → standing t i (cond b (dropped c) (landed c) ∷ es) ≡ member i (getD (cond (b && k) (unmark plain (c .delivery .to) (c .id) seen) seen) t [])
     one true true p t i = rw (p, h t i) (sym (cut t i))
     one true false p t i = rw p (h t i)
     one false k p t i = h t i
 
-pub flushing-apart : (s : Live) (cs : List Copy) (es : List Event) → Apart es → Apart (flushEvents s cs es)
+pub flushing-apart : (s : LiveBy plain) (cs : List Copy) (es : List Event) → Apart es → Apart (flushEvents s cs es)
 flushing-apart s [] es h = h
 flushing-apart s (c ∷ cs) es h = flushing-apart s cs (cond (stops s c) (dropped c) (landed c) ∷ es) (go (stops s c))
   where

@@ -9,7 +9,8 @@ use Rattle.rows.specs.Rows.{pick}
 use Rattle.waiting.specs.declared.Copy.{Copy}
 use Rattle.network.specs.Lists.{bit, count}
 use Rattle.network.specs.Opening.{Opening}
-use Rattle.network.specs.Live.{Live}
+use Rattle.network.specs.Marking.{plain}
+use Rattle.network.specs.Live.{LiveBy}
 use Rattle.network.specs.Accept.{Message, messageOf, selected, Drawn, drawn, Class, deduplicated, partition, loss, fault, sent, classOf, copies, effect, offered, liveAfter, noCounts}
 use Rattle.network.specs.Flush.{rowOf, due, stops, lands, dropsOf, handled, loggedAll}
 use Rattle.network.specs.Calls.{Call, Reading, isBlocked, transit, fired, isDown, nextTime, tallyOf, waitingCopies, marksOf, read, firstTime, Answer, rowsIn, deliveredIn, dropsIn, countsIn, accept, flush, takeDown, bringUp, handlers, block, blockDuring, unblock, install, remove, decide, drain, reading}
@@ -17,7 +18,7 @@ use Rattle.book.specs.Book.{Book, Event, landed, dropped, landedIn, drop
 use Rattle.book.specs.Demand3.{copiesOf, isDrain, logFrom}
 use Rattle.book.proofs.Counting.{scheduling-landed, scheduling-dropped}
 
-flushed-lands : (s : Live) (cs : List Copy) (es : List Event) → landedIn (flushEvents s cs es) ≡ reverseAux (lands s cs) (landedIn es)
+flushed-lands : (s : LiveBy plain) (cs : List Copy) (es : List Event) → landedIn (flushEvents s cs es) ≡ reverseAux (lands s cs) (landedIn es)
 flushed-lands s [] es = refl
 flushed-lands s (c ∷ cs) es = flushed-lands s cs (cond (stops s c) (dropped c) (landed c) ∷ es) ∙ go (stops s c)
   where
@@ -26,11 +27,11 @@ flushed-lands s (c ∷ cs) es = flushed-lands s cs (cond (stops s c) (dropped c)
     go false = refl
 
 -- a row keeps its copy
-pub row-copies : (s : Live) (cs : List Copy) → copiesOf (map (rowOf s) cs) ≡ cs
+pub row-copies : (s : LiveBy plain) (cs : List Copy) → copiesOf (map (rowOf s) cs) ≡ cs
 row-copies s [] = refl
 row-copies s (c ∷ cs) = ap (λ (l : List Copy). c ∷ l) (row-copies s cs)
 
-flushed-drops : (s : Live) (cs : List Copy) (es : List Event) → length (droppedIn (flushEvents s cs es)) ≡ dropsOf s cs + length (droppedIn es)
+flushed-drops : (s : LiveBy plain) (cs : List Copy) (es : List Event) → length (droppedIn (flushEvents s cs es)) ≡ dropsOf s cs + length (droppedIn es)
 flushed-drops s [] es = omega arith
 flushed-drops s (c ∷ cs) es = omega (arith, flushed-drops s cs (cond (stops s c) (dropped c) (landed c) ∷ es), go (stops s c))
   where
@@ -44,14 +45,14 @@ record Still (es es′ : List Event) : Type 0 where
   drops : droppedIn es ≡ droppedIn es′
 
 module _ (o : Opening) (m : Message) where
-  effect-still : (k : Class) (s : Live) (d : Drawn) (t : ℕ) (es : List Event) → Still (eventsOf o m k s d t es) es
+  effect-still : (k : Class) (s : LiveBy plain) (d : Drawn) (t : ℕ) (es : List Event) → Still (eventsOf o m k s d t es) es
   effect-still deduplicated s d t es = record { lands = refl; drops = refl }
   effect-still partition s d t es = record { lands = refl; drops = refl }
   effect-still loss s d t es = record { lands = refl; drops = refl }
   effect-still fault s d t es = record { lands = refl; drops = refl }
   effect-still sent s d t es = record { lands = scheduling-landed (copies o m s d t) es; drops = scheduling-dropped (copies o m s d t) es }
 
-  accept-still : (ts : List ℕ) (s : Live) (es : List Event) → Still (eventsAfter o m s ts es) es
+  accept-still : (ts : List ℕ) (s : LiveBy plain) (es : List Event) → Still (eventsAfter o m s ts es) es
   unfolding offered offerEvents
   accept-still [] s es = record { lands = refl; drops = refl }
   accept-still (t ∷ ts) s es =
@@ -70,7 +71,7 @@ first-quiet : (w : List Copy) → Quiet (firstTime w)
 first-quiet [] = record { rows = refl; drops = refl; delivered = refl; counts = refl }
 first-quiet (c ∷ w) = record { rows = refl; drops = refl; delivered = refl; counts = refl }
 
-pub quiet : (s : Live) (r : Reading) → Quiet (read s r)
+pub quiet : (s : LiveBy plain) (r : Reading) → Quiet (read s r)
 quiet s (isBlocked from to now) = record { rows = refl; drops = refl; delivered = refl; counts = refl }
 quiet s (transit t) = record { rows = refl; drops = refl; delivered = refl; counts = refl }
 quiet s (fired id) = record { rows = refl; drops = refl; delivered = refl; counts = refl }
@@ -137,14 +138,14 @@ module _ (o : Opening) where
 
 -- an accept leaves the log alone
 module _ (o : Opening) (m : Message) where
-  effect-log : (k : Class) (s : Live) (d : Drawn) (t : ℕ) → effect o m k s d t .log ≡ s .log
+  effect-log : (k : Class) (s : LiveBy plain) (d : Drawn) (t : ℕ) → effect o m k s d t .log ≡ s .log
   effect-log deduplicated s d t = refl
   effect-log partition s d t = refl
   effect-log loss s d t = refl
   effect-log fault s d t = refl
   effect-log sent s d t = refl
 
-  accept-log : (ts : List ℕ) (s : Live) → liveAfter o m s ts .log ≡ s .log
+  accept-log : (ts : List ℕ) (s : LiveBy plain) → liveAfter o m s ts .log ≡ s .log
   unfolding offered
   accept-log [] s = refl
   accept-log (t ∷ ts) s = accept-log ts (offered o m s t) ∙ effect-log (classOf o m s t) s (drawn o m t s) t

@@ -26,6 +26,7 @@ use Rattle.blocks.specs.Blocks as blocks
 use Rattle.blocks.specs.Blocks.{blockSlots, always, during}
 use Rattle.blocks.specs.declared.BlockWindow.{BlockWindow}
 use Rattle.network.specs.Opening.{Sizes, Opening, link}
+use Rattle.network.specs.Marking.{table}
 use Rattle.network.specs.Live.{Till, downTill, upTill, Live, withTills, withSeen, withEngine, withRings, withWaiting, withLog, withBlocks, isOriginal, idsAt, marked, stopped, tillAt, ringsOf}
 use Rattle.network.specs.Accept.{Message, messageOf, selected, Drawn, drawn, carriedOf, Class, deduplicated, partition, loss, fault, sent, classOf, copies, insertAll, ruled, remembered, wordsMoved, effect, offered, liveAfter}
 use Rattle.network.specs.Flush.{due, later, stops, lands, unmark, clearing, loggedAll, flushed}
@@ -138,14 +139,14 @@ module _ (o : Opening) where
       → Wrote (o .sizes) (clearT (o .sizes) s₀ cs T) (withSeen s (clearing s₀ cs (s .seen)))
   clear-wrote s₀ [] T s w e = w
   clear-wrote s₀ (c ∷ cs) T s w e =
-      clear-wrote s₀ cs _ (withSeen s (cond (stops s₀ c && isOriginal c) (unmark (c .delivery .to) (c .id) (s .seen)) (s .seen))) (go (stops s₀ c && isOriginal c)) (e .1)
+      clear-wrote s₀ cs _ (withSeen s (cond (stops s₀ c && isOriginal c) (unmark table (c .delivery .to) (c .id) (s .seen)) (s .seen))) (go (stops s₀ c && isOriginal c)) (e .1)
     where
-      go : (b : Bool) → Wrote (o .sizes) (cond b (marksT (o .sizes) T (c .delivery .to) (removed (c .id) (idsAt (live (o .sizes) T) (c .delivery .to)))) T) (withSeen s (cond b (unmark (c .delivery .to) (c .id) (s .seen)) (s .seen)))
+      go : (b : Bool) → Wrote (o .sizes) (cond b (marksT (o .sizes) T (c .delivery .to) (removed (c .id) (idsAt (live (o .sizes) T) (c .delivery .to)))) T) (withSeen s (cond b (unmark table (c .delivery .to) (c .id) (s .seen)) (s .seen)))
       go true =
           let t : ℕ = c .delivery .to in
           let b = near-to (c .delivery) (e .0) in
           let le = le-trans (length-removed (c .id) (idsAt (live (o .sizes) T) t)) (ids-few (o .sizes) T t (w .formed) b) in
-          then (o .sizes) T _ s (λ (q : Live). withSeen q (unmark t (c .id) (q .seen))) (w .holds) (marks-wrote (o .sizes) T (w .formed) t (removed (c .id) (idsAt (live (o .sizes) T) t)) b le)
+          then (o .sizes) T _ s (λ (q : Live). withSeen q (unmark table t (c .id) (q .seen))) (w .holds) (marks-wrote (o .sizes) T (w .formed) t (removed (c .id) (idsAt (live (o .sizes) T) t)) b le)
       go false = w
 
   record-all-wrote : (cs : List Copy) (T : Tables) (s : Live) → Wrote (o .sizes) T s → Wrote (o .sizes) (recordAllT (o .sizes) T cs) (withLog s (loggedAll (o .sizes .logSlots) (s .log) cs))

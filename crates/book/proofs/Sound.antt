@@ -12,8 +12,7 @@ use Rattle.waiting.specs.Waiting.{insertCopy, onTime, Sorted}
 use Rattle.waiting.specs.declared.Copy.{Copy}
 use Rattle.waiting.proofs.Order.{sorted-insert, sorted-drop}
 use Rattle.rows.proofs.Lists.{drop-front}
-use Rattle.marks.specs.Marks.{Ordered, member}
-use Rattle.marks.proofs.Ordered.{none-ordered, found-member, ordered-placed}
+use Rattle.marks.specs.Marks.{member}
 use Rattle.rule.specs.declared.DropSpec.{DropSpec}
 use Rattle.card.specs.Card.{fieldsOf}
 use Rattle.rules.specs.Rules.{Ascending, fireAt, withRule}
@@ -22,15 +21,16 @@ use Rattle.rules.proofs.Ids.{install-ascends, remove-ascends, fire-ascends}
 use Rattle.decide.specs.Decide.{Decision, rulesAfter}
 use Rattle.network.specs.Lists.{bit, count, below}
 use Rattle.network.specs.Opening.{Opening}
-use Rattle.network.specs.Live.{Live, isOriginal, marked, idsAt, stopped}
+use Rattle.network.specs.Marking.{Marking, plain, Marks}
+use Rattle.network.specs.Live.{LiveBy, isOriginal, marked, idsAt, stopped}
 use Rattle.network.specs.Accept.{Message, messageOf, selected, Drawn, drawn, original, Class, deduplicated, partition, loss, fault, sent, firstFit, classOf, copies, effect, offered, liveAfter, insertAll}
 use Rattle.network.specs.Flush.{due, stops, unmark, clearing}
 use Rattle.network.specs.Calls.{Call, liveStep, accept, flush, takeDown, bringUp, handlers, block, blockDuring, unblock, install, remove, decide, drain, reading}
 use Rattle.book.specs.Book.{Book, Event, scheduledIn, landedIn, droppedIn, eventsOf, offerEvents, eventsAfter, happened, opened, bookStep}
 use Rattle.book.specs.History.{hasSequence, given, standing}
 use Rattle.book.proofs.Counting.{numbered-count, count-split, count-insertAll, scheduling-scheduled, scheduling-landed, scheduling-dropped, flushing-scheduled, flushing-moved}
-use Rattle.book.proofs.Marks.{Apart, Echo, echoes-standing, echoes-apart, member-set, member-empty, clearing-agrees, clearing-ordered, flushing-apart}
-use Rattle.book.proofs.Each.{each-set, each-at, each-replicate, each-upTo}
+use Rattle.book.proofs.Marks.{Apart, Echo, echoes-standing, echoes-apart, member-set, member-empty, clearing-agrees, flushing-apart}
+use Rattle.book.proofs.Each.{each-upTo}
 use Rattle.book.proofs.Echoing.{drawn-echoes}
 
 -- It speaks of the parts that it needs, and so holds at once of a live part that differs elsewhere.
@@ -41,10 +41,9 @@ pub record Sound (tills : ℕ) (waiting : List Copy) (sequence : ℕ) (seen : Li
   pub apart : Apart past
   pub order : Sorted waiting
   pub shape : length seen ≡ tills
-  pub ordered : Each Ordered seen
   pub ids : Ascending 0 installed rules
 
-abbrev pub SoundLive : Opening → Live → List Event → Type 0
+abbrev pub SoundLive : Opening → LiveBy plain → List Event → Type 0
 SoundLive o s past = Sound (o .sizes .tills) (s .waiting) (s .sequence) (s .seen) (s .engine .installed) (s .engine .rules) past
 
 sorted-insertAll : (cs w : List Copy) → Sorted w → Sorted (insertAll cs w)
@@ -68,7 +67,7 @@ sent-unmarked false p l f h = refl
 
 -- ---- One recipient
 
-module _ (o : Opening) (m : Message) (s : Live) (d : Drawn) (t : ℕ) (past : List Event) (h : SoundLive o s past) where
+module _ (o : Opening) (m : Message) (s : LiveBy plain) (d : Drawn) (t : ℕ) (past : List Event) (h : SoundLive o s past) where
   effect-sound : (k : Class) → (k ≡ sent → marked s t (m .id) ≡ false) → t < o .sizes .tills → Each Echo (d .echoes .copies) → SoundLive o (effect o m k s d t) (eventsOf o m k s d t past)
   effect-sound deduplicated f b e = h
   effect-sound partition f b e = h
@@ -80,23 +79,19 @@ module _ (o : Opening) (m : Message) (s : Live) (d : Drawn) (t : ℕ) (past : Li
     apart = h .apart;
     order = h .order;
     shape = h .shape;
-    ordered = h .ordered;
     ids = ruled-ascends (d .verdict) (s .engine .installed) (s .engine .rules) (h .ids);
   }
   effect-sound sent f b e =
       let cs = copies o m s d t in
       let es = d .echoes .copies in
-      let own = each-at Ordered (s .seen) t [] (h .ordered) none-ordered in
-      let unmarked : member (m .id) (idsAt s t) ≡ false = sym (found-member (m .id) (idsAt s t) own) ∙ f refl in
       record {
         places = λ p. rw (scheduling-landed cs past, scheduling-dropped cs past)
             (omega (arith, scheduling-scheduled p cs past, count-insertAll p cs (s .waiting), h .places p));
         numbers = λ n. omega (arith, scheduling-scheduled (hasSequence n) cs past, numbered-count (original m t (d .latency .value) ∷ es) (s .sequence) n, h .numbers n);
-        marks = λ u j. echoes-standing u j (suc (s .sequence)) es _ e ∙ rw (h .marks u j) (sym (member-set (s .seen) t (m .id) u j (omega (arith, h .shape)) (h .ordered)));
-        apart = echoes-apart (suc (s .sequence)) es _ e (λ z. h .marks t (m .id) ∙ unmarked, h .apart);
+        marks = λ u j. echoes-standing u j (suc (s .sequence)) es _ e ∙ rw (h .marks u j) (sym (member-set (s .seen) t (m .id) u j (omega (arith, h .shape))));
+        apart = echoes-apart (suc (s .sequence)) es _ e (λ z. h .marks t (m .id) ∙ f refl, h .apart);
         order = sorted-insertAll cs (s .waiting) (h .order);
         shape = length-set (s .seen) t _ ∙ h .shape;
-        ordered = each-set Ordered (s .seen) t _ (h .ordered) (ordered-placed (m .id) (idsAt s t) (f refl) own);
         ids = ruled-ascends (d .verdict) (s .engine .installed) (s .engine .rules) (h .ids);
       }
 
@@ -113,11 +108,11 @@ keep-below n q (t ∷ ts) h = go (q t) (keep-below n q ts (h .1))
     go true r = (h .0, r)
     go false r = r
 
-pub selected-below : (o : Opening) (s : Live) (scope from : ℕ) → Below (o .sizes .tills) (selected o s scope from)
+pub selected-below : (o : Opening) {k : Marking} (s : LiveBy k) (scope from : ℕ) → Below (o .sizes .tills) (selected o s scope from)
 selected-below o s scope from = keep-below (o .sizes .tills) _ (below (o .sizes .tills)) (each-upTo (λ t. t < o .sizes .tills) (o .sizes .tills) (λ i. i) (λ j h. h))
 
 module _ (o : Opening) (m : Message) where
-  accept-sound : (ts : List ℕ) (s : Live) (past : List Event) → Below (o .sizes .tills) ts → SoundLive o s past → SoundLive o (liveAfter o m s ts) (eventsAfter o m s ts past)
+  accept-sound : (ts : List ℕ) (s : LiveBy plain) (past : List Event) → Below (o .sizes .tills) ts → SoundLive o s past → SoundLive o (liveAfter o m s ts) (eventsAfter o m s ts past)
   unfolding offered offerEvents
   accept-sound [] s past b h = h
   accept-sound (t ∷ ts) s past b h =
@@ -127,11 +122,11 @@ module _ (o : Opening) (m : Message) where
 
 -- ---- Every call
 
-pub length-clearing : (s : Live) (cs : List Copy) (seen : List (List ℕ)) → length (clearing s cs seen) ≡ length seen
+pub length-clearing : {k : Marking} (s : LiveBy k) (cs : List Copy) (seen : List (Marks k)) → length (clearing s cs seen) ≡ length seen
 length-clearing s [] seen = refl
-length-clearing s (c ∷ cs) seen = length-clearing s cs _ ∙ go (stops s c && isOriginal c)
+length-clearing {k} s (c ∷ cs) seen = length-clearing s cs _ ∙ go (stops s c && isOriginal c)
   where
-    go : (b : Bool) → length (cond b (unmark (c .delivery .to) (c .id) seen) seen) ≡ length seen
+    go : (b : Bool) → length (cond b (unmark k (c .delivery .to) (c .id) seen) seen) ≡ length seen
     go true = length-set seen (c .delivery .to) _
     go false = refl
 
@@ -139,21 +134,20 @@ install-next : (n : ℕ) (rs : List FaultRule) (d : DropSpec) → Ascending 0 n 
 install-next n rs d h = let z : n + 1 ≡ suc n = omega arith in subst (λ (k : ℕ). Ascending 0 k (withRule n d rs)) z (install-ascends 0 n rs d (omega arith) h)
 
 module _ (o : Opening) where
-  with-ids : (s : Live) (past : List Event) → SoundLive o s past → (n : ℕ) (rs : List FaultRule) → Ascending 0 n rs → Sound (o .sizes .tills) (s .waiting) (s .sequence) (s .seen) n rs past
-  with-ids s past h n rs a = record { places = h .places; numbers = h .numbers; marks = h .marks; apart = h .apart; order = h .order; shape = h .shape; ordered = h .ordered; ids = a }
+  with-ids : (s : LiveBy plain) (past : List Event) → SoundLive o s past → (n : ℕ) (rs : List FaultRule) → Ascending 0 n rs → Sound (o .sizes .tills) (s .waiting) (s .sequence) (s .seen) n rs past
+  with-ids s past h n rs a = record { places = h .places; numbers = h .numbers; marks = h .marks; apart = h .apart; order = h .order; shape = h .shape; ids = a }
 
-  pub step-sound : (s : Live) (c : Call) (past : List Event) → SoundLive o s past → SoundLive o (liveStep o s c) (happened o s c past)
+  pub step-sound : (s : LiveBy plain) (c : Call) (past : List Event) → SoundLive o s past → SoundLive o (liveStep o s c) (happened o s c past)
   step-sound s (accept e true) past h = accept-sound o (messageOf o e) (selected o s (e .scope) (e .from)) s past (selected-below o s (e .scope) (e .from)) h
   step-sound s (accept e false) past h = h
   step-sound s (flush now rows) past h = record {
     places = λ p. rw (flushing-scheduled s (due now s) past)
         (omega (arith, h .places p, flushing-moved p s (due now s) past, count-split p (onTime now) (s .waiting)));
     numbers = λ n. rw (flushing-scheduled s (due now s) past) (h .numbers n);
-    marks = clearing-agrees s (due now s) past (s .seen) (h .ordered) (h .marks);
+    marks = clearing-agrees s (due now s) past (s .seen) (h .marks);
     apart = flushing-apart s (due now s) past (h .apart);
     order = sorted-behind (onTime now) (s .waiting) (h .order);
     shape = length-clearing s (due now s) (s .seen) ∙ h .shape;
-    ordered = clearing-ordered s (due now s) (s .seen) (h .ordered);
     ids = h .ids;
   }
   step-sound s (takeDown t) past h = record {
@@ -163,7 +157,6 @@ module _ (o : Opening) where
     order = h .order;
     marks = λ u j. rw (h .marks u j) (sym (member-empty (s .seen) t u j));
     shape = length-set (s .seen) t [] ∙ h .shape;
-    ordered = each-set Ordered (s .seen) t [] (h .ordered) none-ordered;
     ids = h .ids;
   }
   step-sound s (bringUp t shards) past h = h
@@ -201,6 +194,5 @@ module _ (o : Opening) where
     apart = tt;
     order = tt;
     shape = length-replicate (o .sizes .tills) [];
-    ordered = each-replicate Ordered (o .sizes .tills) [] none-ordered;
     ids = omega arith;
   }

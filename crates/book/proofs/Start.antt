@@ -21,6 +21,7 @@ use Rattle.log.proofs.Draining.{drained-log, drained-sound}
 use Rattle.geography.specs.Geography.{atLeastOne, linkIn, linkAdmitted}
 use Rattle.network.specs.Lists.{every, below}
 use Rattle.network.specs.Opening.{Sizes, Settings, links}
+use Rattle.network.specs.Marking.{table}
 use Rattle.network.specs.Live.{upTill, openTills, openingLive, ringsOf}
 use Rattle.network.specs.Questions.{Asked}
 use Rattle.network.specs.Tables.{cell, Tables, live, setupOf, setupWidth, tillForm, idsStart}
@@ -155,7 +156,7 @@ module _ (x : Settings) (masks : List ℕ) (lent : Tables) (accepted : openNumbe
     };
   }
 
-  holds : live z opened ≡ openingLive z masks
+  holds : live z opened ≡ openingLive table z masks
   holds = λ j. record {
     tills = read-tills j;
     seen = all-empty (z .tills) (λ t. idsOf (opened .seen) (idsStart z t) (cell (opened .seen) t)) (λ t h. ap (idsOf (opened .seen) (idsStart z t)) (zero-front (z .tills) (lent .seen) t h)) j;
@@ -172,5 +173,5 @@ module _ (x : Settings) (masks : List ℕ) (lent : Tables) (accepted : openNumbe
       let l = every-each (sizeTests x) (limits .0) in
       record { tills = leb-true _ _ (l .0); seen = leb-true _ _ (l .1 .1 .1 .1 .1 .1 .1 .0); waiting = leb-true _ _ (l .1 .1 .1 .1 .1 .0); log = leb-true _ _ (l .1 .1 .1 .1 .1 .1 .1 .1 .0); types = leb-true _ _ (l .1 .0); classes = leb-true _ _ (l .1 .1 .0); shards = leb-true _ _ (l .1 .1 .1 .0) }
 
-  pub open-held : Held (openingOf x (lent .names)) (openTables x masks lent) (openingLive (x .sizes) masks)
+  pub open-held : Held (openingOf x (lent .names)) (openTables x masks lent) (openingLive table (x .sizes) masks)
   open-held = record { fixed = fixed; wrote = record { formed = formed; holds = holds }; fits = opening-fits (openingOf x (lent .names)) masks (yes .1 .1 .1 .0) }

@@ -25,6 +25,7 @@ use Rattle.rules.specs.Rules.{ruleSlots, mostRules, without}
 use Rattle.blocks.specs.Blocks.{blockSlots, always, during}
 use Rattle.blocks.specs.declared.BlockWindow.{BlockWindow}
 use Rattle.rings.specs.Rings.{slots}
+use Rattle.network.specs.Marking.{table}
 use Rattle.network.specs.Live.{Carried, Till, downTill, upTill, Engine, Live, openingLive, isOriginal, ringsOf, tillAt, withTills, withEngine, withBlocks}
 use Rattle.network.specs.Accept.{Entry, messageOf, selected}
 use Rattle.network.specs.Flush.{due, stops, lands, unmark, clearing, loggedAll}
@@ -43,9 +44,9 @@ use Rattle.book.proofs.Fitting.{Limited, Small, Fits, EngineFits, NearR
 
 clearing-small : (n : ℕ) (s : Live) (cs : List Copy) (seen : List (List ℕ)) → Each (Small n) seen → Each (Small n) (clearing s cs seen)
 clearing-small n s [] seen e = e
-clearing-small n s (c ∷ cs) seen e = clearing-small n s cs (cond (stops s c && isOriginal c) (unmark (c .delivery .to) (c .id) seen) seen) (go (stops s c && isOriginal c))
+clearing-small n s (c ∷ cs) seen e = clearing-small n s cs (cond (stops s c && isOriginal c) (unmark table (c .delivery .to) (c .id) seen) seen) (go (stops s c && isOriginal c))
   where
-    go : (b : Bool) → Each (Small n) (cond b (unmark (c .delivery .to) (c .id) seen) seen)
+    go : (b : Bool) → Each (Small n) (cond b (unmark table (c .delivery .to) (c .id) seen) seen)
     go true = each-set (Small n) seen (c .delivery .to) (removed (c .id) (getD seen (c .delivery .to) [])) e
         (le-trans (length-removed (c .id) (getD seen (c .delivery .to) [])) (each-at (Small n) seen (c .delivery .to) [] e (omega arith)))
     go false = e
@@ -212,7 +213,7 @@ module _ (o : Opening) where
 
   -- ---- The opening
 
-  pub opening-fits : (masks : List ℕ) → allOf (λ m. within m (o .sizes .shards)) masks ≡ true → Fits (o .sizes) (openingLive (o .sizes) masks)
+  pub opening-fits : (masks : List ℕ) → allOf (λ m. within m (o .sizes .shards)) masks ≡ true → Fits (o .sizes) (openingLive table (o .sizes) masks)
   opening-fits masks h = record {
     tills = length-upTo (o .sizes .tills) (λ t. upTill (getD masks t 0));
     masks = each-upTo (λ (t : Till). nearTill (o .sizes) t ≡ true) (o .sizes .tills) (λ t. upTill (getD masks t 0))

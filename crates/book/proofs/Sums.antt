@@ -5,7 +5,8 @@ use native.Mathlib.Omega.{arith}
 use mathlib.Core.List.{List, [], _∷_, map}
 use lib.ListN.{length}
 use Rattle.network.specs.Accept.{Message, Class, sent, deduplicated, partition, loss, fault, Counts, add, total, Booked, booked, tally, offered}
-use Rattle.network.specs.Live.{Live}
+use Rattle.network.specs.Marking.{plain}
+use Rattle.network.specs.Live.{LiveBy}
 use Rattle.network.specs.Opening.{Opening}
 
 add-total : (k : Class) (n : Counts) → total (add k n) ≡ suc (total n)
@@ -21,14 +22,14 @@ tally-total (b ∷ bs) = add-total (b .class) (tally bs) ∙ ap suc (tally-total
 
 module _ (o : Opening) (m : Message) where
   -- each recipient goes under one class
-  pub booked-tills : (s : Live) (ts : List ℕ) → map (λ (x : Booked). x .till) (booked o m s ts) ≡ ts
+  pub booked-tills : (s : LiveBy plain) (ts : List ℕ) → map (λ (x : Booked). x .till) (booked o m s ts) ≡ ts
   booked-tills s [] = refl
   booked-tills s (t ∷ ts) = ap (λ (l : List ℕ). t ∷ l) (booked-tills (offered o m s t) ts)
 
   -- sent + deduplicated + partition + loss + fault is the number of the selected tills
-  pub booked-total : (s : Live) (ts : List ℕ) → total (tally (booked o m s ts)) ≡ length ts
+  pub booked-total : (s : LiveBy plain) (ts : List ℕ) → total (tally (booked o m s ts)) ≡ length ts
   booked-total s ts = tally-total (booked o m s ts) ∙ go s ts
     where
-      go : (s : Live) (ts : List ℕ) → length (booked o m s ts) ≡ length ts
+      go : (s : LiveBy plain) (ts : List ℕ) → length (booked o m s ts) ≡ length ts
       go s [] = refl
       go s (t ∷ ts) = ap suc (go (offered o m s t) ts)

@@ -4,7 +4,8 @@ use mathlib.Core.Bool.{Bool, true, false, cond}
 use mathlib.Core.List.{List, [], _∷_}
 use Rattle.network.specs.Opening.{Opening}
 use Rattle.waiting.specs.declared.Copy.{Copy}
-use Rattle.network.specs.Live.{Live, openingLive}
+use Rattle.network.specs.Marking.{plain}
+use Rattle.network.specs.Live.{LiveBy, openingLive}
 use Rattle.network.specs.Accept.{Message, messageOf, selected, Drawn, drawn, Class, deduplicated, partition, loss, fault, sent, classOf, copies, offered}
 use Rattle.network.specs.Flush.{due, stops}
 use Rattle.network.specs.Calls.{Call, Answer, silent, liveStep, answerOf, accept, flush, takeDown, bringUp, handlers, block, blockDuring, unblock, install, remove, decide, drain, reading}
@@ -18,7 +19,7 @@ pub data Event : Type 0 where
 
 -- `past` has the latest first.
 pub record Book : Type 0 where
-  pub live : Live
+  pub live : LiveBy plain
   pub past : List Event
 
 abbrev pub scheduledIn : List Event → List Copy
@@ -50,27 +51,27 @@ scheduling [] es = es
 scheduling (c ∷ cs) es = scheduling cs (scheduled c ∷ es)
 
 -- where the flush tests stop a copy, it moves to dropped; else to landed
-abbrev pub flushEvents : Live → List Copy → List Event → List Event
+abbrev pub flushEvents : LiveBy plain → List Copy → List Event → List Event
 flushEvents s [] es = es
 flushEvents s (c ∷ cs) es = flushEvents s cs (cond (stops s c) (dropped c) (landed c) ∷ es)
 
 module _ (o : Opening) where
   module _ (m : Message) where
-    abbrev pub eventsOf : Class → Live → Drawn → ℕ → List Event → List Event
+    abbrev pub eventsOf : Class → LiveBy plain → Drawn → ℕ → List Event → List Event
     eventsOf deduplicated s d t es = es
     eventsOf partition s d t es = es
     eventsOf loss s d t es = es
     eventsOf fault s d t es = es
     eventsOf sent s d t es = scheduling (copies o m s d t) es
 
-    unfoldable pub offerEvents : Live → ℕ → List Event → List Event
+    unfoldable pub offerEvents : LiveBy plain → ℕ → List Event → List Event
     offerEvents s t es = eventsOf (classOf o m s t) s (drawn o m t s) t es
 
-    abbrev pub eventsAfter : Live → List ℕ → List Event → List Event
+    abbrev pub eventsAfter : LiveBy plain → List ℕ → List Event → List Event
     eventsAfter s [] es = es
     eventsAfter s (t ∷ ts) es = eventsAfter (offered o m s t) ts (offerEvents s t es)
 
-  abbrev pub happened : Live → Call → List Event → List Event
+  abbrev pub happened : LiveBy plain → Call → List Event → List Event
   happened s (accept e true) es = eventsAfter (messageOf o e) s (selected o s (e .scope) (e .from)) es
   happened s (accept e false) es = es
   happened s (flush now rows) es = flushEvents s (due now s) es
@@ -89,7 +90,7 @@ module _ (o : Opening) where
   -- ---- The book, fed the call and whether a number refused it
 
   abbrev pub opened : List ℕ → Book
-  opened masks = record { live = openingLive (o .sizes) masks; past = [] }
+  opened masks = record { live = openingLive plain (o .sizes) masks; past = [] }
 
   abbrev pub bookStep : Book → Call → Bool → Book
   bookStep b c true = b

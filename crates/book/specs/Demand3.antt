@@ -11,7 +11,7 @@ use Rattle.waiting.specs.declared.Copy.{Copy}
 use Rattle.rules.specs.Rules.{Ascending}
 use Rattle.network.specs.Lists.{bit, count, some-of}
 use Rattle.network.specs.Opening.{Settings, Opening}
-use Rattle.network.specs.Live.{marked}
+use Rattle.network.specs.Live.{plainly, marked}
 use Rattle.log.specs.Log.{Log, emptyLog}
 use Rattle.network.specs.Accept.{messageOf, selected, Booked, booked, noCounts, tally, total}
 use Rattle.network.specs.Flush.{Row, handled, due, loggedAll}
@@ -181,8 +181,8 @@ pub record BookHolds (b : Book) : Type 0 where
 
 pub record Demand3 (x : Settings) (masks : List ℕ) (lent : Tables) (is : List Item) : Type 0 where
   pub calls : CallsHold (openingOf x (lent .names)) (opened (openingOf x (lent .names)) masks) (openTables x masks lent) is
-  -- the copies waiting at the list's end are the book's, in every field, each one time; so is all else that the tables hold, and the opening's settings
-  pub same-live : live (x .sizes) (tablesAtEnd (openTables x masks lent) is) ≡ bookAtEnd (openingOf x (lent .names)) (opened (openingOf x (lent .names)) masks) (openTables x masks lent) is .live
+  -- the copies waiting at the list's end are the book's, in every field, each one time; so is all else that the tables hold, the marks as the ids that they list, and the opening's settings
+  pub same-live : plainly (live (x .sizes) (tablesAtEnd (openTables x masks lent) is)) ≡ bookAtEnd (openingOf x (lent .names)) (opened (openingOf x (lent .names)) masks) (openTables x masks lent) is .live
   pub same-opening : openingAt (tablesAtEnd (openTables x masks lent) is) ≡ openingOf x (lent .names)
   pub book : BookHolds (bookAtEnd (openingOf x (lent .names)) (opened (openingOf x (lent .names)) masks) (openTables x masks lent) is)
 

@@ -16,6 +16,7 @@ use Rattle.network.specs.Accept.{Entry, Counts}
 use Rattle.network.specs.Flush.{Row}
 use Rattle.log.specs.Log.{emptyLog}
 use Rattle.network.specs.Questions.{asked, firstNo}
+use Rattle.network.specs.Marking as marking
 use Rattle.network.specs.Live.{Live, withWaiting, openingLive}
 use Rattle.network.specs.Calls.{Call, counted, number, tallied, isBlocked, transit, nextTime, tallyOf, countsIn, rowsIn, deliveredIn, dropsIn, accept, flush, takeDown, bringUp, handlers, block, blockDuring, unblock, install, remove, decide, drain, reading}
 use Rattle.network.specs.Tables.{Tables, live, cell}
@@ -258,7 +259,7 @@ abbrev big : ℕ → Opening
 big tills = record { sizes = record { tills = tills; types = 2; classes = 3; shards = 0; seenSlots = 2; waitSlots = 4096; logSlots = 0 }; draws = toy 0 0 0 }
 
 abbrev crowded : ℕ → Live
-crowded tills = withWaiting (openingLive (big tills .sizes) (replicate tills 0)) 4090
+crowded tills = withWaiting (openingLive marking.table (big tills .sizes) (replicate tills 0)) 4090
     (replicate 4090 (record { delivery = record { from = 0; to = 1; kind = 0; class = 0; sent = 0; time = 0; scope = global; wire = 0 }; sequence = 0; original = 1; id = 0; tag = 0 }))
 
 pub record Crowd : Type 0 where
@@ -272,6 +273,14 @@ pub record Rates : Type 0 where
   pub at-minus-zero : (key : List ℕ) (words : ℕ) → real.chance key 0x8000000000000000 words ≡ record { value = false; words = words + 0 }
   pub above-zero : (key : List ℕ) (words : ℕ) → real.chance key 0x3fe0000000000000 words .words ≡ words + 2
 
+-- ---- The book's marks are plain
+
+pub record Marks : Type 0 where
+  pub more : marking.withMark marking.plain 5 (3 ∷ 7 ∷ []) ≡ 3 ∷ 5 ∷ 7 ∷ []
+  pub less : marking.withoutMark marking.plain 5 (3 ∷ 5 ∷ 7 ∷ []) ≡ 3 ∷ 7 ∷ []
+  pub there : marking.stands marking.plain 5 (3 ∷ 5 ∷ 7 ∷ []) ≡ true
+  pub gone : marking.stands marking.plain 5 (3 ∷ 7 ∷ []) ≡ false
+
 pub record Runs : Type 0 where
   pub rates : Rates
   pub numbers : Numbers
@@ -280,6 +289,7 @@ pub record Runs : Type 0 where
   pub echoes : Echoes
   pub flushes : Flushes
   pub crowd : Crowd
+  pub marks : Marks
 
 pub runs : Runs
 unfolding real.chance fraction.hitsAt fraction.hitWords ieee.lt admitted.latencyAdmitted admitted.fractionAdmitted admitted.rateAdmitted ieee.eq ieee.le ieee.ofBits waiting.before marks.halve marks.position ring.slotOf ring.pushSlot ring.pushedAt log.tallyAt log.talliedAt log.notedAt log.pushed log.clearedAt table.over rows.kept shift.putWords shift.closed rules.without rules.readingOf rules.fireAt rules.installNumber rules.installTable rules.indexOf rules.removeTable rules.fireTable rules.putAt blocks.windowOf blocks.joins blocks.stops blocks.blocked blocks.blockTable blocks.openCount blocks.unblockTable blocks.putAt rule.has rule.filterOf rule.windowOf rule.actionOf rule.ruleOf rule.holds rule.passes rule.applies card.leAt card.sizeOf card.placesOf card.fieldOf card.specOf card.exact word.le8 word.le4 real.keysOf link.linkKey link.linkBytes real.pricedBy digest.hash digest.tree chunk.chunk chunk.blocks chunk.parent compress.compressed compress.folded accepting.drawn accepting.offered
@@ -291,4 +301,5 @@ runs = record {
   echoes = record { kinds = refl; sequences = refl; ids = refl; first-words = refl; second-words = refl; ring = refl; in-transit = refl; log-of-one = refl; forced-out = refl; drained-short = refl; drained-empty = refl };
   flushes = record { lands = refl; delivered = refl; dropped = refl; mark-gone = refl; sent-again = refl; window-ends = refl; down-in-flight = refl; up-again = refl; unhandled = refl; sender-gone = refl; two-wait = refl; second-unmarked = refl; host-shard = refl; host-global = refl; not-due = refl; next = refl; unblock-all = refl; is-blocked = refl; end-open = refl };
   crowd = record { two-fit = refl; three-do-not = refl };
+  marks = record { more = refl; less = refl; there = refl; gone = refl };
 }

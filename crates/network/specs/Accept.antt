@@ -11,9 +11,9 @@ use Rattle.decide.specs.Decide.{Decision, rulesAfter}
 use Rattle.ring.specs.Ring.{push}
 use Rattle.network.specs.Lists.{bit, below, bitAt}
 use Rattle.rings.specs.Rings.{slots, numberOf}
-use Rattle.marks.specs.Marks.{placed}
 use Rattle.network.specs.Opening.{Draw, Opening, link, global}
-use Rattle.network.specs.Live.{numbered, Carried, Context, Engine, Live, withRules, withSeen, withEngine, withRings, withWords, withWaiting, marked, tillAt, stopped}
+use Rattle.network.specs.Marking.{Marking, Marks, noMarks, withMark}
+use Rattle.network.specs.Live.{numbered, Carried, Context, Engine, LiveBy, withRules, withSeen, withEngine, withRings, withWords, withWaiting, marked, tillAt, stopped}
 
 -- an outbox entry as the caller lends it; the tag stands for its payload
 pub record Entry : Type 0 where
@@ -42,11 +42,11 @@ messageOf o e = record { from = e .from; now = e .now; kind = e .kind; class = e
 -- ---- Recipients
 
 -- all tills for a global entry, else those whose mask holds its shard
-abbrev pub receives : Live → ℕ → ℕ → Bool
+abbrev pub receives : {k : Marking} → LiveBy k → ℕ → ℕ → Bool
 receives s scope t = eqb scope global || bitAt (tillAt s t .shards) scope
 
 -- selected means recipients other than the sender; in host order
-abbrev pub selected : Opening → Live → ℕ → ℕ → List ℕ
+abbrev pub selected : {k : Marking} → Opening → LiveBy k → ℕ → ℕ → List ℕ
 selected o s scope from = keep (λ t. receives s scope t && not (eqb t from)) (below (o .sizes .tills))
 
 -- ---- The draws for one recipient, in their order
@@ -65,7 +65,7 @@ pub record Drawn : Type 0 where
 abbrev pub carriedOf : Message → Carried
 carriedOf m = record { class = m .class; wire = m .wire; tag = m .tag }
 
-abbrev pub ringFor : Live → Message → List Carried
+abbrev pub ringFor : {k : Marking} → LiveBy k → Message → List Carried
 ringFor s m = getD (s .rings) (numberOf (m .kind) (m .scope)) []
 
 abbrev pub isEmpty : {A : Type 0} → List A → Bool
@@ -128,7 +128,7 @@ module _ (o : Opening) (m : Message) (t : ℕ) where
   context = record { kind = m .kind; from = m .from; to = t; tier = 0; now = m .now }
 
   -- loss draw, latency, fault rules, echoes
-  unfoldable pub drawn : Live → Drawn
+  unfoldable pub drawn : {k : Marking} → LiveBy k → Drawn
   drawn s =
       let l = o .draws .loss (m .from) t (getD (s .words) (link (m .from) t) 0) in
       let d = o .draws .latency (m .from) t (m .wire) (l .words) in
@@ -157,20 +157,20 @@ abbrev pub insertAll : List Copy → List Copy → List Copy
 insertAll [] w = w
 insertAll (c ∷ cs) w = insertAll cs (insertCopy c w)
 
-abbrev pub mark : ℕ → ℕ → List (List ℕ) → List (List ℕ)
-mark t i seen = set seen t (placed i (getD seen t []))
+abbrev pub mark : (k : Marking) → ℕ → ℕ → List (Marks k) → List (Marks k)
+mark k t i seen = set seen t (withMark k i (getD seen t (noMarks k)))
 
 module _ (o : Opening) (m : Message) where
-  abbrev pub classOf : Live → ℕ → Class
+  abbrev pub classOf : {k : Marking} → LiveBy k → ℕ → Class
   classOf s t =
       let d = drawn o m t s in
       firstFit (marked s t (m .id)) (stopped s (m .from) t (m .now)) (d .loss .value) (d .verdict .drops)
 
   -- the copies of a sent recipient: the original, then its echoes; each takes the next sequence
-  abbrev pub copies : Live → Drawn → ℕ → List Copy
+  abbrev pub copies : {k : Marking} → LiveBy k → Drawn → ℕ → List Copy
   copies s d t = numbered (s .sequence) (original m t (d .latency .value) ∷ d .echoes .copies)
 
-  abbrev pub wordsMoved : Live → ℕ → ℕ → Live
+  abbrev pub wordsMoved : {k : Marking} → LiveBy k → ℕ → ℕ → LiveBy k
   wordsMoved s t n = withWords s (set (s .words) (link (m .from) t) n)
 
   -- the ring takes the message, and gives up its oldest first
@@ -178,23 +178,23 @@ module _ (o : Opening) (m : Message) where
   remembered l = let r = numberOf (m .kind) (m .scope) in cond (o .draws .echoing) (set l r (push slots (getD l r []) (carriedOf m))) l
 
   -- sent sets the mark and puts the copies into waiting; then the ring takes the message
-  abbrev pub effect : Class → Live → Drawn → ℕ → Live
+  abbrev pub effect : {k : Marking} → Class → LiveBy k → Drawn → ℕ → LiveBy k
   effect deduplicated s d t = s
   effect partition s d t = s
   effect loss s d t = wordsMoved s t (d .loss .words)
   effect fault s d t = withEngine (wordsMoved s t (d .latency .words)) (ruled (s .engine) (d .verdict))
-  effect sent s d t =
+  effect {k} sent s d t =
       let cs = copies s d t in
       let s₁ = withEngine (wordsMoved s t (d .echoes .words)) (ruled (s .engine) (d .verdict)) in
-      let s₂ = withSeen s₁ (mark t (m .id) (s .seen)) in
+      let s₂ = withSeen s₁ (mark k t (m .id) (s .seen)) in
       let s₃ = withWaiting s₂ (length cs + s .sequence) (insertAll cs (s .waiting)) in
       withRings s₃ (remembered (s .rings))
 
-  unfoldable pub offered : Live → ℕ → Live
+  unfoldable pub offered : {k : Marking} → LiveBy k → ℕ → LiveBy k
   offered s t = effect (classOf s t) s (drawn o m t s) t
 
   -- the selected in host order, each on what the one before left
-  abbrev pub liveAfter : Live → List ℕ → Live
+  abbrev pub liveAfter : {k : Marking} → LiveBy k → List ℕ → LiveBy k
   liveAfter s [] = s
   liveAfter s (t ∷ ts) = liveAfter (offered s t) ts
 
@@ -206,7 +206,7 @@ pub record Booked : Type 0 where
   pub class : Class
 
 module _ (o : Opening) (m : Message) where
-  abbrev pub booked : Live → List ℕ → List Booked
+  abbrev pub booked : {k : Marking} → LiveBy k → List ℕ → List Booked
   booked s [] = []
   booked s (t ∷ ts) = record { till = t; class = classOf o m s t } ∷ booked (offered o m s t) ts
 

@@ -15,8 +15,8 @@ use Rattle.log.specs.declared.Tally.{Tally}
 use Rattle.log.specs.Log.{noTally, Log, emptyLog}
 use Rattle.network.specs.Lists.{bit, count}
 use Rattle.network.specs.Opening.{Opening}
-use Rattle.marks.specs.Marks.{listed}
-use Rattle.network.specs.Live.{Context, Till, downTill, upTill, Live, Engine, withBlocks, withRules, withTills, withSeen, withEngine, withLog, tillAt, idsAt, isUp, inTransit}
+use Rattle.network.specs.Marking.{Marking, noMarks, idsIn}
+use Rattle.network.specs.Live.{Context, Till, downTill, upTill, LiveBy, Engine, withBlocks, withRules, withTills, withSeen, withEngine, withLog, tillAt, idsAt, isUp, inTransit}
 use Rattle.network.specs.Accept.{Entry, messageOf, selected, liveAfter, booked, Counts, noCounts, tally, ruled}
 use Rattle.network.specs.Flush.{Row, rowsOf, dropsOf, handled, due, flushed}
 
@@ -49,25 +49,25 @@ pub data Call : Type 0 where
 -- ---- Tills
 
 -- the till is down; its marks, handlers and shards go, its waiting copies stay
-abbrev pub takenDown : ℕ → Live → Live
-takenDown t s = withSeen (withTills s (set s.tills t downTill)) (set s.seen t [])
+abbrev pub takenDown : {k : Marking} → ℕ → LiveBy k → LiveBy k
+takenDown {k} t s = withSeen (withTills s (set s.tills t downTill)) (set s.seen t (noMarks k))
 
-abbrev pub broughtUp : ℕ → ℕ → Live → Live
+abbrev pub broughtUp : {k : Marking} → ℕ → ℕ → LiveBy k → LiveBy k
 broughtUp t shards s = withTills s (set s.tills t (upTill shards))
 
 abbrev pub withHandlers : Till → ℕ → ℕ → Till
 withHandlers x gossip host = record { up = x .up; gossip = gossip; host = host; shards = x .shards }
 
-abbrev pub handling : ℕ → ℕ → ℕ → Live → Live
+abbrev pub handling : {k : Marking} → ℕ → ℕ → ℕ → LiveBy k → LiveBy k
 handling t gossip host s = withTills s (set s.tills t (withHandlers (tillAt s t) gossip host))
 
 -- ---- Blocks
 
-abbrev pub blockAdded : BlockWindow → Live → Live
+abbrev pub blockAdded : {k : Marking} → BlockWindow → LiveBy k → LiveBy k
 blockAdded b s = withEngine s (withBlocks s.engine (s.engine .blocks ++ (b ∷ [])))
 
 -- every window of the pair goes
-abbrev pub unblocked : ℕ → ℕ → Live → Live
+abbrev pub unblocked : {k : Marking} → ℕ → ℕ → LiveBy k → LiveBy k
 unblocked from to s = withEngine s (withBlocks s.engine (blocks.unblocked from to (s.engine .blocks)))
 
 -- ---- Rules
@@ -83,7 +83,7 @@ ruleRemoved e i = withRules e (without i (e .rules)) (e .installed) (e .words)
 -- ---- The live part after a call that no number refused
 
 module _ (o : Opening) where
-  abbrev pub liveStep : Live → Call → Live
+  abbrev pub liveStep : {k : Marking} → LiveBy k → Call → LiveBy k
   liveStep s (accept e true) = liveAfter o (messageOf o e) s (selected o s (e .scope) (e .from))
   liveStep s (accept e false) = s
   liveStep s (flush now rows) = flushed o now s
@@ -120,7 +120,7 @@ abbrev pub firstTime : List Copy → Answer
 firstTime [] = number 0 0
 firstTime (c ∷ cs) = number 1 (c .delivery .time)
 
-abbrev pub read : Live → Reading → Answer
+abbrev pub read : {k : Marking} → LiveBy k → Reading → Answer
 read s (isBlocked from to now) = number 1 (bit (blocked from to now (s .engine .blocks)))
 read s (transit t) = number 1 (inTransit s t)
 read s (fired id) = firedOf (readingOf id (s .engine .rules))
@@ -128,13 +128,13 @@ read s (isDown t) = number 1 (bit (not (isUp s t)))
 read s nextTime = firstTime (s .waiting)
 read s (tallyOf class) = tallied (getD (s .log .tallies) class noTally)
 read s (waitingCopies rows) = copies (s .waiting)
-read s (marksOf t places) = ids (listed (idsAt s t))
+read {k} s (marksOf t places) = ids (idsIn k (idsAt s t))
 
 abbrev pub movedBy : List Row → ℕ → Answer
 movedBy rows n = moved rows (count handled rows) n
 
 module _ (o : Opening) where
-  abbrev pub answerOf : Live → Call → Answer
+  abbrev pub answerOf : {k : Marking} → LiveBy k → Call → Answer
   answerOf s (accept e true) = counted (tally (booked o (messageOf o e) s (selected o s (e .scope) (e .from))))
   answerOf s (accept e false) = counted noCounts
   answerOf s (flush now rows) = movedBy (rowsOf s (due now s)) (dropsOf s (due now s))

@@ -1,11 +1,10 @@
 -- Document 01, 'The book': what of it the calls go by.
 use Prim.Native.Nat.{ℕ, suc, _*_}
 use mathlib.Core.Bool.{Bool, not, _||_}
-use mathlib.Core.List.{List, [], _∷_}
+use mathlib.Core.List.{List, [], _∷_, map}
 use lib.Dec.{eqb}
 use lib.ListN.{getD, replicate}
 use Rattle.waiting.specs.declared.Copy.{Copy}
-use Rattle.marks.specs.Marks.{found}
 use Rattle.log.specs.Log.{Log, emptyLog}
 use Rattle.rings.specs.declared.Entry as rings
 use Rattle.rule.specs.declared.Message as rule
@@ -16,6 +15,7 @@ use Rattle.rows.specs.Lists.{upTo}
 use Rattle.network.specs.Lists.{count}
 use Rattle.rings.specs.Rings.{scopes}
 use Rattle.network.specs.Opening.{Sizes, links}
+use Rattle.network.specs.Marking.{Marking, plain, table, Marks, noMarks, stands, idsIn}
 
 -- ---- Copies
 
@@ -72,9 +72,9 @@ withRules e x installed words = record { blocks = e .blocks; rules = x; installe
 
 -- ---- The live part
 
-pub record Live : Type 0 where
+pub record LiveBy (k : Marking) : Type 0 where
   pub tills : List Till
-  pub seen : List (List ℕ)  -- the marks of each till
+  pub seen : List (Marks k)  -- the marks of each till
   pub engine : Engine
   pub rings : List (List Carried)  -- oldest first
   pub words : List ℕ  -- the word count of each link
@@ -82,48 +82,57 @@ pub record Live : Type 0 where
   pub waiting : List Copy  -- by time, then sequence
   pub log : Log
 
-abbrev pub withTills : Live → List Till → Live
+-- as the tables hold it
+abbrev pub Live : Type 0
+Live = LiveBy table
+
+abbrev pub withTills : {k : Marking} → LiveBy k → List Till → LiveBy k
 withTills s x = record { tills = x; seen = s .seen; engine = s .engine; rings = s .rings; words = s .words; sequence = s .sequence; waiting = s .waiting; log = s .log }
 
-abbrev pub withSeen : Live → List (List ℕ) → Live
+abbrev pub withSeen : {k : Marking} → LiveBy k → List (Marks k) → LiveBy k
 withSeen s x = record { tills = s .tills; seen = x; engine = s .engine; rings = s .rings; words = s .words; sequence = s .sequence; waiting = s .waiting; log = s .log }
 
-abbrev pub withEngine : Live → Engine → Live
+abbrev pub withEngine : {k : Marking} → LiveBy k → Engine → LiveBy k
 withEngine s x = record { tills = s .tills; seen = s .seen; engine = x; rings = s .rings; words = s .words; sequence = s .sequence; waiting = s .waiting; log = s .log }
 
-abbrev pub withRings : Live → List (List Carried) → Live
+abbrev pub withRings : {k : Marking} → LiveBy k → List (List Carried) → LiveBy k
 withRings s x = record { tills = s .tills; seen = s .seen; engine = s .engine; rings = x; words = s .words; sequence = s .sequence; waiting = s .waiting; log = s .log }
 
-abbrev pub withWords : Live → List ℕ → Live
+abbrev pub withWords : {k : Marking} → LiveBy k → List ℕ → LiveBy k
 withWords s x = record { tills = s .tills; seen = s .seen; engine = s .engine; rings = s .rings; words = x; sequence = s .sequence; waiting = s .waiting; log = s .log }
 
-abbrev pub withWaiting : Live → ℕ → List Copy → Live
+abbrev pub withWaiting : {k : Marking} → LiveBy k → ℕ → List Copy → LiveBy k
 withWaiting s n x = record { tills = s .tills; seen = s .seen; engine = s .engine; rings = s .rings; words = s .words; sequence = n; waiting = x; log = s .log }
 
-abbrev pub withLog : Live → Log → Live
+abbrev pub withLog : {k : Marking} → LiveBy k → Log → LiveBy k
 withLog s x = record { tills = s .tills; seen = s .seen; engine = s .engine; rings = s .rings; words = s .words; sequence = s .sequence; waiting = s .waiting; log = x }
+
+-- ---- What the book holds of it: the marks plain
+
+abbrev pub plainly : Live → LiveBy plain
+plainly s = record { tills = s .tills; seen = map (idsIn table) (s .seen); engine = s .engine; rings = s .rings; words = s .words; sequence = s .sequence; waiting = s .waiting; log = s .log }
 
 -- ---- Readings
 
-abbrev pub idsAt : Live → ℕ → List ℕ
-idsAt s t = getD s.seen t []
+abbrev pub idsAt : {k : Marking} → LiveBy k → ℕ → Marks k
+idsAt {k} s t = getD s.seen t (noMarks k)
 
 -- does the mark (till, id) stand
-abbrev pub marked : Live → ℕ → ℕ → Bool
-marked s t i = found i (idsAt s t)
+abbrev pub marked : {k : Marking} → LiveBy k → ℕ → ℕ → Bool
+marked {k} s t i = stands k i (idsAt s t)
 
-abbrev pub tillAt : Live → ℕ → Till
+abbrev pub tillAt : {k : Marking} → LiveBy k → ℕ → Till
 tillAt s t = getD s.tills t downTill
 
-abbrev pub isUp : Live → ℕ → Bool
+abbrev pub isUp : {k : Marking} → LiveBy k → ℕ → Bool
 isUp s t = not (eqb (tillAt s t .up) 0)
 
 -- stopped by a block at that time, or by an end that is down now
-abbrev pub stopped : Live → ℕ → ℕ → ℕ → Bool
+abbrev pub stopped : {k : Marking} → LiveBy k → ℕ → ℕ → ℕ → Bool
 stopped s from to at = not (isUp s from) || not (isUp s to) || blocked from to at (s .engine .blocks)
 
 -- in transit to a till is the number of copies waiting for it
-abbrev pub inTransit : Live → ℕ → ℕ
+abbrev pub inTransit : {k : Marking} → LiveBy k → ℕ → ℕ
 inTransit s t = count (λ (c : Copy). eqb (c .delivery .to) t) s.waiting
 
 -- a ring for each type and scope
@@ -135,10 +144,10 @@ ringsOf z = z .types * scopes
 abbrev pub openTills : List ℕ → ℕ → List Till
 openTills masks n = upTo n (λ t. upTill (getD masks t 0))
 
-abbrev pub openingLive : Sizes → List ℕ → Live
-openingLive z masks = record {
+abbrev pub openingLive : (k : Marking) → Sizes → List ℕ → LiveBy k
+openingLive k z masks = record {
   tills = openTills masks (z .tills);
-  seen = replicate (z .tills) [];
+  seen = replicate (z .tills) (noMarks k);
   engine = record { blocks = []; rules = []; installed = 0; words = 0 };
   rings = replicate (ringsOf z) [];
   words = replicate links 0;

@@ -10,7 +10,8 @@ use Rattle.rules.specs.Rules.{ruleSlots, mostRules}
 use Rattle.blocks.specs.Blocks.{blockSlots}
 use Rattle.network.specs.Lists.{within}
 use Rattle.network.specs.Opening.{Opening, link, global, longestWire, latestNow, mostWords, lastNumber}
-use Rattle.network.specs.Live.{Live, marked, idsAt}
+use Rattle.network.specs.Marking.{Marking, slotsOf}
+use Rattle.network.specs.Live.{LiveBy, marked, idsAt}
 use Rattle.network.specs.Accept.{Entry, messageOf, selected}
 use Rattle.network.specs.Flush.{due}
 use Rattle.network.specs.Calls.{Call, Reading, isBlocked, transit, fired, isDown, nextTime, tallyOf, waitingCopies, marksOf, accept, flush, takeDown, bringUp, handlers, block, blockDuring, unblock, install, remove, decide, drain, reading}
@@ -54,7 +55,7 @@ module _ (o : Opening) where
   abbrev pub fresh : ℕ → Bool
   fresh words = ltb words mostWords
 
-  module _ (s : Live) (e : Entry) where
+  module _ {k : Marking} (s : LiveBy k) (e : Entry) where
     abbrev pub chosen : List ℕ
     chosen = selected o s (e .scope) (e .from)
 
@@ -68,17 +69,17 @@ module _ (o : Opening) where
 
     -- 10: has each selected till without this id a free seen slot?
     abbrev pub ask10 : Asked
-    ask10 = ask 10 (allOf (λ t. marked s t (messageOf o e .id) || ltb (length (idsAt s t)) (o .sizes .seenSlots)) chosen)
+    ask10 = ask 10 (allOf (λ t. marked s t (messageOf o e .id) || ltb (slotsOf k (idsAt s t)) (o .sizes .seenSlots)) chosen)
 
     -- 11: do waiting plus 3 × selected fit the slots?
     abbrev pub ask11 : Asked
     ask11 = ask 11 (leb (length (s .waiting) + 3 * length chosen) (o .sizes .waitSlots))
 
   -- 12: is a block place free? is a rule place free, and were fewer than 4,294,967,295 rules ever installed?
-  abbrev pub ask12block : Live → Asked
+  abbrev pub ask12block : {k : Marking} → LiveBy k → Asked
   ask12block s = ask 12 (ltb (length (s .engine .blocks)) blockSlots)
 
-  abbrev pub ask12rule : Live → Asked
+  abbrev pub ask12rule : {k : Marking} → LiveBy k → Asked
   ask12rule s = ask 12 (ltb (length (s .engine .rules)) ruleSlots && ltb (s .engine .installed) mostRules)
 
   -- an output that is shorter than the opening's size is answered 1
@@ -92,7 +93,7 @@ module _ (o : Opening) where
   askedReading (waitingCopies rows) = ask 1 (leb (o .sizes .waitSlots) rows) ∷ []
   askedReading (marksOf t places) = ask 1 (leb (o .sizes .seenSlots) places) ∷ ask4 t ∷ []
 
-  abbrev pub asked : Live → Call → List Asked
+  abbrev pub asked : {k : Marking} → LiveBy k → Call → List Asked
   asked s (accept e true) = ask4 (e .from) ∷ ask5 e ∷ ask6 e ∷ ask7 (e .now) ∷ ask8 s e ∷ ask9 s e ∷ ask10 s e ∷ ask11 s e ∷ []
   -- a payload marked as not opening is answered after question 7
   asked s (accept e false) = ask4 (e .from) ∷ ask5 e ∷ ask6 e ∷ ask7 (e .now) ∷ []
