@@ -1,16 +1,19 @@
 -- Questions: the numbers go up, so that the first "no" is the one that comes back.
 use mathlib.Core.Path.{_≡_, refl}
-use Prim.Native.Nat.{ℕ, _<_}
+use Prim.Native.Nat.{ℕ, _+_, _*_, _<_, _≤_}
 use native.Mathlib.Omega.{arith}
 use mathlib.Core.Bool.{Bool, true, false, cond}
 use mathlib.Core.List.{List, [], _∷_}
-use lib.Dec.{lit<}
-use borrow.Author.Tests.{eq-eqb, ne-eqb}
+use lib.Dec.{lit<, leb}
+use lib.ListN.{length}
+use borrow.Author.Tests.{eq-eqb, ne-eqb, leb-true}
 use Rattle.network.specs.Opening.{Settings, Opening}
 use Rattle.network.specs.Marking.{Marking}
 use Rattle.network.specs.Live.{LiveBy}
 use Rattle.network.specs.Calls.{Call, Reading, isBlocked, transit, fired, isDown, nextTime, tallyOf, waitingCopies, marksOf, accept, flush, takeDown, bringUp, handlers, block, blockDuring, unblock, install, remove, decide, drain, reading}
-use Rattle.network.specs.Questions.{Asked, firstNo, answerTo, asked, askedReading}
+use Rattle.network.specs.Questions.{Asked, Room, alone, pooled, firstNo, answerTo, askRoom, askedIn, asked, askedReading}
+use Rattle.network.specs.Accept.{Entry, selected}
+use Rattle.book.proofs.Each.{both}
 use Rattle.network.specs.Open.{askedOpening}
 use Rattle.network.specs.Tables.{Tables}
 use Rattle.rows.specs.Lists.{Each}
@@ -58,21 +61,30 @@ rising-reading o (tallyOf class) = (lit< tt, tt)
 rising-reading o (waitingCopies rows) = (lit< tt, tt)
 rising-reading o (marksOf t places) = (lit< tt, (lit< tt, tt))
 
+pub rising-in : (o : Opening) (room : Room) {k : Marking} (s : LiveBy k) (c : Call) → Rising 0 (askedIn o room s c)
+rising-in o alone s (accept e true) = (lit< tt, (lit< tt, (lit< tt, (lit< tt, (lit< tt, (lit< tt, (lit< tt, (lit< tt, tt))))))))
+rising-in o (pooled free) s (accept e true) = (lit< tt, (lit< tt, (lit< tt, (lit< tt, (lit< tt, (lit< tt, (lit< tt, (lit< tt, tt))))))))
+rising-in o room s (accept e false) = (lit< tt, (lit< tt, (lit< tt, (lit< tt, tt))))
+rising-in o room s (flush now rows) = (lit< tt, (lit< tt, tt))
+rising-in o room s (takeDown t) = (lit< tt, tt)
+rising-in o room s (bringUp t shards) = (lit< tt, (lit< tt, tt))
+rising-in o room s (handlers t gossip host) = (lit< tt, (lit< tt, tt))
+rising-in o room s (block from to) = (lit< tt, (lit< tt, tt))
+rising-in o room s (blockDuring from to start end) = (lit< tt, (lit< tt, tt))
+rising-in o room s (unblock from to) = (lit< tt, tt)
+rising-in o room s (install card) = (lit< tt, (lit< tt, tt))
+rising-in o room s (remove id) = tt
+rising-in o room s (decide x) = (lit< tt, (lit< tt, (lit< tt, (lit< tt, tt))))
+rising-in o room s (drain rows) = (lit< tt, tt)
+rising-in o room s (reading r) = rising-reading o r
+
 pub rising : (o : Opening) {k : Marking} (s : LiveBy k) (c : Call) → Rising 0 (asked o s c)
-rising o s (accept e true) = (lit< tt, (lit< tt, (lit< tt, (lit< tt, (lit< tt, (lit< tt, (lit< tt, (lit< tt, tt))))))))
-rising o s (accept e false) = (lit< tt, (lit< tt, (lit< tt, (lit< tt, tt))))
-rising o s (flush now rows) = (lit< tt, (lit< tt, tt))
-rising o s (takeDown t) = (lit< tt, tt)
-rising o s (bringUp t shards) = (lit< tt, (lit< tt, tt))
-rising o s (handlers t gossip host) = (lit< tt, (lit< tt, tt))
-rising o s (block from to) = (lit< tt, (lit< tt, tt))
-rising o s (blockDuring from to start end) = (lit< tt, (lit< tt, tt))
-rising o s (unblock from to) = (lit< tt, tt)
-rising o s (install card) = (lit< tt, (lit< tt, tt))
-rising o s (remove id) = tt
-rising o s (decide x) = (lit< tt, (lit< tt, (lit< tt, (lit< tt, tt))))
-rising o s (drain rows) = (lit< tt, tt)
-rising o s (reading r) = rising-reading o r
+rising o s c = rising-in o alone s c
+
+-- wherever the slots come from, there is room in the network's own limit
+pub room-fits : (o : Opening) (room : Room) {k : Marking} (s : LiveBy k) (e : Entry) → askRoom o s e room .yes ≡ true → length (s .waiting) + 3 * length (selected o s (e .scope) (e .from)) ≤ o .sizes .waitSlots
+room-fits o alone s e h = leb-true _ _ h
+room-fits o (pooled free) s e h = leb-true _ _ (both (leb (length (s .waiting) + 3 * length (selected o s (e .scope) (e .from))) (o .sizes .waitSlots)) (leb (length (s .waiting) + 3 * length (selected o s (e .scope) (e .from))) free) h .0)
 
 pub rising-opening : (x : Settings) (masks : List ℕ) (T : Tables) → Rising 0 (askedOpening x masks T)
 rising-opening x masks T = (lit< tt, (lit< tt, (lit< tt, (lit< tt, tt))))

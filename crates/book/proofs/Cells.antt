@@ -33,12 +33,12 @@ use Rattle.network.specs.Live.{Till, downTill, upTill, Live, isOriginal, idsAt,
 use Rattle.network.specs.Accept.{Message, messageOf, receives, selected, Drawn, drawn, context, copies, Class, deduplicated, partition, loss, fault, sent, classOf, effect, offered}
 use Rattle.network.specs.Flush.{due, later, stops, lands}
 use Rattle.network.specs.Calls.{Call, withHandlers, accept, flush, takeDown, bringUp, handlers, block, blockDuring, unblock, install, remove, decide, drain, reading}
-use Rattle.network.specs.Questions.{asked, firstNo}
+use Rattle.network.specs.Questions.{Room, askedIn, asked, firstNo}
 use Rattle.network.specs.Tables.{cell, Tables, live, tillForm, blockForm, idsStart, sequenceAt, waitingAt, rulesAt, installedAt, blocksAt}
 use Rattle.network.specs.Writes.{netT, tillT, marksT, waitingT, blockT, unblockT, installT, removeT, recordT, recordAllT, clearT, flushT, acceptT, offeredT, stepT}
 use Rattle.book.specs.Cells.{Fit, CellsFit, CallFits}
 use Rattle.book.proofs.Each.{both, all-each, each-at, each-keep, each-front, each-behind, each-upTo}
-use Rattle.book.proofs.Asking.{all-yes, rising}
+use Rattle.book.proofs.Asking.{rising-in, room-fits, all-yes, rising}
 use Rattle.book.proofs.Sound.{Below, selected-below, sent-unmarked}
 use Rattle.book.proofs.Fitting.{Limited, Fits, NearMessage, Good, drawn-good, few-copies, Ready, room, effect-fits, effect-length, effect-ready, length-keep, length-behind}
 use Rattle.book.proofs.StepFits.{near-message, length-without}
@@ -253,9 +253,9 @@ free-block T s w h =
     omega (arith, n, ltb-true (length (s .engine .blocks)) blockSlots h)
 
 module _ (o : Opening) (lim : Limited (o .sizes)) (g : DrawsFit o) where
-  pub step-cells : (c : Call) (T : Tables) (s : Live) → Wrote (o .sizes) T s → Fits (o .sizes) s → firstNo (asked o s c) ≡ 0 → CallFits c → CellsFit T → CellsFit (stepT o T c)
-  step-cells (accept e true) T s w f h fit cells =
-      let y = all-yes 0 (asked o s (accept e true)) (rising o s (accept e true)) h in
+  pub step-cells : (room : Room) (c : Call) (T : Tables) (s : Live) → Wrote (o .sizes) T s → Fits (o .sizes) s → firstNo (askedIn o room s c) ≡ 0 → CallFits c → CellsFit T → CellsFit (stepT o T c)
+  step-cells room (accept e true) T s w f h fit cells =
+      let y = all-yes 0 (askedIn o room s (accept e true)) (rising-in o room s (accept e true)) h in
       let m = messageOf o e in
       let ts = selected o s (e .scope) (e .from) in
       let k = near-message o lim e (y .0) (y .1 .0) (y .1 .1 .0) in
@@ -268,7 +268,7 @@ module _ (o : Opening) (lim : Limited (o .sizes)) (g : DrawsFit o) where
       (λ t l. less (getD (s .words) (link (e .from) t) 0) l) (all-each _ ts (fresh .1)) in
       let many = few ts (selected-few o s (e .scope) (e .from)) in
       subst (λ (v : Live). CellsFit (acceptT o m T (selected o v (e .scope) (e .from)))) (sym (w .holds))
-      (accept-cells o lim g m k q ts T s w f (selected-below o s (e .scope) (e .from)) (all-each _ ts (y .1 .1 .1 .1 .1 .1 .0)) (leb-true _ _ (y .1 .1 .1 .1 .1 .1 .1 .0)) cells
+      (accept-cells o lim g m k q ts T s w f (selected-below o s (e .scope) (e .from)) (all-each _ ts (y .1 .1 .1 .1 .1 .1 .0)) (room-fits o room s e (y .1 .1 .1 .1 .1 .1 .1 .0)) cells
       (leb-true _ _ (y .1 .1 .1 .1 .1 .0)) mostWords words (omega (arith, many)) (omega (arith, many, ltb-true (s .engine .words) mostWords (fresh .0))))
     where
       less : (n : ℕ) → ltb n mostWords ≡ true → n ≤ mostWords
@@ -276,40 +276,40 @@ module _ (o : Opening) (lim : Limited (o .sizes)) (g : DrawsFit o) where
 
       few : (ts : List ℕ) → length ts ≤ o .sizes .tills → length ts ≤ 64
       few ts l = omega (arith, lim .tills)
-  step-cells (accept e false) T s w f h fit cells = cells
-  step-cells (flush now rows) T s w f h fit cells = flush-cells (o .sizes) (lim .log) now T cells
-  step-cells (takeDown t) T s w f h fit cells =
+  step-cells room (accept e false) T s w f h fit cells = cells
+  step-cells room (flush now rows) T s w f h fit cells = flush-cells (o .sizes) (lim .log) now T cells
+  step-cells room (takeDown t) T s w f h fit cells =
       marks-cells (o .sizes) (tillT T t downTill) t [] (till-cells T t downTill cells (omega arith, (omega arith, (omega arith, (omega arith, tt))))) tt (omega arith)
-  step-cells (bringUp t shards) T s w f h fit cells =
+  step-cells room (bringUp t shards) T s w f h fit cells =
       let y = all-yes 0 (asked o s (bringUp t shards)) (rising o s (bringUp t shards)) h in
       till-cells T t (upTill shards) cells (omega arith, (omega arith, (omega arith, (mask-small shards (o .sizes .shards) (lim .shards) (y .1 .0), tt))))
-  step-cells (handlers t gossip host) T s w f h fit cells =
+  step-cells room (handlers t gossip host) T s w f h fit cells =
       let y = all-yes 0 (asked o s (handlers t gossip host)) (rising o s (handlers t gossip host)) h in
       let x = both (within gossip (o .sizes .types)) (within host (o .sizes .types)) (y .1 .0) in
       let old = each-at (λ (v : Till). Fit 64 (tillForm .words v)) (live (o .sizes) T .tills) t downTill (rows-fit 64 tillForm till-reads (o .sizes .tills) (T .tills) (cells .tills)) (omega arith, (omega arith, (omega arith, (omega arith, tt)))) in
       till-cells T t (withHandlers (tillAt (live (o .sizes) T) t) gossip host) cells
       (old .0, (mask-small gossip (o .sizes .types) (lim .types) (x .0), (mask-small host (o .sizes .types) (lim .types) (x .1), (old .1 .1 .1 .0, tt))))
-  step-cells (block from to) T s w f h fit cells =
+  step-cells room (block from to) T s w f h fit cells =
       let y = all-yes 0 (asked o s (block from to)) (rising o s (block from to)) h in
       let a = ltb-true (max from to) (o .sizes .tills) (y .0) in
       block-cells T (always from to) cells (free-block T s w (y .1 .0)) (omega (arith, a, lim .tills), (omega (arith, a, lim .tills), (omega arith, (omega arith, (omega arith, tt)))))
-  step-cells (blockDuring from to start end) T s w f h fit cells =
+  step-cells room (blockDuring from to start end) T s w f h fit cells =
       let y = all-yes 0 (asked o s (blockDuring from to start end)) (rising o s (blockDuring from to start end)) h in
       let a = ltb-true (max from to) (o .sizes .tills) (y .0) in
       block-cells T (during from to start end) cells (free-block T s w (y .1 .0)) (omega (arith, a, lim .tills), (omega (arith, a, lim .tills), (omega arith, (fit .0, (fit .1, tt)))))
-  step-cells (unblock from to) T s w f h fit cells = unblock-cells T from to cells
-  step-cells (install card) T s w f h fit cells =
+  step-cells room (unblock from to) T s w f h fit cells = unblock-cells T from to cells
+  step-cells room (install card) T s w f h fit cells =
       let y = all-yes 0 (asked o s (install card)) (rising o s (install card)) h in
       let x = both (ltb (length (s .engine .rules)) ruleSlots) (ltb (s .engine .installed) mostRules) (y .0) in
       let n : length (s .engine .rules) ≡ cell (T .net) rulesAt = sym (ap (λ (v : Live). length (v .engine .rules)) (w .holds)) ∙ length-rows ruleWidth rules.firstRule (cell (T .net) rulesAt) (T .rules) in
       let ever : s .engine .installed ≡ cell (T .net) installedAt = sym (ap (λ (v : Live). v .engine .installed) (w .holds)) in
       install-cells T card cells fit (omega (arith, n, ltb-true (length (s .engine .rules)) ruleSlots (x .0))) (omega (arith, ever, ltb-true (s .engine .installed) mostRules (x .1)))
-  step-cells (remove id) T s w f h fit cells = remove-cells (o .sizes) T id cells
-  step-cells (decide x) T s w f h fit cells =
+  step-cells room (remove id) T s w f h fit cells = remove-cells (o .sizes) T id cells
+  step-cells room (decide x) T s w f h fit cells =
       let y = all-yes 0 (asked o s (decide x)) (rising o s (decide x)) h in
       let v = live (o .sizes) T .engine in
       let old : v .words ≡ s .engine .words = ap (λ (q : Live). q .engine .words) (w .holds) in
       let n : length (v .rules) ≤ ruleSlots = subst (λ (q : Live). length (q .engine .rules) ≤ ruleSlots) (sym (w .holds)) (f .engine .rules) in
       ruled-cells T (o .draws .decide x (v .rules) (v .words)) cells (omega (arith, g .decide x (v .rules) (v .words), n, old, ltb-true (s .engine .words) mostWords (y .1 .1 .1 .0)))
-  step-cells (drain rows) T s w f h fit cells = cells-log T cells _ (fit-cleared (o .sizes .logSlots) (lim .log) (T .log) (cells .log))
-  step-cells (reading r) T s w f h fit cells = cells
+  step-cells room (drain rows) T s w f h fit cells = cells-log T cells _ (fit-cleared (o .sizes .logSlots) (lim .log) (T .log) (cells .log))
+  step-cells room (reading r) T s w f h fit cells = cells

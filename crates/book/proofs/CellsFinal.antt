@@ -6,10 +6,10 @@ use mathlib.Core.List.{List, [], _∷_}
 use Rattle.rows.specs.Lists.{Each}
 use Rattle.network.specs.Opening.{Settings, Opening}
 use Rattle.network.specs.Calls.{Call}
-use Rattle.network.specs.Questions.{Asked, asked, firstNo}
+use Rattle.network.specs.Questions.{Asked, Room, askedIn, firstNo}
 use Rattle.network.specs.Tables.{Tables, setupOf}
 use Rattle.network.specs.Real.{openingOf}
-use Rattle.network.specs.Writes.{isNumber, numberOf, exitT, tablesBy}
+use Rattle.network.specs.Writes.{isNumber, numberIn, exitT, tablesIn}
 use Rattle.network.specs.Open.{limitTests, askedOpening, openNumber, openTables}
 use Rattle.book.specs.Book.{Book, opened}
 use Rattle.book.specs.Demand3.{Item, own, others, reopen, AllAdmitted, tablesAfter, tablesAtEnd, bookAfter}
@@ -24,12 +24,12 @@ use Rattle.book.proofs.CellsOpen.{open-cells}
 use Rattle.book.proofs.Final.{Bears, number-kept, held-after, open-bears}
 
 module _ (o : Opening) (lim : Limited (o .sizes)) (g : DrawsFit o) where
-  call-cells : (T : Tables) (b : Book) (c : Call) (h : Bears o T b) → CallFits c → CellsFit T → (n : ℕ) → n ≡ firstNo (asked o (h .kept) c) → CellsFit (exitT o (isNumber n) T c)
-  call-cells T b c h f k zero e = step-cells o lim g c T (h .kept) (h .held .wrote) (h .held .fits) (sym e) f k
-  call-cells T b c h f k (suc n) e = k
+  call-cells : (room : Room) (T : Tables) (b : Book) (c : Call) (h : Bears o T b) → CallFits c → CellsFit T → (n : ℕ) → n ≡ firstNo (askedIn o room (h .kept) c) → CellsFit (exitT o (isNumber n) T c)
+  call-cells room T b c h f k zero e = step-cells o lim g room c T (h .kept) (h .held .wrote) (h .held .fits) (sym e) f k
+  call-cells room T b c h f k (suc n) e = k
 
   item-cells : (b : Book) (T : Tables) (i : Item) → Bears o T b → ItemFits i → CellsFit T → CellsFit (tablesAfter T i)
-  item-cells b T (own c) h f k = subst (λ (q : Opening). CellsFit (tablesBy q T c)) (sym (h .held .fixed .opening)) (call-cells T b c h f k (numberOf o T c) (number-kept o T b h c))
+  item-cells b T (own room c) h f k = subst (λ (q : Opening). CellsFit (tablesIn q room T c)) (sym (h .held .fixed .opening)) (call-cells room T b c h f k (numberIn o room T c) (number-kept o room T b h c))
   item-cells b T (others X c) h f k = k
   item-cells b T (reopen X y ms) h f k = k
 

@@ -14,10 +14,10 @@ use Rattle.network.specs.Live.{Live, LiveBy, plainly, openingLive}
 use Rattle.network.specs.Accept.{messageOf, selected, booked, noCounts, tally, total}
 use Rattle.network.specs.Flush.{handled}
 use Rattle.network.specs.Calls.{Call, Answer, liveStep, answerOf, countsIn, rowsIn, deliveredIn, dropsIn, accept, flush, takeDown, bringUp, handlers, block, blockDuring, unblock, install, remove, decide, drain, reading}
-use Rattle.network.specs.Questions.{asked, firstNo}
+use Rattle.network.specs.Questions.{Room, alone, askedIn, firstNo}
 use Rattle.network.specs.Tables.{Tables, live}
 use Rattle.network.specs.Real.{openingOf, openingAt}
-use Rattle.network.specs.Writes.{Reply, isNumber, numberOf, exitT, answerT, tablesBy, replyBy, outputOf, callReply}
+use Rattle.network.specs.Writes.{Reply, isNumber, numberIn, exitT, answerT, tablesIn, replyIn, outputOf, roomReply}
 use Rattle.network.specs.Open.{askedOpening, openNumber, openTables, openExit}
 use Rattle.book.specs.Book.{Book, landedIn, droppedIn, bookStep, expected, opened}
 use Rattle.book.specs.History.{hasSequence}
@@ -27,7 +27,7 @@ use Rattle.book.proofs.Sound.{SoundBook, book-sound, opened-sound}
 use Rattle.book.proofs.Plain as marks
 use Rattle.book.proofs.Sums.{booked-tills, booked-total}
 use Rattle.book.proofs.Moves.{book-rows, book-drops, book-delivered, book-log, quiet}
-use Rattle.book.proofs.Asking.{first-no, rising, rising-opening}
+use Rattle.book.proofs.Asking.{first-no, rising-in, rising-opening}
 use Rattle.book.proofs.Fitting.{Limited}
 use Rattle.book.proofs.StepFits.{step-fits}
 use Rattle.book.proofs.Formed.{Fixed}
@@ -45,58 +45,58 @@ pub record Bears (o : Opening) (T : Tables) (b : Book) : Type 0 where
 module _ (o : Opening) where
   -- ---- One call: the contracts speak of the book's opening
 
-  module _ (T : Tables) (b : Book) (h : Bears o T b) (c : Call) where
-    reply-is : callReply T c ≡ replyBy o T c
-    reply-is = ap (λ (q : Opening). replyBy q T c) (h .held .fixed .opening)
+  module _ (room : Room) (T : Tables) (b : Book) (h : Bears o T b) (c : Call) where
+    pub reply-is : roomReply room T c ≡ replyIn o room T c
+    reply-is = ap (λ (q : Opening). replyIn q room T c) (h .held .fixed .opening)
 
     -- the questions of the tables are those of the book
-    pub asked-is : asked o (h .kept) c ≡ asked o (b .live) c
-    asked-is = marks.same-asked o (h .kept) (h .held .fits .ordered) c ∙ ap (λ (q : LiveBy plain). asked o q c) (h .same)
+    pub asked-is : askedIn o room (h .kept) c ≡ askedIn o room (b .live) c
+    asked-is = marks.same-asked o (h .kept) (h .held .fits .ordered) room c ∙ ap (λ (q : LiveBy plain). askedIn o room q c) (h .same)
 
-    pub number-kept : numberOf o T c ≡ firstNo (asked o (h .kept) c)
-    number-kept = rw (yes1 o T (h .kept) (h .held) c) (ap (λ (q : Live). firstNo (asked o q c)) (h .held .wrote .holds))
+    pub number-kept : numberIn o room T c ≡ firstNo (askedIn o room (h .kept) c)
+    number-kept = rw (yes1 o T (h .kept) (h .held) c) (ap (λ (q : Live). firstNo (askedIn o room q c)) (h .held .wrote .holds))
 
-    pub number-is : numberOf o T c ≡ firstNo (asked o (b .live) c)
+    pub number-is : numberIn o room T c ≡ firstNo (askedIn o room (b .live) c)
     number-is = number-kept ∙ ap firstNo asked-is
 
-    answer-is : (r : Bool) → answerT o r T c ≡ expected o b c r
-    answer-is true = refl
-    answer-is false =
-        ap (λ (s : Live). answerOf o s c) (h .held .wrote .holds) ∙ marks.same-answer o (h .kept) (h .held .fits .ordered) c ∙ ap (λ (q : LiveBy plain). answerOf o q c) (h .same)
+  pub answer-is : (T : Tables) (b : Book) (h : Bears o T b) (c : Call) (r : Bool) → answerT o r T c ≡ expected o b c r
+  answer-is T b h c true = refl
+  answer-is T b h c false =
+      ap (λ (s : Live). answerOf o s c) (h .held .wrote .holds) ∙ marks.same-answer o (h .kept) (h .held .fits .ordered) c ∙ ap (λ (q : LiveBy plain). answerOf o q c) (h .same)
 
-  held-step : Limited (o .sizes) → (T : Tables) (b : Book) (c : Call) (h : Bears o T b) → (n : ℕ) → n ≡ firstNo (asked o (h .kept) c)
+  held-step : Limited (o .sizes) → (room : Room) (T : Tables) (b : Book) (c : Call) (h : Bears o T b) → (n : ℕ) → n ≡ firstNo (askedIn o room (h .kept) c)
       → Bears o (exitT o (isNumber n) T c) (bookStep o b c (isNumber n))
-  held-step lim T b c h zero e = record {
+  held-step lim room T b c h zero e = record {
     kept = liveStep o (h .kept) c;
     held = record {
       fixed = subst (Fixed o) (sym (same-step o T c)) (h .held .fixed);
-      wrote = step-wrote o lim c T (h .kept) (h .held .wrote) (h .held .fits) (sym e);
-      fits = step-fits o lim (h .kept) c (sym e) (h .held .fits);
+      wrote = step-wrote o lim room c T (h .kept) (h .held .wrote) (h .held .fits) (sym e);
+      fits = step-fits o lim room (h .kept) c (sym e) (h .held .fits);
     };
     same = marks.same-step o (h .kept) (h .held .fits .ordered) c ∙ ap (λ (q : LiveBy plain). liveStep o q c) (h .same);
   }
-  held-step lim T b c h (suc n) e = h
+  held-step lim room T b c h (suc n) e = h
 
   -- ---- What holds of each call
 
   same-answer : (b : Book) (T : Tables) (i : Item) → Bears o T b → Admitted i → replyTo T i .answer ≡ expectedOf o b T i
-  same-answer b T (own c) h a =
-      ap (λ (r : Reply). r .answer) (reply-is T b h c)
-      ∙ answer-is T b h c (isNumber (numberOf o T c))
-      ∙ ap (λ (r : Reply). expected o b c (isNumber (r .number))) (sym (reply-is T b h c))
+  same-answer b T (own room c) h a =
+      ap (λ (r : Reply). r .answer) (reply-is room T b h c)
+      ∙ answer-is T b h c (isNumber (numberIn o room T c))
+      ∙ ap (λ (r : Reply). expected o b c (isNumber (r .number))) (sym (reply-is room T b h c))
   same-answer b T (others X c) h a = rw a
   same-answer b T (reopen X y ms) h a = refl
 
-  only-own : (b : Book) (c : Call) (n : ℕ) → n ≡ firstNo (asked o (b .live) c) → OnlyNo o b (own c) n
-  only-own b c zero h = tt
-  only-own b c (suc n) h = rw h (first-no 0 (asked o (b .live) c) (rising o (b .live) c) (λ e. omega arith))
+  only-own : (room : Room) (b : Book) (c : Call) (n : ℕ) → n ≡ firstNo (askedIn o room (b .live) c) → OnlyNo o b (own room c) n
+  only-own room b c zero h = tt
+  only-own room b c (suc n) h = rw h (first-no 0 (askedIn o room (b .live) c) (rising-in o room (b .live) c) (λ e. omega arith))
 
   only-reopen : (b : Book) (X : Tables) (y : Settings) (ms : List ℕ) (n : ℕ) → n ≡ openNumber y ms X → OnlyNo o b (reopen X y ms) n
   only-reopen b X y ms zero h = tt
   only-reopen b X y ms (suc n) h = rw h (first-no 0 (askedOpening y ms X) (rising-opening y ms X) (λ e. omega arith))
 
   only-no : (b : Book) (T : Tables) (i : Item) → Bears o T b → Admitted i → OnlyNo o b i (replyTo T i .number)
-  only-no b T (own c) h a = only-own b c (callReply T c .number) (ap (λ (r : Reply). r .number) (reply-is T b h c) ∙ number-is T b h c)
+  only-no b T (own room c) h a = only-own room b c (roomReply room T c .number) (ap (λ (r : Reply). r .number) (reply-is room T b h c) ∙ number-is room T b h c)
   only-no b T (others X c) h a = rw a (refl, a)
   only-no b T (reopen X y ms) h a = only-reopen b X y ms (openNumber y ms X) refl
 
@@ -110,65 +110,65 @@ module _ (o : Opening) where
   reopen-kept X y ms (suc n) h = refl
 
   kept : (T : Tables) (i : Item) → Admitted i → Kept T i
-  kept T (own c) a = λ r. call-kept (openingAt T) T c (isNumber (numberOf (openingAt T) T c)) r
-  kept T (others X c) a = call-kept (openingAt X) X c (isNumber (numberOf (openingAt X) X c)) (rw a)
+  kept T (own room c) a = λ r. call-kept (openingAt T) T c (isNumber (numberIn (openingAt T) room T c)) r
+  kept T (others X c) a = call-kept (openingAt X) X c (isNumber (numberIn (openingAt X) alone X c)) (rw a)
   kept T (reopen X y ms) a = reopen-kept X y ms (openNumber y ms X) a
 
   -- calls other than an accept count nothing
-  none : (b : Book) (T : Tables) (c : Call) → Bears o T b → countsIn (answerOf o (b .live) c) ≡ noCounts → countsIn (callReply T c .answer) ≡ noCounts
-  none b T c h e = ap countsIn (same-answer b T (own c) h tt) ∙ go (refused T (own c))
+  none : (room : Room) (b : Book) (T : Tables) (c : Call) → Bears o T b → countsIn (answerOf o (b .live) c) ≡ noCounts → countsIn (roomReply room T c .answer) ≡ noCounts
+  none room b T c h e = ap countsIn (same-answer b T (own room c) h tt) ∙ go (refused T (own room c))
     where
       go : (r : Bool) → countsIn (expected o b c r) ≡ noCounts
       go true = refl
       go false = e
 
   sum : (b : Book) (T : Tables) (i : Item) → Bears o T b → Admitted i → SumOf o b i (replyTo T i)
-  sum b T (own (accept e true)) h a = λ z.
+  sum b T (own room (accept e true)) h a = λ z.
       let c = accept e true in
       let ts = selected o (b .live) (e .scope) (e .from) in
       let m = messageOf o e in
-      let n : countsIn (callReply T c .answer) ≡ tally (booked o m (b .live) ts) =
-      ap countsIn (same-answer b T (own c) h tt) ∙ ap (λ (k : ℕ). countsIn (expected o b c (isNumber k))) z in
+      let n : countsIn (roomReply room T c .answer) ≡ tally (booked o m (b .live) ts) =
+      ap countsIn (same-answer b T (own room c) h tt) ∙ ap (λ (k : ℕ). countsIn (expected o b c (isNumber k))) z in
       record { each-once = booked-tills o m (b .live) ts; counts = n; sum = ap total n ∙ booked-total o m (b .live) ts }
-  sum b T (own (accept e false)) h a = none b T (accept e false) h refl
-  sum b T (own (flush now rows)) h a = none b T (flush now rows) h refl
-  sum b T (own (takeDown t)) h a = none b T (takeDown t) h refl
-  sum b T (own (bringUp t shards)) h a = none b T (bringUp t shards) h refl
-  sum b T (own (handlers t gossip host)) h a = none b T (handlers t gossip host) h refl
-  sum b T (own (block from to)) h a = none b T (block from to) h refl
-  sum b T (own (blockDuring from to start end)) h a = none b T (blockDuring from to start end) h refl
-  sum b T (own (unblock from to)) h a = none b T (unblock from to) h refl
-  sum b T (own (install card)) h a = none b T (install card) h refl
-  sum b T (own (remove id)) h a = none b T (remove id) h refl
-  sum b T (own (decide x)) h a = none b T (decide x) h refl
-  sum b T (own (drain rows)) h a = none b T (drain rows) h refl
-  sum b T (own (reading x)) h a = none b T (reading x) h (quiet (b .live) x .counts)
+  sum b T (own room (accept e false)) h a = none room b T (accept e false) h refl
+  sum b T (own room (flush now rows)) h a = none room b T (flush now rows) h refl
+  sum b T (own room (takeDown t)) h a = none room b T (takeDown t) h refl
+  sum b T (own room (bringUp t shards)) h a = none room b T (bringUp t shards) h refl
+  sum b T (own room (handlers t gossip host)) h a = none room b T (handlers t gossip host) h refl
+  sum b T (own room (block from to)) h a = none room b T (block from to) h refl
+  sum b T (own room (blockDuring from to start end)) h a = none room b T (blockDuring from to start end) h refl
+  sum b T (own room (unblock from to)) h a = none room b T (unblock from to) h refl
+  sum b T (own room (install card)) h a = none room b T (install card) h refl
+  sum b T (own room (remove id)) h a = none room b T (remove id) h refl
+  sum b T (own room (decide x)) h a = none room b T (decide x) h refl
+  sum b T (own room (drain rows)) h a = none room b T (drain rows) h refl
+  sum b T (own room (reading x)) h a = none room b T (reading x) h (quiet (b .live) x .counts)
   sum b T (others X c) h a = rw a
   sum b T (reopen X y ms) h a = refl
 
   log-of : (b : Book) (T : Tables) (i : Item) → Bears o T b → Admitted i → LogOf o b (bookAfter o b T i) i (replyTo T i)
-  log-of b T (own c) h a = λ z.
+  log-of b T (own room c) h a = λ z.
       ap (λ (k : ℕ). bookStep o b c (isNumber k) .live .log) z ∙ book-log o b c
-      ∙ ap (logFrom o (isDrain o c) (b .live .log)) (sym (same-answer b T (own c) h tt ∙ ap (λ (k : ℕ). expected o b c (isNumber k)) z))
+      ∙ ap (logFrom o (isDrain o c) (b .live .log)) (sym (same-answer b T (own room c) h tt ∙ ap (λ (k : ℕ). expected o b c (isNumber k)) z))
   log-of b T (others X c) h a = rw a
   log-of b T (reopen X y ms) h a = refl
 
   rows-land : (b : Book) (T : Tables) (i : Item) → landedIn (bookAfter o b T i .past) ≡ reverseAux (copiesOf (rowsIn (expectedOf o b T i))) (landedIn (b .past))
-  rows-land b T (own c) = book-rows o b c (refused T (own c))
+  rows-land b T (own room c) = book-rows o b c (refused T (own room c))
   rows-land b T (others X c) = book-rows o b c (refused T (others X c))
   rows-land b T (reopen X y ms) = refl
 
   drops-count : (b : Book) (T : Tables) (i : Item) → length (droppedIn (bookAfter o b T i .past)) ≡ dropsIn (expectedOf o b T i) + length (droppedIn (b .past))
-  drops-count b T (own c) = book-drops o b c (refused T (own c))
+  drops-count b T (own room c) = book-drops o b c (refused T (own room c))
   drops-count b T (others X c) = book-drops o b c (refused T (others X c))
   drops-count b T (reopen X y ms) = omega arith
 
   delivered-count : (b : Book) (T : Tables) (i : Item) → deliveredIn (expectedOf o b T i) ≡ count handled (rowsIn (expectedOf o b T i))
-  delivered-count b T (own c) = book-delivered o b c (refused T (own c))
+  delivered-count b T (own room c) = book-delivered o b c (refused T (own room c))
   delivered-count b T (others X c) = book-delivered o b c (refused T (others X c))
   delivered-count b T (reopen X y ms) = refl
 
-  call-holds : (b : Book) (T : Tables) (i : Item) → Bears o T b → Admitted i → CallHolds o b T i
+  pub call-holds : (b : Book) (T : Tables) (i : Item) → Bears o T b → Admitted i → CallHolds o b T i
   call-holds b T i h a =
       let e = same-answer b T i h a in
       record {
@@ -186,9 +186,9 @@ module _ (o : Opening) where
 
   module _ (lim : Limited (o .sizes)) where
     pub held-after : (b : Book) (T : Tables) (i : Item) → Bears o T b → Admitted i → Bears o (tablesAfter T i) (bookAfter o b T i)
-    held-after b T (own c) h a =
-        subst (λ (q : Opening). Bears o (tablesBy q T c) (bookStep o b c (isNumber (numberOf q T c)))) (sym (h .held .fixed .opening))
-        (held-step lim T b c h (numberOf o T c) (number-kept T b h c))
+    held-after b T (own room c) h a =
+        subst (λ (q : Opening). Bears o (tablesIn q room T c) (bookStep o b c (isNumber (numberIn q room T c)))) (sym (h .held .fixed .opening))
+        (held-step lim room T b c h (numberIn o room T c) (number-kept room T b h c))
     held-after b T (others X c) h a = rw a h
     held-after b T (reopen X y ms) h a = h
 
@@ -196,12 +196,12 @@ module _ (o : Opening) where
     calls-hold [] b T h a = tt
     calls-hold (i ∷ is) b T h a = (call-holds b T i h (a .0), calls-hold is (bookAfter o b T i) (tablesAfter T i) (held-after b T i h (a .0)) (a .1))
 
-    end-held : (is : List Item) (b : Book) (T : Tables) → Bears o T b → AllAdmitted is → Bears o (tablesAtEnd T is) (bookAtEnd o b T is)
+    pub end-held : (is : List Item) (b : Book) (T : Tables) → Bears o T b → AllAdmitted is → Bears o (tablesAtEnd T is) (bookAtEnd o b T is)
     end-held [] b T h a = h
     end-held (i ∷ is) b T h a = end-held is (bookAfter o b T i) (tablesAfter T i) (held-after b T i h (a .0)) (a .1)
 
-  after-sound : (b : Book) (T : Tables) (i : Item) → SoundBook o b → SoundBook o (bookAfter o b T i)
-  after-sound b T (own c) h = book-sound o b c (refused T (own c)) h
+  pub after-sound : (b : Book) (T : Tables) (i : Item) → SoundBook o b → SoundBook o (bookAfter o b T i)
+  after-sound b T (own room c) h = book-sound o b c (refused T (own room c)) h
   after-sound b T (others X c) h = book-sound o b c (refused T (others X c)) h
   after-sound b T (reopen X y ms) h = h
 
@@ -209,7 +209,7 @@ module _ (o : Opening) where
   end-sound [] b T h = h
   end-sound (i ∷ is) b T h = end-sound is (bookAfter o b T i) (tablesAfter T i) (after-sound b T i h)
 
-  book-holds : (b : Book) → SoundBook o b → BookHolds b
+  pub book-holds : (b : Book) → SoundBook o b → BookHolds b
   book-holds b k = record {
     same-copies = k .places;
     one-place = λ n. sym (k .places (hasSequence n)) ∙ k .numbers n;

@@ -26,8 +26,8 @@ use Rattle.rules.specs.Rules.{ruleSlots, fireAt}
 use Rattle.blocks.specs.Blocks.{blockSlots}
 use Rattle.blocks.specs.declared.BlockWindow.{BlockWindow}
 use Rattle.rings.specs.Rings.{slots, numberOf}
-use Rattle.network.specs.Marking.{table}
-use Rattle.network.specs.Live.{numbered, Carried, Till, Engine, Live, ringsOf, idsAt, marked, stopped}
+use Rattle.network.specs.Marking.{Marking, table}
+use Rattle.network.specs.Live.{numbered, Carried, Till, Engine, Live, LiveBy, ringsOf, idsAt, marked, stopped}
 use Rattle.log.specs.Log as log
 use Rattle.log.specs.Log.{Log}
 use Rattle.network.specs.Accept.{Message, Drawn, drawn, original, echo, carriedOf, ringFor, Class, deduplicated, partition, loss, fault, sent, classOf, copies, insertAll, mark, remembered, ruled, effect, offered, liveAfter}
@@ -155,7 +155,7 @@ ruled-fits z e v f = record { blocks = f .blocks; rules = rw (length-ruled v (e 
 -- ---- One recipient
 
 module _ (o : Opening) (m : Message) where
-  pub few-copies : (s : Live) (d : Drawn) (t : ℕ) → length (d .echoes .copies) ≤ 2 → length (copies o m s d t) ≤ 3
+  pub few-copies : {k : Marking} (s : LiveBy k) (d : Drawn) (t : ℕ) → length (d .echoes .copies) ≤ 2 → length (copies o m s d t) ≤ 3
   few-copies s d t h = omega (arith, length-numbered (s .sequence) (original m t (d .latency .value) ∷ d .echoes .copies))
 
   abbrev pub NearCopy : Copy → Type 0

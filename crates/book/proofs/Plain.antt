@@ -18,9 +18,9 @@ use Rattle.network.specs.Opening.{Opening}
 use Rattle.network.specs.Marking.{plain, table, inserted, without}
 use Rattle.network.specs.Live.{Live, LiveBy, plainly, isOriginal, idsAt, marked, stopped}
 use Rattle.network.specs.Accept.{Entry, Message, messageOf, selected, Drawn, drawn, Class, deduplicated, partition, loss, fault, sent, firstFit, classOf, effect, offered, liveAfter, Booked, booked, tally}
-use Rattle.network.specs.Flush.{due, later, lands, stops, unmark, clearing, loggedAll}
-use Rattle.network.specs.Calls.{Call, Reading, isBlocked, transit, fired, isDown, nextTime, tallyOf, waitingCopies, marksOf, Answer, ids, counted, read, liveStep, answerOf, accept, flush, takeDown, bringUp, handlers, block, blockDuring, unblock, install, remove, decide, drain, reading}
-use Rattle.network.specs.Questions.{Asked, ask, ask4, ask5, ask6, ask7, ask8, ask9, ask11, asked}
+use Rattle.network.specs.Flush.{due, stops, unmark, clearing}
+use Rattle.network.specs.Calls.{Call, Reading, isBlocked, transit, fired, isDown, nextTime, tallyOf, waitingCopies, marksOf, ids, counted, read, liveStep, answerOf, accept, flush, takeDown, bringUp, handlers, block, blockDuring, unblock, install, remove, decide, drain, reading}
+use Rattle.network.specs.Questions.{Room, alone, pooled, ask, ask4, ask5, ask6, ask7, ask8, ask9, ask11, askRoom, askedIn}
 use Rattle.book.proofs.Each.{each-at, each-set}
 use Rattle.book.proofs.Marks.{member-inserted, member-without, clearing-ordered}
 use Rattle.book.proofs.Sound.{sent-unmarked}
@@ -240,18 +240,19 @@ module _ (o : Opening) (s : Live) (r : InOrder s) where
       ≡ allOf (λ (t : ℕ). marked (plainly s) t (messageOf o e .id) || ltb (length (idsAt (plainly s) t)) (o .sizes .seenSlots)) (selected o (plainly s) (e .scope) (e .from))
   same-ten e = (λ j. allOf (λ (t : ℕ). same-marked s r t (messageOf o e .id) j || ltb (same-slots s r t j) (o .sizes .seenSlots)) (selected o s (e .scope) (e .from)))
 
-  pub same-asked : (c : Call) → asked o s c ≡ asked o (plainly s) c
-  same-asked (accept e true) = (λ j. ask4 o (e .from) ∷ ask5 o e ∷ ask6 o e ∷ ask7 o (e .now) ∷ ask8 o s e ∷ ask9 o s e ∷ ask 10 (same-ten e j) ∷ ask11 o s e ∷ [])
-  same-asked (accept e false) = refl
-  same-asked (flush now rows) = refl
-  same-asked (takeDown t) = refl
-  same-asked (bringUp t shards) = refl
-  same-asked (handlers t gossip host) = refl
-  same-asked (block from to) = refl
-  same-asked (blockDuring from to start end) = refl
-  same-asked (unblock from to) = refl
-  same-asked (install card) = refl
-  same-asked (remove id) = refl
-  same-asked (decide x) = refl
-  same-asked (drain rows) = refl
-  same-asked (reading x) = refl
+  pub same-asked : (room : Room) (c : Call) → askedIn o room s c ≡ askedIn o room (plainly s) c
+  same-asked alone (accept e true) = (λ j. ask4 o (e .from) ∷ ask5 o e ∷ ask6 o e ∷ ask7 o (e .now) ∷ ask8 o s e ∷ ask9 o s e ∷ ask 10 (same-ten e j) ∷ ask11 o s e ∷ [])
+  same-asked (pooled free) (accept e true) = (λ j. ask4 o (e .from) ∷ ask5 o e ∷ ask6 o e ∷ ask7 o (e .now) ∷ ask8 o s e ∷ ask9 o s e ∷ ask 10 (same-ten e j) ∷ askRoom o s e (pooled free) ∷ [])
+  same-asked room (accept e false) = refl
+  same-asked room (flush now rows) = refl
+  same-asked room (takeDown t) = refl
+  same-asked room (bringUp t shards) = refl
+  same-asked room (handlers t gossip host) = refl
+  same-asked room (block from to) = refl
+  same-asked room (blockDuring from to start end) = refl
+  same-asked room (unblock from to) = refl
+  same-asked room (install card) = refl
+  same-asked room (remove id) = refl
+  same-asked room (decide x) = refl
+  same-asked room (drain rows) = refl
+  same-asked room (reading x) = refl

@@ -7,7 +7,7 @@ use mathlib.Core.Bool.{Bool, true, false, cond, _&&_}
 use mathlib.Core.List.{List, [], _∷_, _++_}
 use lib.Dec.{ltb}
 use lib.ListN.{length, getD, set, take, drop, length-take}
-use borrow.Author.Tests.{ltb-true, leb-true}
+use borrow.Author.Tests.{ltb-true}
 use Rattle.rows.specs.Lists.{Each}
 use Rattle.ring.specs.Ring.{push}
 use Rattle.rows.proofs.Lists.{each-map, getD-upTo}
@@ -32,12 +32,12 @@ use Rattle.network.specs.Accept.{Message, messageOf, selected, Drawn, drawn, ca
 use Rattle.network.specs.Flush.{due, later, stops, lands, unmark, clearing, loggedAll, flushed}
 use Rattle.log.specs.Log.{logged, emptyLog}
 use Rattle.network.specs.Calls.{Call, liveStep, withHandlers, ruleAdded, ruleRemoved, accept, flush, takeDown, bringUp, handlers, block, blockDuring, unblock, install, remove, decide, drain, reading}
-use Rattle.network.specs.Questions.{asked, firstNo}
+use Rattle.network.specs.Questions.{Room, askedIn, asked, firstNo}
 use Rattle.network.specs.Lent.{nearDelivery, nearCopy}
 use Rattle.network.specs.Tables.{cell, Tables, live, idsStart, waitingAt, rulesAt, installedAt, blocksAt, blockForm, ruleForm}
 use Rattle.network.specs.Writes.{setRings, wordsT, ruledT, marksT, pushT, rememberT, effectT, offeredT, acceptT, clearT, waitingT, recordT, recordAllT, blockT, tillT, flushT, stepT}
 use Rattle.book.proofs.Each.{both, each-front, all-each}
-use Rattle.book.proofs.Asking.{all-yes, rising}
+use Rattle.book.proofs.Asking.{rising-in, room-fits, all-yes, rising}
 use Rattle.book.proofs.Sound.{Below, selected-below, sent-unmarked}
 use Rattle.book.proofs.Fitting.{Limited, Fits, NearMessage, Good, drawn-good, few-copies, Ready, room, effect-fits, effect-length, effect-ready, length-behind}
 use Rattle.book.proofs.StepFits.{near-message, length-without}
@@ -191,47 +191,47 @@ module _ (o : Opening) where
   unfolding installNumber
   install-number n ever card a b = ap (λ (x : Bool). cond x (cond (exact card) 0 13) 12) a ∙ ap (λ (x : Bool). cond x 0 13) b
 
-  pub step-wrote : Limited (o .sizes) → (c : Call) (T : Tables) (s : Live) → Wrote (o .sizes) T s → Fits (o .sizes) s → firstNo (asked o s c) ≡ 0 → Wrote (o .sizes) (stepT o T c) (liveStep o s c)
-  step-wrote lim (accept e true) T s w f h =
-      let y = all-yes 0 (asked o s (accept e true)) (rising o s (accept e true)) h in
+  pub step-wrote : Limited (o .sizes) → (room : Room) (c : Call) (T : Tables) (s : Live) → Wrote (o .sizes) T s → Fits (o .sizes) s → firstNo (askedIn o room s c) ≡ 0 → Wrote (o .sizes) (stepT o T c) (liveStep o s c)
+  step-wrote lim room (accept e true) T s w f h =
+      let y = all-yes 0 (askedIn o room s (accept e true)) (rising-in o room s (accept e true)) h in
       let m = messageOf o e in
       let ts = selected o s (e .scope) (e .from) in
       subst (λ (q : Live). Wrote (o .sizes) (acceptT o m T (selected o q (e .scope) (e .from))) (liveAfter o m s ts)) (sym (w .holds))
-      (accept-wrote m (near-message o lim e (y .0) (y .1 .0) (y .1 .1 .0)) ts T s w f (selected-below o s (e .scope) (e .from)) (all-each _ ts (y .1 .1 .1 .1 .1 .1 .0)) (leb-true _ _ (y .1 .1 .1 .1 .1 .1 .1 .0)))
-  step-wrote lim (accept e false) T s w f h = w
-  step-wrote lim (flush now rows) T s w f h = flush-wrote now T s w f
-  step-wrote lim (takeDown t) T s w f h =
+      (accept-wrote m (near-message o lim e (y .0) (y .1 .0) (y .1 .1 .0)) ts T s w f (selected-below o s (e .scope) (e .from)) (all-each _ ts (y .1 .1 .1 .1 .1 .1 .0)) (room-fits o room s e (y .1 .1 .1 .1 .1 .1 .1 .0)))
+  step-wrote lim room (accept e false) T s w f h = w
+  step-wrote lim room (flush now rows) T s w f h = flush-wrote now T s w f
+  step-wrote lim room (takeDown t) T s w f h =
       let y = all-yes 0 (asked o s (takeDown t)) (rising o s (takeDown t)) h in
       let b = ltb-true t (o .sizes .tills) (y .0) in
       let x = new-till T s t (λ u. downTill) w b in
       then (o .sizes) (tillT T t downTill) _ _ (λ (q : Live). withSeen q (set (q .seen) t [])) (x .holds) (marks-wrote (o .sizes) (tillT T t downTill) (x .formed) t [] b (omega arith))
-  step-wrote lim (bringUp t shards) T s w f h =
+  step-wrote lim room (bringUp t shards) T s w f h =
       let y = all-yes 0 (asked o s (bringUp t shards)) (rising o s (bringUp t shards)) h in
       new-till T s t (λ u. upTill shards) w (ltb-true t (o .sizes .tills) (y .0))
-  step-wrote lim (handlers t gossip host) T s w f h =
+  step-wrote lim room (handlers t gossip host) T s w f h =
       let y = all-yes 0 (asked o s (handlers t gossip host)) (rising o s (handlers t gossip host)) h in
       new-till T s t (λ (u : Till). withHandlers u gossip host) w (ltb-true t (o .sizes .tills) (y .0))
-  step-wrote lim (block from to) T s w f h =
+  step-wrote lim room (block from to) T s w f h =
       let y = all-yes 0 (asked o s (block from to)) (rising o s (block from to)) h in
       new-block T s (always from to) w (y .1 .0)
-  step-wrote lim (blockDuring from to start end) T s w f h =
+  step-wrote lim room (blockDuring from to start end) T s w f h =
       let y = all-yes 0 (asked o s (blockDuring from to start end)) (rising o s (blockDuring from to start end)) h in
       new-block T s (during from to start end) w (y .1 .0)
-  step-wrote lim (unblock from to) T s w f h =
+  step-wrote lim room (unblock from to) T s w f h =
       then (o .sizes) T _ s (λ (q : Live). withEngine q (withBlocks (q .engine) (blocks.unblocked from to (q .engine .blocks)))) (w .holds) (unblock-wrote (o .sizes) T (w .formed) from to)
-  step-wrote lim (install card) T s w f h =
+  step-wrote lim room (install card) T s w f h =
       let y = all-yes 0 (asked o s (install card)) (rising o s (install card)) h in
       let count : length (s .engine .rules) ≡ cell (T .net) rulesAt = sym (ap (λ (q : Live). length (q .engine .rules)) (w .holds)) ∙ length-rows (ruleForm .width) (ruleForm .read) (cell (T .net) rulesAt) (T .rules) in
       let ever : s .engine .installed ≡ cell (T .net) installedAt = sym (ap (λ (q : Live). q .engine .installed) (w .holds)) in
       let free : (ltb (cell (T .net) rulesAt) ruleSlots && ltb (cell (T .net) installedAt) mostRules) ≡ true = rw (← count, ← ever) (y .0) in
       then (o .sizes) T _ s (λ (q : Live). withEngine q (ruleAdded (q .engine) (fieldsOf card))) (w .holds)
       (install-wrote (o .sizes) T (w .formed) card (install-number (cell (T .net) rulesAt) (cell (T .net) installedAt) card free (y .1 .0)))
-  step-wrote lim (remove id) T s w f h =
+  step-wrote lim room (remove id) T s w f h =
       let few : length (without id (live (o .sizes) T .engine .rules)) ≤ ruleSlots =
       subst (λ (q : Live). length (without id (q .engine .rules)) ≤ ruleSlots) (sym (w .holds)) (le-trans (length-without id (s .engine .rules)) (f .engine .rules)) in
       then (o .sizes) T _ s (λ (q : Live). withEngine q (ruleRemoved (q .engine) id)) (w .holds) (remove-wrote (o .sizes) T (w .formed) id few)
-  step-wrote lim (decide x) T s w f h =
+  step-wrote lim room (decide x) T s w f h =
       then (o .sizes) T _ s (λ (q : Live). withEngine q (ruled (q .engine) (o .draws .decide x (q .engine .rules) (q .engine .words)))) (w .holds)
       (ruled-wrote (o .sizes) T (w .formed) (o .draws .decide x (live (o .sizes) T .engine .rules) (live (o .sizes) T .engine .words)))
-  step-wrote lim (drain rows) T s w f h = then (o .sizes) T _ s (λ (q : Live). withLog q emptyLog) (w .holds) (drain-wrote (o .sizes) T (w .formed))
-  step-wrote lim (reading r) T s w f h = w
+  step-wrote lim room (drain rows) T s w f h = then (o .sizes) T _ s (λ (q : Live). withLog q emptyLog) (w .holds) (drain-wrote (o .sizes) T (w .formed))
+  step-wrote lim room (reading r) T s w f h = w

@@ -8,7 +8,7 @@ use mathlib.Core.Bool.{Bool, true, false, cond, _&&_, _||_, false≢true}
 use mathlib.Core.List.{List, [], _∷_, _++_}
 use lib.Dec.{eqb, leb, ltb}
 use lib.ListN.{length, getD, set, length-set, length-replicate, length-append}
-use borrow.Author.Tests.{ltb-true, leb-true, lt-ltb, eqb-true}
+use borrow.Author.Tests.{ltb-true, lt-ltb, eqb-true}
 use Rattle.rows.specs.Rows.{allOf}
 use Rattle.rows.specs.Lists.{Each}
 use Rattle.ring.specs.Ring.{push}
@@ -32,12 +32,12 @@ use Rattle.network.specs.Flush.{due, stops, lands, unmark, clearing, loggedAll}
 use Rattle.log.specs.Log as log
 use Rattle.log.specs.Log.{Log, logged, tallied, wrap, noTally}
 use Rattle.network.specs.Calls.{Call, liveStep, withHandlers, accept, flush, takeDown, bringUp, handlers, block, blockDuring, unblock, install, remove, decide, drain, reading}
-use Rattle.network.specs.Questions.{asked, firstNo}
+use Rattle.network.specs.Questions.{Room, askedIn, asked, firstNo}
 use Rattle.network.specs.Lent.{nearTill, nearDelivery, nearCopy, nearBlock}
 use Rattle.book.proofs.Each.{both, join, each-set, each-at, each-replicate, each-append, each-push, each-keep, each-front, each-behind, each-upTo, all-each}
 use Rattle.book.proofs.Sound.{selected-below, length-clearing}
 use Rattle.book.proofs.Marks.{clearing-ordered}
-use Rattle.book.proofs.Asking.{all-yes, rising}
+use Rattle.book.proofs.Asking.{rising-in, room-fits, all-yes, rising}
 use Rattle.book.proofs.Fitting.{Limited, Small, Fits, EngineFits, NearRing, LogFits, NearMessage, accept-fits, ruled-fits, length-keep, length-behind, length-push}
 
 -- ---- Flush
@@ -147,13 +147,13 @@ module _ (o : Opening) where
 
   -- ---- Every call
 
-  pub step-fits : Limited (o .sizes) → (s : Live) (c : Call) → firstNo (asked o s c) ≡ 0 → Fits (o .sizes) s → Fits (o .sizes) (liveStep o s c)
-  step-fits lim s (accept e true) h f =
-      let y = all-yes 0 (asked o s (accept e true)) (rising o s (accept e true)) h in
+  pub step-fits : Limited (o .sizes) → (room : Room) (s : Live) (c : Call) → firstNo (askedIn o room s c) ≡ 0 → Fits (o .sizes) s → Fits (o .sizes) (liveStep o s c)
+  step-fits lim room s (accept e true) h f =
+      let y = all-yes 0 (askedIn o room s (accept e true)) (rising-in o room s (accept e true)) h in
       let ts = selected o s (e .scope) (e .from) in
-      accept-fits o (messageOf o e) (near-message lim e (y .0) (y .1 .0) (y .1 .1 .0)) ts s (selected-below o s (e .scope) (e .from)) (all-each _ ts (y .1 .1 .1 .1 .1 .1 .0)) (leb-true _ _ (y .1 .1 .1 .1 .1 .1 .1 .0)) f
-  step-fits lim s (accept e false) h f = f
-  step-fits lim s (flush now rows) h f = record {
+      accept-fits o (messageOf o e) (near-message lim e (y .0) (y .1 .0) (y .1 .1 .0)) ts s (selected-below o s (e .scope) (e .from)) (all-each _ ts (y .1 .1 .1 .1 .1 .1 .0)) (room-fits o room s e (y .1 .1 .1 .1 .1 .1 .1 .0)) f
+  step-fits lim room s (accept e false) h f = f
+  step-fits lim room s (flush now rows) h f = record {
     tills = f .tills;
     masks = f .masks;
     hosts = length-clearing s (due now s) (s .seen) ∙ f .hosts;
@@ -168,7 +168,7 @@ module _ (o : Opening) where
     };
     log = log-fits (o .sizes) (lands s (due now s)) (s .log) (each-keep (λ (c : Copy). nearCopy (o .sizes) c ≡ true) _ (due now s) (each-front (λ (c : Copy). nearCopy (o .sizes) c ≡ true) (onTime now) (s .waiting) (f .queue .near))) (f .log);
   }
-  step-fits lim s (takeDown t) h f = record {
+  step-fits lim room s (takeDown t) h f = record {
     tills = length-set (s .tills) t _ ∙ f .tills;
     masks = each-set (λ (x : Till). nearTill (o .sizes) x ≡ true) (s .tills) t downTill (f .masks) (down-near (o .sizes));
     hosts = length-set (s .seen) t [] ∙ f .hosts;
@@ -180,36 +180,36 @@ module _ (o : Opening) where
     queue = f .queue;
     log = f .log;
   }
-  step-fits lim s (bringUp t shards) h f =
+  step-fits lim room s (bringUp t shards) h f =
       let y = all-yes 0 (asked o s (bringUp t shards)) (rising o s (bringUp t shards)) h in
       new-till s t (upTill shards) f (up-near (o .sizes) shards (y .1 .0))
-  step-fits lim s (handlers t gossip host) h f =
+  step-fits lim room s (handlers t gossip host) h f =
       let y = all-yes 0 (asked o s (handlers t gossip host)) (rising o s (handlers t gossip host)) h in
       let x = both (within gossip (o .sizes .types)) (within host (o .sizes .types)) (y .1 .0) in
       new-till s t (withHandlers (tillAt s t) gossip host) f
       (join _ _ (join _ _ (x .0) (x .1)) (both (within (tillAt s t .gossip) (o .sizes .types) && within (tillAt s t .host) (o .sizes .types)) (within (tillAt s t .shards) (o .sizes .shards))
       (each-at (λ (x : Till). nearTill (o .sizes) x ≡ true) (s .tills) t downTill (f .masks) (down-near (o .sizes))) .1))
-  step-fits lim s (block from to) h f =
+  step-fits lim room s (block from to) h f =
       let y = all-yes 0 (asked o s (block from to)) (rising o s (block from to)) h in
       let n = max-below from to (o .sizes .tills) (y .0) in
       with-engine s _ f (add-block (s .engine) (always from to) (f .engine) (y .1 .0) (join _ _ (n .0) (n .1)))
-  step-fits lim s (blockDuring from to start end) h f =
+  step-fits lim room s (blockDuring from to start end) h f =
       let y = all-yes 0 (asked o s (blockDuring from to start end)) (rising o s (blockDuring from to start end)) h in
       let n = max-below from to (o .sizes .tills) (y .0) in
       with-engine s _ f (add-block (s .engine) (during from to start end) (f .engine) (y .1 .0) (join _ _ (n .0) (n .1)))
-  step-fits lim s (unblock from to) h f = with-engine s _ f (record {
+  step-fits lim room s (unblock from to) h f = with-engine s _ f (record {
     blocks = le-trans (length-keep _ (s .engine .blocks)) (f .engine .blocks);
     rules = f .engine .rules;
     near = each-keep (λ (x : BlockWindow). nearBlock (o .sizes) x ≡ true) _ (s .engine .blocks) (f .engine .near);
   })
-  step-fits lim s (install card) h f =
+  step-fits lim room s (install card) h f =
       let y = all-yes 0 (asked o s (install card)) (rising o s (install card)) h in
       let free = both (ltb (length (s .engine .rules)) ruleSlots) (ltb (s .engine .installed) mostRules) (y .0) .0 in
       with-engine s _ f (record { blocks = f .engine .blocks; rules = add-rule (s .engine .rules) _ free; near = f .engine .near })
-  step-fits lim s (remove id) h f = with-engine s _ f (record { blocks = f .engine .blocks; rules = le-trans (length-without id (s .engine .rules)) (f .engine .rules); near = f .engine .near })
-  step-fits lim s (decide x) h f = with-engine s _ f (ruled-fits (o .sizes) (s .engine) (o .draws .decide x (s .engine .rules) (s .engine .words)) (f .engine))
-  step-fits lim s (drain rows) h f = record { tills = f .tills; masks = f .masks; hosts = f .hosts; seen = f .seen; ordered = f .ordered; engine = f .engine; rings = f .rings; words = f .words; queue = f .queue; log = record { records = omega arith; tallies = length-replicate log.classes noTally; near = tt } }
-  step-fits lim s (reading r) h f = f
+  step-fits lim room s (remove id) h f = with-engine s _ f (record { blocks = f .engine .blocks; rules = le-trans (length-without id (s .engine .rules)) (f .engine .rules); near = f .engine .near })
+  step-fits lim room s (decide x) h f = with-engine s _ f (ruled-fits (o .sizes) (s .engine) (o .draws .decide x (s .engine .rules) (s .engine .words)) (f .engine))
+  step-fits lim room s (drain rows) h f = record { tills = f .tills; masks = f .masks; hosts = f .hosts; seen = f .seen; ordered = f .ordered; engine = f .engine; rings = f .rings; words = f .words; queue = f .queue; log = record { records = omega arith; tallies = length-replicate log.classes noTally; near = tt } }
+  step-fits lim room s (reading r) h f = f
 
   -- ---- The opening
 

@@ -41,7 +41,7 @@ CallFits (drain rows) = Unit {0}
 CallFits (reading r) = Unit {0}
 
 abbrev pub ItemFits : Item → Type 0
-ItemFits (own c) = CallFits c
+ItemFits (own room c) = CallFits c
 ItemFits (others X c) = Unit {0}
 ItemFits (reopen X y ms) = Unit {0}
 

@@ -16,25 +16,25 @@ use Rattle.log.specs.Log.{Log, emptyLog}
 use Rattle.network.specs.Accept.{messageOf, selected, Booked, booked, noCounts, tally, total}
 use Rattle.network.specs.Flush.{Row, handled, due, loggedAll}
 use Rattle.network.specs.Calls.{Call, Answer, silent, countsIn, rowsIn, deliveredIn, dropsIn, accept, flush, takeDown, bringUp, handlers, block, blockDuring, unblock, install, remove, decide, drain, reading}
-use Rattle.network.specs.Questions.{asked, answerTo}
+use Rattle.network.specs.Questions.{Room, askedIn, answerTo}
 use Rattle.network.specs.Tables.{Tables, sizesAt, live}
 use Rattle.network.specs.Real.{openingOf, openingAt}
 use Rattle.network.specs.Lent.{question1}
-use Rattle.network.specs.Writes.{Reply, isNumber, callTables, callReply, callOutput}
+use Rattle.network.specs.Writes.{Reply, isNumber, callTables, callReply, callOutput, roomTables, roomReply, roomOutput}
 use Rattle.network.specs.Open.{askedOpening, openNumber, openTables, openCall}
 use Rattle.book.specs.Book.{Book, Event, scheduled, scheduledIn, landedIn, droppedIn, bookStep, expected, opened}
 use Rattle.book.specs.History.{hasSequence, given, originalOf, clears, standing}
 
 -- ---- A list of calls
 
--- a call on the tables that the last one left; a call that was lent others, which question 1 refuses; an opening, on whatever tables, that a number refuses
+-- a call on the tables that the last one left, by a network with slots of its own or a chain of a pool; a call that was lent others, which question 1 refuses; an opening, on whatever tables, that a number refuses
 pub data Item : Type 0 where
-  own : Call → Item
+  own : Room → Call → Item
   others : Tables → Call → Item
   reopen : Tables → Settings → (masks : List ℕ) → Item
 
 abbrev pub Admitted : Item → Type 0
-Admitted (own c) = Unit {0}
+Admitted (own room c) = Unit {0}
 Admitted (others X c) = question1 (sizesAt (X .setup)) X c ≡ false
 Admitted (reopen X y ms) = openNumber y ms X ≡ 0 → ⊥
 
@@ -43,13 +43,13 @@ AllAdmitted [] = Unit {0}
 AllAdmitted (i ∷ is) = Admitted i × AllAdmitted is
 
 abbrev pub replyTo : Tables → Item → Reply
-replyTo T (own c) = callReply T c
+replyTo T (own room c) = roomReply room T c
 replyTo T (others X c) = callReply X c
 replyTo T (reopen X y ms) = record { number = openNumber y ms X; answer = silent }
 
 -- the tables that the next call gets
 abbrev pub tablesAfter : Tables → Item → Tables
-tablesAfter T (own c) = callTables T c
+tablesAfter T (own room c) = roomTables room T c
 tablesAfter T (others X c) = T
 tablesAfter T (reopen X y ms) = T
 
@@ -62,7 +62,7 @@ refused T i = isNumber (replyTo T i .number)
 
 -- a refused call leaves what it was lent as found
 abbrev pub Kept : Tables → Item → Type 0
-Kept T (own c) = refused T (own c) ≡ true → (callTables T c ≡ T) × ((out : List ℕ) → callOutput T c out ≡ out)
+Kept T (own room c) = refused T (own room c) ≡ true → (roomTables room T c ≡ T) × ((out : List ℕ) → roomOutput room T c out ≡ out)
 Kept T (others X c) = (callTables X c ≡ X) × ((out : List ℕ) → callOutput X c out ≡ out)
 Kept T (reopen X y ms) = openCall y ms X ≡ X
 
@@ -73,12 +73,12 @@ copiesOf rows = map (λ (r : Row). r .copy) rows
 
 module _ (o : Opening) where
   abbrev pub bookAfter : Book → Tables → Item → Book
-  bookAfter b T (own c) = bookStep o b c (refused T (own c))
+  bookAfter b T (own room c) = bookStep o b c (refused T (own room c))
   bookAfter b T (others X c) = bookStep o b c (refused T (others X c))
   bookAfter b T (reopen X y ms) = b
 
   abbrev pub expectedOf : Book → Tables → Item → Answer
-  expectedOf b T (own c) = expected o b c (refused T (own c))
+  expectedOf b T (own room c) = expected o b c (refused T (own room c))
   expectedOf b T (others X c) = expected o b c (refused T (others X c))
   expectedOf b T (reopen X y ms) = silent
 
@@ -91,7 +91,7 @@ module _ (o : Opening) where
   -- a number came back only where its question's answer is "no"; question 1 is asked of the tables lent, the others of the book
   abbrev pub OnlyNo : Book → Item → ℕ → Type 0
   OnlyNo b i zero = Unit {0}
-  OnlyNo b (own c) (suc n) = answerTo (asked o (b .live) c) (suc n) ≡ false
+  OnlyNo b (own room c) (suc n) = answerTo (askedIn o room (b .live) c) (suc n) ≡ false
   OnlyNo b (others X c) (suc n) = (suc n ≡ 1) × (question1 (sizesAt (X .setup)) X c ≡ false)
   OnlyNo b (reopen X y ms) (suc n) = answerTo (askedOpening y ms X) (suc n) ≡ false
 
@@ -102,21 +102,21 @@ module _ (o : Opening) where
     pub sum : total (countsIn a) ≡ length (selected o (b .live) scope from)
 
   abbrev pub SumOf : Book → Item → Reply → Type 0
-  SumOf b (own (accept e true)) r =
+  SumOf b (own room (accept e true)) r =
       r .number ≡ 0 → FiveCounts b (accept e true) (e .scope) (e .from) (booked o (messageOf o e) (b .live) (selected o (b .live) (e .scope) (e .from))) (r .answer)
-  SumOf b (own (accept e false)) r = countsIn (r .answer) ≡ noCounts
-  SumOf b (own (flush now rows)) r = countsIn (r .answer) ≡ noCounts
-  SumOf b (own (takeDown t)) r = countsIn (r .answer) ≡ noCounts
-  SumOf b (own (bringUp t shards)) r = countsIn (r .answer) ≡ noCounts
-  SumOf b (own (handlers t gossip host)) r = countsIn (r .answer) ≡ noCounts
-  SumOf b (own (block from to)) r = countsIn (r .answer) ≡ noCounts
-  SumOf b (own (blockDuring from to start end)) r = countsIn (r .answer) ≡ noCounts
-  SumOf b (own (unblock from to)) r = countsIn (r .answer) ≡ noCounts
-  SumOf b (own (install card)) r = countsIn (r .answer) ≡ noCounts
-  SumOf b (own (remove id)) r = countsIn (r .answer) ≡ noCounts
-  SumOf b (own (decide x)) r = countsIn (r .answer) ≡ noCounts
-  SumOf b (own (drain rows)) r = countsIn (r .answer) ≡ noCounts
-  SumOf b (own (reading x)) r = countsIn (r .answer) ≡ noCounts
+  SumOf b (own room (accept e false)) r = countsIn (r .answer) ≡ noCounts
+  SumOf b (own room (flush now rows)) r = countsIn (r .answer) ≡ noCounts
+  SumOf b (own room (takeDown t)) r = countsIn (r .answer) ≡ noCounts
+  SumOf b (own room (bringUp t shards)) r = countsIn (r .answer) ≡ noCounts
+  SumOf b (own room (handlers t gossip host)) r = countsIn (r .answer) ≡ noCounts
+  SumOf b (own room (block from to)) r = countsIn (r .answer) ≡ noCounts
+  SumOf b (own room (blockDuring from to start end)) r = countsIn (r .answer) ≡ noCounts
+  SumOf b (own room (unblock from to)) r = countsIn (r .answer) ≡ noCounts
+  SumOf b (own room (install card)) r = countsIn (r .answer) ≡ noCounts
+  SumOf b (own room (remove id)) r = countsIn (r .answer) ≡ noCounts
+  SumOf b (own room (decide x)) r = countsIn (r .answer) ≡ noCounts
+  SumOf b (own room (drain rows)) r = countsIn (r .answer) ≡ noCounts
+  SumOf b (own room (reading x)) r = countsIn (r .answer) ≡ noCounts
   SumOf b (others X c) r = r .answer ≡ silent
   SumOf b (reopen X y ms) r = r .answer ≡ silent
 
@@ -141,7 +141,7 @@ module _ (o : Opening) where
   logFrom false l a = loggedAll (o .sizes .logSlots) l (copiesOf (rowsIn a))
 
   abbrev pub LogOf : Book → Book → Item → Reply → Type 0
-  LogOf b b′ (own c) r = r .number ≡ 0 → b′ .live .log ≡ logFrom (isDrain c) (b .live .log) (r .answer)
+  LogOf b b′ (own room c) r = r .number ≡ 0 → b′ .live .log ≡ logFrom (isDrain c) (b .live .log) (r .answer)
   LogOf b b′ (others X c) r = b′ .live .log ≡ b .live .log
   LogOf b b′ (reopen X y ms) r = b′ .live .log ≡ b .live .log
 

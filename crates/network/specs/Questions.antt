@@ -34,6 +34,11 @@ answerTo (q ∷ qs) n = cond (eqb (q .number) n) (q .yes) (answerTo qs n)
 abbrev pub ask : ℕ → Bool → Asked
 ask n b = record { number = n; yes = b }
 
+-- where a network's waiting slots come from: its own, or a pool, of which `free` are left to this chain: the pool less the other chains' waiting copies and unused shares (M-113)
+pub data Room : Type 0 where
+  alone : Room
+  pooled : (free : ℕ) → Room
+
 module _ (o : Opening) where
   -- 4: is every till named below the till count?
   abbrev pub ask4 : ℕ → Asked
@@ -71,9 +76,13 @@ module _ (o : Opening) where
     abbrev pub ask10 : Asked
     ask10 = ask 10 (allOf (λ t. marked s t (messageOf o e .id) || ltb (slotsOf k (idsAt s t)) (o .sizes .seenSlots)) chosen)
 
-    -- 11: do waiting plus 3 × selected fit the slots?
+    -- 11: do waiting plus 3 × selected fit the slots? 23, in its place: do they fit the chain's limit, and what the pool has left to it?
     abbrev pub ask11 : Asked
     ask11 = ask 11 (leb (length (s .waiting) + 3 * length chosen) (o .sizes .waitSlots))
+
+    abbrev pub askRoom : Room → Asked
+    askRoom alone = ask11
+    askRoom (pooled free) = ask 23 (leb (length (s .waiting) + 3 * length chosen) (o .sizes .waitSlots) && leb (length (s .waiting) + 3 * length chosen) free)
 
   -- 12: is a block place free? is a rule place free, and were fewer than 4,294,967,295 rules ever installed?
   abbrev pub ask12block : {k : Marking} → LiveBy k → Asked
@@ -93,19 +102,23 @@ module _ (o : Opening) where
   askedReading (waitingCopies rows) = ask 1 (leb (o .sizes .waitSlots) rows) ∷ []
   askedReading (marksOf t places) = ask 1 (leb (o .sizes .seenSlots) places) ∷ ask4 t ∷ []
 
-  abbrev pub asked : {k : Marking} → LiveBy k → Call → List Asked
-  asked s (accept e true) = ask4 (e .from) ∷ ask5 e ∷ ask6 e ∷ ask7 (e .now) ∷ ask8 s e ∷ ask9 s e ∷ ask10 s e ∷ ask11 s e ∷ []
+  abbrev pub askedIn : {k : Marking} → Room → LiveBy k → Call → List Asked
+  askedIn room s (accept e true) = ask4 (e .from) ∷ ask5 e ∷ ask6 e ∷ ask7 (e .now) ∷ ask8 s e ∷ ask9 s e ∷ ask10 s e ∷ askRoom s e room ∷ []
   -- a payload marked as not opening is answered after question 7
-  asked s (accept e false) = ask4 (e .from) ∷ ask5 e ∷ ask6 e ∷ ask7 (e .now) ∷ []
-  asked s (flush now rows) = ask7 now ∷ ask 14 (leb (length (due now s)) rows) ∷ []
-  asked s (takeDown t) = ask4 t ∷ []
-  asked s (bringUp t shards) = ask4 t ∷ ask 5 (within shards (o .sizes .shards)) ∷ []
-  asked s (handlers t gossip host) = ask4 t ∷ ask 5 (within gossip (o .sizes .types) && within host (o .sizes .types)) ∷ []
-  asked s (block from to) = ask4 (max from to) ∷ ask12block s ∷ []
-  asked s (blockDuring from to start end) = ask4 (max from to) ∷ ask12block s ∷ []
-  asked s (unblock from to) = ask4 (max from to) ∷ []
-  asked s (install card) = ask12rule s ∷ ask 13 (exact card) ∷ []
-  asked s (remove id) = []
-  asked s (decide x) = ask4 (max (x .from) (x .to)) ∷ ask 5 (ltb (x .kind) (o .sizes .types) && leb (x .tier) 3) ∷ ask7 (x .now) ∷ ask 8 (fresh (s .engine .words)) ∷ []
-  asked s (drain rows) = ask 1 (leb (o .sizes .logSlots) rows) ∷ []
-  asked s (reading r) = askedReading r
+  askedIn room s (accept e false) = ask4 (e .from) ∷ ask5 e ∷ ask6 e ∷ ask7 (e .now) ∷ []
+  askedIn room s (flush now rows) = ask7 now ∷ ask 14 (leb (length (due now s)) rows) ∷ []
+  askedIn room s (takeDown t) = ask4 t ∷ []
+  askedIn room s (bringUp t shards) = ask4 t ∷ ask 5 (within shards (o .sizes .shards)) ∷ []
+  askedIn room s (handlers t gossip host) = ask4 t ∷ ask 5 (within gossip (o .sizes .types) && within host (o .sizes .types)) ∷ []
+  askedIn room s (block from to) = ask4 (max from to) ∷ ask12block s ∷ []
+  askedIn room s (blockDuring from to start end) = ask4 (max from to) ∷ ask12block s ∷ []
+  askedIn room s (unblock from to) = ask4 (max from to) ∷ []
+  askedIn room s (install card) = ask12rule s ∷ ask 13 (exact card) ∷ []
+  askedIn room s (remove id) = []
+  askedIn room s (decide x) = ask4 (max (x .from) (x .to)) ∷ ask 5 (ltb (x .kind) (o .sizes .types) && leb (x .tier) 3) ∷ ask7 (x .now) ∷ ask 8 (fresh (s .engine .words)) ∷ []
+  askedIn room s (drain rows) = ask 1 (leb (o .sizes .logSlots) rows) ∷ []
+  askedIn room s (reading r) = askedReading r
+
+  -- a network with waiting slots of its own
+  abbrev pub asked : {k : Marking} → LiveBy k → Call → List Asked
+  asked s c = askedIn alone s c

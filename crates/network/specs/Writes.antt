@@ -24,7 +24,7 @@ use Rattle.network.specs.Accept.{Message, messageOf, selected, Drawn, dr
 use Rattle.network.specs.Flush.{Row, due, later, stops, lands}
 use Rattle.network.specs.Calls as calls
 use Rattle.network.specs.Calls.{Call, Answer, silent, answerOf, accept, flush, takeDown, bringUp, handlers, block, blockDuring, unblock, install, remove, decide, drain, reading, withHandlers}
-use Rattle.network.specs.Questions.{asked, firstNo}
+use Rattle.network.specs.Questions.{Room, alone, askedIn, firstNo}
 use Rattle.network.specs.Tables.{cell, Tables, live, tillForm, idsStart, sequenceAt, waitingAt, rulesAt, installedAt, faultWordsAt, blocksAt}
 use Rattle.network.specs.Real.{openingAt}
 use Rattle.network.specs.Lent.{question1}
@@ -188,8 +188,11 @@ isNumber (suc n) = true
 
 module _ (o : Opening) where
   -- question 1 of the lent tables, then the others of what they hold
+  abbrev pub numberIn : Room → Tables → Call → ℕ
+  numberIn room T c = cond (question1 (o .sizes) T c) (firstNo (askedIn o room (live (o .sizes) T) c)) 1
+
   abbrev pub numberOf : Tables → Call → ℕ
-  numberOf T c = cond (question1 (o .sizes) T c) (firstNo (asked o (live (o .sizes) T) c)) 1
+  numberOf T c = numberIn alone T c
 
   -- a "no" returns the number with all counts 0 and leaves everything as found
   abbrev pub exitT : Bool → Tables → Call → Tables
@@ -200,11 +203,17 @@ module _ (o : Opening) where
   answerT true T c = silent
   answerT false T c = answerOf o (live (o .sizes) T) c
 
+  abbrev pub tablesIn : Room → Tables → Call → Tables
+  tablesIn room T c = exitT (isNumber (numberIn room T c)) T c
+
+  abbrev pub replyIn : Room → Tables → Call → Reply
+  replyIn room T c = record { number = numberIn room T c; answer = answerT (isNumber (numberIn room T c)) T c }
+
   abbrev pub tablesBy : Tables → Call → Tables
-  tablesBy T c = exitT (isNumber (numberOf T c)) T c
+  tablesBy T c = tablesIn alone T c
 
   abbrev pub replyBy : Tables → Call → Reply
-  replyBy T c = record { number = numberOf T c; answer = answerT (isNumber (numberOf T c)) T c }
+  replyBy T c = replyIn alone T c
 
 -- a row of a flush's output: the copy, then whether a gossip and a host handler take it
 abbrev pub rowWords : Row → List ℕ
@@ -235,3 +244,14 @@ callReply T c = replyBy (openingAt T) T c
 -- what lies behind the answer's words stays
 abbrev pub callOutput : Tables → Call → List ℕ → List ℕ
 callOutput T c out = let new = outputOf (callReply T c .answer) in new ++ drop (length new) out
+
+-- ---- The same for a chain of a pool: `room` says how many of its slots are left to the chain (M-113)
+
+abbrev pub roomTables : Room → Tables → Call → Tables
+roomTables room T c = tablesIn (openingAt T) room T c
+
+abbrev pub roomReply : Room → Tables → Call → Reply
+roomReply room T c = replyIn (openingAt T) room T c
+
+abbrev pub roomOutput : Room → Tables → Call → List ℕ → List ℕ
+roomOutput room T c out = let new = outputOf (roomReply room T c .answer) in new ++ drop (length new) out
