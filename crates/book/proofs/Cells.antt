@@ -38,7 +38,7 @@ use Rattle.network.specs.Tables.{cell, Tables, live, tillForm, blockForm, idsSt
 use Rattle.network.specs.Writes.{netT, tillT, marksT, waitingT, blockT, unblockT, installT, removeT, recordT, recordAllT, clearT, flushT, acceptT, offeredT, stepT}
 use Rattle.book.specs.Cells.{Fit, CellsFit, CallFits}
 use Rattle.book.proofs.Each.{both, all-each, each-at, each-keep, each-front, each-behind, each-upTo}
-use Rattle.book.proofs.Asking.{rising-in, room-fits, all-yes, rising}
+use Rattle.book.proofs.Asking.{apart-in, room-fits, all-yes, apart}
 use Rattle.book.proofs.Sound.{Below, selected-below, sent-unmarked}
 use Rattle.book.proofs.Fitting.{Limited, Fits, NearMessage, Good, drawn-good, few-copies, Ready, room, effect-fits, effect-length, effect-ready, length-keep, length-behind}
 use Rattle.book.proofs.StepFits.{near-message, length-without}
@@ -255,7 +255,7 @@ free-block T s w h =
 module _ (o : Opening) (lim : Limited (o .sizes)) (g : DrawsFit o) where
   pub step-cells : (room : Room) (c : Call) (T : Tables) (s : Live) → Wrote (o .sizes) T s → Fits (o .sizes) s → firstNo (askedIn o room s c) ≡ 0 → CallFits c → CellsFit T → CellsFit (stepT o T c)
   step-cells room (accept e true) T s w f h fit cells =
-      let y = all-yes 0 (askedIn o room s (accept e true)) (rising-in o room s (accept e true)) h in
+      let y = all-yes (askedIn o room s (accept e true)) (apart-in o room s (accept e true)) h in
       let m = messageOf o e in
       let ts = selected o s (e .scope) (e .from) in
       let k = near-message o lim e (y .0) (y .1 .0) (y .1 .1 .0) in
@@ -281,32 +281,32 @@ module _ (o : Opening) (lim : Limited (o .sizes)) (g : DrawsFit o) where
   step-cells room (takeDown t) T s w f h fit cells =
       marks-cells (o .sizes) (tillT T t downTill) t [] (till-cells T t downTill cells (omega arith, (omega arith, (omega arith, (omega arith, tt))))) tt (omega arith)
   step-cells room (bringUp t shards) T s w f h fit cells =
-      let y = all-yes 0 (asked o s (bringUp t shards)) (rising o s (bringUp t shards)) h in
+      let y = all-yes (asked o s (bringUp t shards)) (apart o s (bringUp t shards)) h in
       till-cells T t (upTill shards) cells (omega arith, (omega arith, (omega arith, (mask-small shards (o .sizes .shards) (lim .shards) (y .1 .0), tt))))
   step-cells room (handlers t gossip host) T s w f h fit cells =
-      let y = all-yes 0 (asked o s (handlers t gossip host)) (rising o s (handlers t gossip host)) h in
+      let y = all-yes (asked o s (handlers t gossip host)) (apart o s (handlers t gossip host)) h in
       let x = both (within gossip (o .sizes .types)) (within host (o .sizes .types)) (y .1 .0) in
       let old = each-at (λ (v : Till). Fit 64 (tillForm .words v)) (live (o .sizes) T .tills) t downTill (rows-fit 64 tillForm till-reads (o .sizes .tills) (T .tills) (cells .tills)) (omega arith, (omega arith, (omega arith, (omega arith, tt)))) in
       till-cells T t (withHandlers (tillAt (live (o .sizes) T) t) gossip host) cells
       (old .0, (mask-small gossip (o .sizes .types) (lim .types) (x .0), (mask-small host (o .sizes .types) (lim .types) (x .1), (old .1 .1 .1 .0, tt))))
   step-cells room (block from to) T s w f h fit cells =
-      let y = all-yes 0 (asked o s (block from to)) (rising o s (block from to)) h in
+      let y = all-yes (asked o s (block from to)) (apart o s (block from to)) h in
       let a = ltb-true (max from to) (o .sizes .tills) (y .0) in
       block-cells T (always from to) cells (free-block T s w (y .1 .0)) (omega (arith, a, lim .tills), (omega (arith, a, lim .tills), (omega arith, (omega arith, (omega arith, tt)))))
   step-cells room (blockDuring from to start end) T s w f h fit cells =
-      let y = all-yes 0 (asked o s (blockDuring from to start end)) (rising o s (blockDuring from to start end)) h in
+      let y = all-yes (asked o s (blockDuring from to start end)) (apart o s (blockDuring from to start end)) h in
       let a = ltb-true (max from to) (o .sizes .tills) (y .0) in
       block-cells T (during from to start end) cells (free-block T s w (y .1 .0)) (omega (arith, a, lim .tills), (omega (arith, a, lim .tills), (omega arith, (fit .0, (fit .1, tt)))))
   step-cells room (unblock from to) T s w f h fit cells = unblock-cells T from to cells
   step-cells room (install card) T s w f h fit cells =
-      let y = all-yes 0 (asked o s (install card)) (rising o s (install card)) h in
+      let y = all-yes (asked o s (install card)) (apart o s (install card)) h in
       let x = both (ltb (length (s .engine .rules)) ruleSlots) (ltb (s .engine .installed) mostRules) (y .0) in
       let n : length (s .engine .rules) ≡ cell (T .net) rulesAt = sym (ap (λ (v : Live). length (v .engine .rules)) (w .holds)) ∙ length-rows ruleWidth rules.firstRule (cell (T .net) rulesAt) (T .rules) in
       let ever : s .engine .installed ≡ cell (T .net) installedAt = sym (ap (λ (v : Live). v .engine .installed) (w .holds)) in
       install-cells T card cells fit (omega (arith, n, ltb-true (length (s .engine .rules)) ruleSlots (x .0))) (omega (arith, ever, ltb-true (s .engine .installed) mostRules (x .1)))
   step-cells room (remove id) T s w f h fit cells = remove-cells (o .sizes) T id cells
   step-cells room (decide x) T s w f h fit cells =
-      let y = all-yes 0 (asked o s (decide x)) (rising o s (decide x)) h in
+      let y = all-yes (asked o s (decide x)) (apart o s (decide x)) h in
       let v = live (o .sizes) T .engine in
       let old : v .words ≡ s .engine .words = ap (λ (q : Live). q .engine .words) (w .holds) in
       let n : length (v .rules) ≤ ruleSlots = subst (λ (q : Live). length (q .engine .rules) ≤ ruleSlots) (sym (w .holds)) (f .engine .rules) in

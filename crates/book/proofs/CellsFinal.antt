@@ -15,7 +15,7 @@ use Rattle.book.specs.Book.{Book, opened}
 use Rattle.book.specs.Demand3.{Item, own, others, reopen, AllAdmitted, tablesAfter, tablesAtEnd, bookAfter}
 use Rattle.book.specs.Cells.{Fit, CellsFit, CallFits, ItemFits, ItemsFit}
 use Rattle.book.proofs.Each.{every-each}
-use Rattle.book.proofs.Asking.{all-yes, rising-opening}
+use Rattle.book.proofs.Asking.{all-yes, apart-opening}
 use Rattle.book.proofs.Fitting.{Limited}
 use Rattle.book.proofs.Start.{limited}
 use Rattle.book.proofs.Bounds.{DrawsFit, draws-fit}
@@ -42,6 +42,6 @@ pub cells : (x : Settings) (masks : List ℕ) (lent : Tables) → openNumber x m
     → (is : List Item) → AllAdmitted is → ItemsFit is → CellsFit (tablesAtEnd (openTables x masks lent) is)
 cells x masks lent h e f is a q =
     let o = openingOf x (lent .names) in
-    let y : Each (λ (p : Asked). p .yes ≡ true) (askedOpening x masks lent) = all-yes 0 (askedOpening x masks lent) (rising-opening x masks lent) h in
+    let y : Each (λ (p : Asked). p .yes ≡ true) (askedOpening x masks lent) = all-yes (askedOpening x masks lent) (apart-opening x masks lent) h in
     let texts = every-each (limitTests x masks lent) (y .1 .0) .1 .0 in
     items-cells o (limited x masks lent h) (draws-fit x (lent .names) (y .1 .1 .0) texts) is (opened o masks) (openTables x masks lent) (open-bears x masks lent h) a q (open-cells x masks lent h e f)

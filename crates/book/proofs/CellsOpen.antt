@@ -34,7 +34,7 @@ use Rattle.network.specs.Open.{limitTests, askedOpening, openNumber, openTables
 use Rattle.network.proofs.Hash.{hash-fit}
 use Rattle.book.specs.Cells.{Fit, CellsFit}
 use Rattle.book.proofs.Each.{all-each, every-each, each-set, each-at, each-append, each-replicate, each-upTo}
-use Rattle.book.proofs.Asking.{all-yes, rising-opening}
+use Rattle.book.proofs.Asking.{all-yes, apart-opening}
 use Rattle.book.proofs.Fit.{fit-flat, fit-cleared}
 use Rattle.book.proofs.Cells.{mask-small}
 use Rattle.book.proofs.Start.{limited}
@@ -132,7 +132,7 @@ tills-fit masks n e =
 -- the lent tables are cells, and the settings numbers, of 64 bits
 pub open-cells : (x : Settings) (masks : List ℕ) (lent : Tables) → openNumber x masks lent ≡ 0 → Fit 64 (setupOf x) → CellsFit lent → CellsFit (openTables x masks lent)
 open-cells x masks lent h e f =
-    let y : Each (λ (q : Asked). q .yes ≡ true) (askedOpening x masks lent) = all-yes 0 (askedOpening x masks lent) (rising-opening x masks lent) h in
+    let y : Each (λ (q : Asked). q .yes ≡ true) (askedOpening x masks lent) = all-yes (askedOpening x masks lent) (apart-opening x masks lent) h in
     let sizes = every-each (sizeTests x) (every-each (limitTests x masks lent) (y .1 .0) .0) in
     let lim = limited x masks lent h in
     let small = each-map (λ (m : ℕ). within m (x .sizes .shards) ≡ true) In masks (λ m w. mask-small m (x .sizes .shards) (lim .shards) w) (all-each (λ m. within m (x .sizes .shards)) masks (y .1 .1 .1 .0)) in

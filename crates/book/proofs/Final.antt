@@ -2,7 +2,7 @@
 use mathlib.Core.Path.{_≡_, refl, sym, ap, _∙_, subst}
 use Prim.Native.Nat.{ℕ, zero, suc, _+_}
 use native.Mathlib.Omega.{arith}
-use mathlib.Core.Bool.{Bool, true, false, false≢true}
+use mathlib.Core.Bool.{Bool, true, false, cond, _&&_, false≢true}
 use mathlib.Core.List.{List, [], _∷_, _++_, reverseAux}
 use lib.ListN.{length, drop}
 use Rattle.waiting.proofs.Order.{front-all}
@@ -14,20 +14,21 @@ use Rattle.network.specs.Live.{Live, LiveBy, plainly, openingLive}
 use Rattle.network.specs.Accept.{messageOf, selected, booked, noCounts, tally, total}
 use Rattle.network.specs.Flush.{handled}
 use Rattle.network.specs.Calls.{Call, Answer, liveStep, answerOf, countsIn, rowsIn, deliveredIn, dropsIn, accept, flush, takeDown, bringUp, handlers, block, blockDuring, unblock, install, remove, decide, drain, reading}
-use Rattle.network.specs.Questions.{Room, alone, askedIn, firstNo}
-use Rattle.network.specs.Tables.{Tables, live}
+use Rattle.network.specs.Questions.{Asked, Room, alone, askedIn, asked, firstNo, answerTo}
+use Rattle.network.specs.Tables.{Tables, sizesAt, live}
 use Rattle.network.specs.Real.{openingOf, openingAt}
-use Rattle.network.specs.Writes.{Reply, isNumber, numberIn, exitT, answerT, tablesIn, replyIn, outputOf, roomReply}
+use Rattle.network.specs.Lent.{question1}
+use Rattle.network.specs.Writes.{Reply, isNumber, numberIn, exitT, answerT, tablesIn, replyIn, outputOf, callReply, roomReply}
 use Rattle.network.specs.Open.{askedOpening, openNumber, openTables, openExit}
 use Rattle.book.specs.Book.{Book, landedIn, droppedIn, bookStep, expected, opened}
 use Rattle.book.specs.History.{hasSequence}
-use Rattle.book.specs.Demand3.{Item, own, others, reopen, Admitted, AllAdmitted, replyTo, tablesAfter, tablesAtEnd, refused, Kept, copiesOf, bookAfter, expectedOf, bookAtEnd, OnlyNo, SumOf, isDrain, logFrom, LogOf, CallHolds, CallsHold, BookHolds, Demand3, Run, tablesAfterRun, Accepted, EveryList}
+use Rattle.book.specs.Demand3.{Item, own, others, reopen, Admitted, AllAdmitted, replyTo, tablesAfter, tablesAtEnd, refused, Kept, copiesOf, bookAfter, expectedOf, bookAtEnd, OnlyNo, NumberIs, SumOf, isDrain, logFrom, LogOf, CallHolds, CallsHold, BookHolds, Demand3, Run, tablesAfterRun, Accepted, EveryList}
 use Rattle.book.proofs.Marks.{two-originals}
 use Rattle.book.proofs.Sound.{SoundBook, book-sound, opened-sound}
 use Rattle.book.proofs.Plain as marks
 use Rattle.book.proofs.Sums.{booked-tills, booked-total}
 use Rattle.book.proofs.Moves.{book-rows, book-drops, book-delivered, book-log, quiet}
-use Rattle.book.proofs.Asking.{first-no, rising-in, rising-opening}
+use Rattle.book.proofs.Asking.{first-no, apart-in, apart, apart-opening}
 use Rattle.book.proofs.Fitting.{Limited}
 use Rattle.book.proofs.StepFits.{step-fits}
 use Rattle.book.proofs.Formed.{Fixed}
@@ -89,15 +90,31 @@ module _ (o : Opening) where
 
   only-own : (room : Room) (b : Book) (c : Call) (n : ℕ) → n ≡ firstNo (askedIn o room (b .live) c) → OnlyNo o b (own room c) n
   only-own room b c zero h = tt
-  only-own room b c (suc n) h = rw h (first-no 0 (askedIn o room (b .live) c) (rising-in o room (b .live) c) (λ e. omega arith))
+  only-own room b c (suc n) h = rw h (first-no (askedIn o room (b .live) c) (apart-in o room (b .live) c) (λ e. omega arith))
+
+  -- question 1, of the tables or of the output
+  only-others : (X : Tables) (c : Call) → callReply X c .number ≡ 1 → (question1 (sizesAt (X .setup)) X c && answerTo (asked (openingAt X) (live (sizesAt (X .setup)) X) c) 1) ≡ false
+  only-others X c a = go (question1 (sizesAt (X .setup)) X c) a
+    where
+      qs : List Asked
+      qs = asked (openingAt X) (live (sizesAt (X .setup)) X) c
+
+      go : (q : Bool) → cond q (firstNo qs) 1 ≡ 1 → (q && answerTo qs 1) ≡ false
+      go true h = subst (λ (n : ℕ). answerTo qs n ≡ false) h (first-no qs (apart (openingAt X) (live (sizesAt (X .setup)) X) c) (λ e. omega (arith, h, e)))
+      go false h = refl
 
   only-reopen : (b : Book) (X : Tables) (y : Settings) (ms : List ℕ) (n : ℕ) → n ≡ openNumber y ms X → OnlyNo o b (reopen X y ms) n
   only-reopen b X y ms zero h = tt
-  only-reopen b X y ms (suc n) h = rw h (first-no 0 (askedOpening y ms X) (rising-opening y ms X) (λ e. omega arith))
+  only-reopen b X y ms (suc n) h = rw h (first-no (askedOpening y ms X) (apart-opening y ms X) (λ e. omega arith))
+
+  number-of : (b : Book) (T : Tables) (i : Item) → Bears o T b → Admitted i → NumberIs o b i (replyTo T i .number)
+  number-of b T (own room c) h a = ap (λ (r : Reply). r .number) (reply-is room T b h c) ∙ number-is room T b h c
+  number-of b T (others X c) h a = a
+  number-of b T (reopen X y ms) h a = refl
 
   only-no : (b : Book) (T : Tables) (i : Item) → Bears o T b → Admitted i → OnlyNo o b i (replyTo T i .number)
-  only-no b T (own room c) h a = only-own room b c (roomReply room T c .number) (ap (λ (r : Reply). r .number) (reply-is room T b h c) ∙ number-is room T b h c)
-  only-no b T (others X c) h a = rw a (refl, a)
+  only-no b T (own room c) h a = only-own room b c (roomReply room T c .number) (number-of b T (own room c) h a)
+  only-no b T (others X c) h a = rw a (refl, only-others X c a)
   only-no b T (reopen X y ms) h a = only-reopen b X y ms (openNumber y ms X) refl
 
   -- a refused call leaves what it was lent as found
@@ -174,6 +191,7 @@ module _ (o : Opening) where
       record {
         same-answer = e;
         only-no = only-no b T i h a;
+        number-is = number-of b T i h a;
         kept = kept T i a;
         rows-land = rows-land b T i ∙ ap (λ (x : Answer). reverseAux (copiesOf (rowsIn x)) (landedIn (b .past))) (sym e);
         drops-count = drops-count b T i ∙ ap (λ (x : Answer). dropsIn x + length (droppedIn (b .past))) (sym e);
@@ -209,12 +227,14 @@ module _ (o : Opening) where
   end-sound [] b T h = h
   end-sound (i ∷ is) b T h = end-sound is (bookAfter o b T i) (tablesAfter T i) (after-sound b T i h)
 
-  pub book-holds : (b : Book) → SoundBook o b → BookHolds b
+  pub book-holds : (b : Book) → SoundBook o b → BookHolds o b
   book-holds b k = record {
     same-copies = k .places;
     one-place = λ n. sym (k .places (hasSequence n)) ∙ k .numbers n;
     two-apart = λ after between before c d t i e oc od. two-originals (b .past) after between before c d t i (k .apart) e oc od;
     marks = λ t i. sym (k .marks t i);
+    marks-each = k .shape;
+    marks-rise = k .rises;
     sorted = k .order;
     due-all = λ now. front-all now (b .live .waiting) (k .order);
     rule-ids = k .ids;

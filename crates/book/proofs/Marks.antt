@@ -1,5 +1,5 @@
 -- Marks, and the originals that stand for them.
-use mathlib.Core.Path.{_≡_, refl, sym, ap, _∙_}
+use mathlib.Core.Path.{_≡_, refl, sym, ap, _∙_, subst}
 use Prim.Native.Nat.{ℕ, zero, suc, _<_}
 use native.Mathlib.Omega.{arith}
 use mathlib.Core.Bool.{Bool, true, false, cond, not, _&&_, _||_, false≢true}
@@ -13,8 +13,9 @@ use Rattle.book.specs.History.{originalOf, clears, standing}
 use Rattle.rows.specs.Rows.{pick}
 use Rattle.rows.specs.Lists.{Each}
 use Rattle.waiting.specs.declared.Copy.{Copy}
-use Rattle.marks.specs.Marks.{found, placed, removed, Ordered, member}
-use Rattle.marks.proofs.Ordered.{none-ordered, found-member, member-placed, member-place, ordered-placed, ordered-removed}
+use Rattle.marks.specs.Marks.{found, placed, removed, Ordered, Rises, member}
+use Rattle.marks.proofs.Rising.{place, placed-place, found-member-in, rises-placed-in, rises-keep}
+use Rattle.marks.proofs.Ordered.{none-ordered, found-member, member-placed, ordered-placed, ordered-removed}
 use Rattle.network.specs.Accept.{mark}
 use Rattle.book.proofs.Each.{each-at, each-set}
 use Rattle.network.specs.Flush.{unmark, clearing, stops}
@@ -71,6 +72,14 @@ member-without i j (k ∷ l) = go (eqb j k) refl (eqb i j) refl (member-without 
     go true p false q h = h ∙ rw (ne-eqb i k (λ e. eqb-false i j q (e ∙ sym (eqb-true j k p))))
     go false p true q h = rw h (ap (λ (b : Bool). b || false) (ne-eqb i k (λ e. eqb-false j k p (sym (eqb-true i j q) ∙ e))))
     go false p false q h = rw h
+
+-- rising ids still rise with one more
+inserted-place : (i : ℕ) (l : List ℕ) → inserted i l ≡ place i l
+inserted-place i [] = refl
+inserted-place i (j ∷ l) = ap (λ (r : List ℕ). cond (ltb j i) (j ∷ r) (i ∷ j ∷ l)) (inserted-place i l)
+
+pub rises-inserted : (i : ℕ) (l : List ℕ) → member i l ≡ false → Rises l → Rises (inserted i l)
+rises-inserted i l f r = subst Rises (placed-place i l r ∙ sym (inserted-place i l)) (rises-placed-in i l (found-member-in i l r ∙ f) r)
 
 -- the mark of j at u is set: read at i, t
 pub member-set : (seen : List (List ℕ)) (u j t i : ℕ) → u < length seen
@@ -129,6 +138,16 @@ clearing-ordered s (c ∷ cs) seen e = clearing-ordered s cs (cond (stops s c &&
   where
     go : (b : Bool) → Each Ordered (cond b (unmark table (c .delivery .to) (c .id) seen) seen)
     go true = each-set Ordered seen (c .delivery .to) (removed (c .id) (getD seen (c .delivery .to) [])) e (ordered-removed (c .id) (getD seen (c .delivery .to) []) (each-at Ordered seen (c .delivery .to) [] e none-ordered))
+    go false = e
+
+pub clearing-rises : (s : LiveBy plain) (cs : List Copy) (seen : List (List ℕ)) → Each Rises seen → Each Rises (clearing s cs seen)
+clearing-rises s [] seen e = e
+clearing-rises s (c ∷ cs) seen e = clearing-rises s cs (cond (stops s c && isOriginal c) (unmark plain (c .delivery .to) (c .id) seen) seen) (go (stops s c && isOriginal c))
+  where
+    go : (b : Bool) → Each Rises (cond b (unmark plain (c .delivery .to) (c .id) seen) seen)
+    go true =
+        let ids = getD seen (c .delivery .to) [] in
+        each-set Rises seen (c .delivery .to) (without (c .id) ids) e (rises-keep (λ (j : ℕ). not (eqb (c .id) j)) ids (each-at Rises seen (c .delivery .to) [] e tt))
     go false = e
 
 pub clearing-agrees : (s : LiveBy plain) (cs : List Copy) (es : List Event) (seen : List (List ℕ))

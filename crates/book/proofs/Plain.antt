@@ -12,7 +12,7 @@ use Rattle.rows.specs.Lists.{Each}
 use Rattle.rows.proofs.Lists.{each-map}
 use Rattle.waiting.specs.declared.Copy.{Copy}
 use Rattle.marks.specs.Marks.{found, placed, removed, listed, member, Rises, Ordered}
-use Rattle.marks.proofs.Rising.{place, placed-place, found-member-in, rises-placed-in, rises-keep}
+use Rattle.marks.proofs.Rising.{rises-keep}
 use Rattle.marks.proofs.Ordered.{none-ordered, found-member, member-placed, member-removed, ordered-placed, ordered-removed, listed-rises, member-listed, length-listed}
 use Rattle.network.specs.Opening.{Opening}
 use Rattle.network.specs.Marking.{plain, table, inserted, without}
@@ -22,7 +22,7 @@ use Rattle.network.specs.Flush.{due, stops, unmark, clearing}
 use Rattle.network.specs.Calls.{Call, Reading, isBlocked, transit, fired, isDown, nextTime, tallyOf, waitingCopies, marksOf, ids, counted, read, liveStep, answerOf, accept, flush, takeDown, bringUp, handlers, block, blockDuring, unblock, install, remove, decide, drain, reading}
 use Rattle.network.specs.Questions.{Room, alone, pooled, ask, ask4, ask5, ask6, ask7, ask8, ask9, ask11, askRoom, askedIn}
 use Rattle.book.proofs.Each.{each-at, each-set}
-use Rattle.book.proofs.Marks.{member-inserted, member-without, clearing-ordered}
+use Rattle.book.proofs.Marks.{member-inserted, member-without, rises-inserted, clearing-ordered}
 use Rattle.book.proofs.Sound.{sent-unmarked}
 
 -- ---- Rising ids are settled by which ids they are
@@ -63,13 +63,6 @@ rises-same (x ∷ xs) (y ∷ ys) r q h = (λ j. e j ∷ rises-same xs ys (r .1) 
             above-none i xs (subst (λ (n : ℕ). Each (λ (j : ℕ). n < j) xs) (sym px) (r .0)) ∙ sym (above-none i ys (subst (λ (n : ℕ). Each (λ (j : ℕ). n < j) ys) (sym (px ∙ e)) (q .0)))
         go false p true k u = absurd (eqb-false i x p (eqb-true i y k ∙ sym e))
         go false p false k u = u
-
-inserted-place : (i : ℕ) (l : List ℕ) → inserted i l ≡ place i l
-inserted-place i [] = refl
-inserted-place i (j ∷ l) = ap (λ (r : List ℕ). cond (ltb j i) (j ∷ r) (i ∷ j ∷ l)) (inserted-place i l)
-
-rises-inserted : (i : ℕ) (l : List ℕ) → member i l ≡ false → Rises l → Rises (inserted i l)
-rises-inserted i l f r = subst Rises (placed-place i l r ∙ sym (inserted-place i l)) (rises-placed-in i l (found-member-in i l r ∙ f) r)
 
 -- ---- THE MARKS OF A TILL: those that are listed are the plain ones, after one more and one less too
 

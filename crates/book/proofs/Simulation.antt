@@ -37,7 +37,7 @@ use Rattle.network.specs.Lent.{nearDelivery, nearCopy}
 use Rattle.network.specs.Tables.{cell, Tables, live, idsStart, waitingAt, rulesAt, installedAt, blocksAt, blockForm, ruleForm}
 use Rattle.network.specs.Writes.{setRings, wordsT, ruledT, marksT, pushT, rememberT, effectT, offeredT, acceptT, clearT, waitingT, recordT, recordAllT, blockT, tillT, flushT, stepT}
 use Rattle.book.proofs.Each.{both, each-front, all-each}
-use Rattle.book.proofs.Asking.{rising-in, room-fits, all-yes, rising}
+use Rattle.book.proofs.Asking.{apart-in, room-fits, all-yes, apart}
 use Rattle.book.proofs.Sound.{Below, selected-below, sent-unmarked}
 use Rattle.book.proofs.Fitting.{Limited, Fits, NearMessage, Good, drawn-good, few-copies, Ready, room, effect-fits, effect-length, effect-ready, length-behind}
 use Rattle.book.proofs.StepFits.{near-message, length-without}
@@ -193,7 +193,7 @@ module _ (o : Opening) where
 
   pub step-wrote : Limited (o .sizes) → (room : Room) (c : Call) (T : Tables) (s : Live) → Wrote (o .sizes) T s → Fits (o .sizes) s → firstNo (askedIn o room s c) ≡ 0 → Wrote (o .sizes) (stepT o T c) (liveStep o s c)
   step-wrote lim room (accept e true) T s w f h =
-      let y = all-yes 0 (askedIn o room s (accept e true)) (rising-in o room s (accept e true)) h in
+      let y = all-yes (askedIn o room s (accept e true)) (apart-in o room s (accept e true)) h in
       let m = messageOf o e in
       let ts = selected o s (e .scope) (e .from) in
       subst (λ (q : Live). Wrote (o .sizes) (acceptT o m T (selected o q (e .scope) (e .from))) (liveAfter o m s ts)) (sym (w .holds))
@@ -201,26 +201,26 @@ module _ (o : Opening) where
   step-wrote lim room (accept e false) T s w f h = w
   step-wrote lim room (flush now rows) T s w f h = flush-wrote now T s w f
   step-wrote lim room (takeDown t) T s w f h =
-      let y = all-yes 0 (asked o s (takeDown t)) (rising o s (takeDown t)) h in
+      let y = all-yes (asked o s (takeDown t)) (apart o s (takeDown t)) h in
       let b = ltb-true t (o .sizes .tills) (y .0) in
       let x = new-till T s t (λ u. downTill) w b in
       then (o .sizes) (tillT T t downTill) _ _ (λ (q : Live). withSeen q (set (q .seen) t [])) (x .holds) (marks-wrote (o .sizes) (tillT T t downTill) (x .formed) t [] b (omega arith))
   step-wrote lim room (bringUp t shards) T s w f h =
-      let y = all-yes 0 (asked o s (bringUp t shards)) (rising o s (bringUp t shards)) h in
+      let y = all-yes (asked o s (bringUp t shards)) (apart o s (bringUp t shards)) h in
       new-till T s t (λ u. upTill shards) w (ltb-true t (o .sizes .tills) (y .0))
   step-wrote lim room (handlers t gossip host) T s w f h =
-      let y = all-yes 0 (asked o s (handlers t gossip host)) (rising o s (handlers t gossip host)) h in
+      let y = all-yes (asked o s (handlers t gossip host)) (apart o s (handlers t gossip host)) h in
       new-till T s t (λ (u : Till). withHandlers u gossip host) w (ltb-true t (o .sizes .tills) (y .0))
   step-wrote lim room (block from to) T s w f h =
-      let y = all-yes 0 (asked o s (block from to)) (rising o s (block from to)) h in
+      let y = all-yes (asked o s (block from to)) (apart o s (block from to)) h in
       new-block T s (always from to) w (y .1 .0)
   step-wrote lim room (blockDuring from to start end) T s w f h =
-      let y = all-yes 0 (asked o s (blockDuring from to start end)) (rising o s (blockDuring from to start end)) h in
+      let y = all-yes (asked o s (blockDuring from to start end)) (apart o s (blockDuring from to start end)) h in
       new-block T s (during from to start end) w (y .1 .0)
   step-wrote lim room (unblock from to) T s w f h =
       then (o .sizes) T _ s (λ (q : Live). withEngine q (withBlocks (q .engine) (blocks.unblocked from to (q .engine .blocks)))) (w .holds) (unblock-wrote (o .sizes) T (w .formed) from to)
   step-wrote lim room (install card) T s w f h =
-      let y = all-yes 0 (asked o s (install card)) (rising o s (install card)) h in
+      let y = all-yes (asked o s (install card)) (apart o s (install card)) h in
       let count : length (s .engine .rules) ≡ cell (T .net) rulesAt = sym (ap (λ (q : Live). length (q .engine .rules)) (w .holds)) ∙ length-rows (ruleForm .width) (ruleForm .read) (cell (T .net) rulesAt) (T .rules) in
       let ever : s .engine .installed ≡ cell (T .net) installedAt = sym (ap (λ (q : Live). q .engine .installed) (w .holds)) in
       let free : (ltb (cell (T .net) rulesAt) ruleSlots && ltb (cell (T .net) installedAt) mostRules) ≡ true = rw (← count, ← ever) (y .0) in

@@ -12,7 +12,7 @@ use Rattle.waiting.specs.Waiting.{insertCopy, onTime, Sorted}
 use Rattle.waiting.specs.declared.Copy.{Copy}
 use Rattle.waiting.proofs.Order.{sorted-insert, sorted-drop}
 use Rattle.rows.proofs.Lists.{drop-front}
-use Rattle.marks.specs.Marks.{member}
+use Rattle.marks.specs.Marks.{member, Rises}
 use Rattle.rule.specs.declared.DropSpec.{DropSpec}
 use Rattle.card.specs.Card.{fieldsOf}
 use Rattle.rules.specs.Rules.{Ascending, fireAt, withRule}
@@ -21,7 +21,7 @@ use Rattle.rules.proofs.Ids.{install-ascends, remove-ascends, fire-ascends}
 use Rattle.decide.specs.Decide.{Decision, rulesAfter}
 use Rattle.network.specs.Lists.{bit, count, below}
 use Rattle.network.specs.Opening.{Opening}
-use Rattle.network.specs.Marking.{Marking, plain, Marks}
+use Rattle.network.specs.Marking.{Marking, plain, Marks, inserted}
 use Rattle.network.specs.Live.{LiveBy, isOriginal, marked, idsAt, stopped}
 use Rattle.network.specs.Accept.{Message, messageOf, selected, Drawn, drawn, original, Class, deduplicated, partition, loss, fault, sent, firstFit, classOf, copies, effect, offered, liveAfter, insertAll}
 use Rattle.network.specs.Flush.{due, stops, unmark, clearing}
@@ -29,8 +29,8 @@ use Rattle.network.specs.Calls.{Call, liveStep, accept, flush, takeDown, bringU
 use Rattle.book.specs.Book.{Book, Event, scheduledIn, landedIn, droppedIn, eventsOf, offerEvents, eventsAfter, happened, opened, bookStep}
 use Rattle.book.specs.History.{hasSequence, given, standing}
 use Rattle.book.proofs.Counting.{numbered-count, count-split, count-insertAll, scheduling-scheduled, scheduling-landed, scheduling-dropped, flushing-scheduled, flushing-moved}
-use Rattle.book.proofs.Marks.{Apart, Echo, echoes-standing, echoes-apart, member-set, member-empty, clearing-agrees, flushing-apart}
-use Rattle.book.proofs.Each.{each-upTo}
+use Rattle.book.proofs.Marks.{Apart, Echo, echoes-standing, echoes-apart, member-set, member-empty, rises-inserted, clearing-rises, clearing-agrees, flushing-apart}
+use Rattle.book.proofs.Each.{each-set, each-at, each-replicate, each-upTo}
 use Rattle.book.proofs.Echoing.{drawn-echoes}
 
 -- It speaks of the parts that it needs, and so holds at once of a live part that differs elsewhere.
@@ -41,6 +41,7 @@ pub record Sound (tills : ℕ) (waiting : List Copy) (sequence : ℕ) (seen : Li
   pub apart : Apart past
   pub order : Sorted waiting
   pub shape : length seen ≡ tills
+  pub rises : Each Rises seen
   pub ids : Ascending 0 installed rules
 
 abbrev pub SoundLive : Opening → LiveBy plain → List Event → Type 0
@@ -79,6 +80,7 @@ module _ (o : Opening) (m : Message) (s : LiveBy plain) (d : Drawn) (t : ℕ) (p
     apart = h .apart;
     order = h .order;
     shape = h .shape;
+    rises = h .rises;
     ids = ruled-ascends (d .verdict) (s .engine .installed) (s .engine .rules) (h .ids);
   }
   effect-sound sent f b e =
@@ -92,6 +94,7 @@ module _ (o : Opening) (m : Message) (s : LiveBy plain) (d : Drawn) (t : ℕ) (p
         apart = echoes-apart (suc (s .sequence)) es _ e (λ z. h .marks t (m .id) ∙ f refl, h .apart);
         order = sorted-insertAll cs (s .waiting) (h .order);
         shape = length-set (s .seen) t _ ∙ h .shape;
+        rises = each-set Rises (s .seen) t (inserted (m .id) (idsAt s t)) (h .rises) (rises-inserted (m .id) (idsAt s t) (f refl) (each-at Rises (s .seen) t [] (h .rises) tt));
         ids = ruled-ascends (d .verdict) (s .engine .installed) (s .engine .rules) (h .ids);
       }
 
@@ -135,7 +138,7 @@ install-next n rs d h = let z : n + 1 ≡ suc n = omega arith in subst (λ (k : 
 
 module _ (o : Opening) where
   with-ids : (s : LiveBy plain) (past : List Event) → SoundLive o s past → (n : ℕ) (rs : List FaultRule) → Ascending 0 n rs → Sound (o .sizes .tills) (s .waiting) (s .sequence) (s .seen) n rs past
-  with-ids s past h n rs a = record { places = h .places; numbers = h .numbers; marks = h .marks; apart = h .apart; order = h .order; shape = h .shape; ids = a }
+  with-ids s past h n rs a = record { places = h .places; numbers = h .numbers; marks = h .marks; apart = h .apart; order = h .order; shape = h .shape; rises = h .rises; ids = a }
 
   pub step-sound : (s : LiveBy plain) (c : Call) (past : List Event) → SoundLive o s past → SoundLive o (liveStep o s c) (happened o s c past)
   step-sound s (accept e true) past h = accept-sound o (messageOf o e) (selected o s (e .scope) (e .from)) s past (selected-below o s (e .scope) (e .from)) h
@@ -148,6 +151,7 @@ module _ (o : Opening) where
     apart = flushing-apart s (due now s) past (h .apart);
     order = sorted-behind (onTime now) (s .waiting) (h .order);
     shape = length-clearing s (due now s) (s .seen) ∙ h .shape;
+    rises = clearing-rises s (due now s) (s .seen) (h .rises);
     ids = h .ids;
   }
   step-sound s (takeDown t) past h = record {
@@ -157,6 +161,7 @@ module _ (o : Opening) where
     order = h .order;
     marks = λ u j. rw (h .marks u j) (sym (member-empty (s .seen) t u j));
     shape = length-set (s .seen) t [] ∙ h .shape;
+    rises = each-set Rises (s .seen) t [] (h .rises) tt;
     ids = h .ids;
   }
   step-sound s (bringUp t shards) past h = h
@@ -194,5 +199,6 @@ module _ (o : Opening) where
     apart = tt;
     order = tt;
     shape = length-replicate (o .sizes .tills) [];
+    rises = each-replicate Rises (o .sizes .tills) [] tt;
     ids = omega arith;
   }

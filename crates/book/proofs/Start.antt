@@ -31,7 +31,7 @@ use Rattle.network.specs.Lent.{setupTests, namesTests, keysTests, pricesTests}
 use Rattle.network.specs.Open.{lentTests, limitTests, askedOpening, openNumber, openTables}
 use Rattle.network.proofs.Opened.{length-keys, length-priced, priced-admitted, region-below}
 use Rattle.book.proofs.Each.{each-all, each-every, every-each, each-upTo, join, True}
-use Rattle.book.proofs.Asking.{all-yes, rising-opening}
+use Rattle.book.proofs.Asking.{all-yes, apart-opening}
 use Rattle.book.proofs.Fitting.{Limited}
 use Rattle.book.proofs.StepFits.{opening-fits}
 use Rattle.book.proofs.Formed.{fourOf, Fixed, Formed}
@@ -57,7 +57,7 @@ module _ (x : Settings) (masks : List ℕ) (lent : Tables) (accepted : openNumbe
   z = x .sizes
 
   yes : Each (λ (q : Asked). q .yes ≡ true) (askedOpening x masks lent)
-  yes = all-yes 0 (askedOpening x masks lent) (rising-opening x masks lent) accepted
+  yes = all-yes (askedOpening x masks lent) (apart-opening x masks lent) accepted
 
   sized : Each True (lentTests x masks lent)
   sized = every-each (lentTests x masks lent) (yes .0)

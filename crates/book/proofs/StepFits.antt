@@ -37,7 +37,7 @@ use Rattle.network.specs.Lent.{nearTill, nearDelivery, nearCopy, nearBlock}
 use Rattle.book.proofs.Each.{both, join, each-set, each-at, each-replicate, each-append, each-push, each-keep, each-front, each-behind, each-upTo, all-each}
 use Rattle.book.proofs.Sound.{selected-below, length-clearing}
 use Rattle.book.proofs.Marks.{clearing-ordered}
-use Rattle.book.proofs.Asking.{rising-in, room-fits, all-yes, rising}
+use Rattle.book.proofs.Asking.{apart-in, room-fits, all-yes, apart}
 use Rattle.book.proofs.Fitting.{Limited, Small, Fits, EngineFits, NearRing, LogFits, NearMessage, accept-fits, ruled-fits, length-keep, length-behind, length-push}
 
 -- ---- Flush
@@ -149,7 +149,7 @@ module _ (o : Opening) where
 
   pub step-fits : Limited (o .sizes) → (room : Room) (s : Live) (c : Call) → firstNo (askedIn o room s c) ≡ 0 → Fits (o .sizes) s → Fits (o .sizes) (liveStep o s c)
   step-fits lim room s (accept e true) h f =
-      let y = all-yes 0 (askedIn o room s (accept e true)) (rising-in o room s (accept e true)) h in
+      let y = all-yes (askedIn o room s (accept e true)) (apart-in o room s (accept e true)) h in
       let ts = selected o s (e .scope) (e .from) in
       accept-fits o (messageOf o e) (near-message lim e (y .0) (y .1 .0) (y .1 .1 .0)) ts s (selected-below o s (e .scope) (e .from)) (all-each _ ts (y .1 .1 .1 .1 .1 .1 .0)) (room-fits o room s e (y .1 .1 .1 .1 .1 .1 .1 .0)) f
   step-fits lim room s (accept e false) h f = f
@@ -181,20 +181,20 @@ module _ (o : Opening) where
     log = f .log;
   }
   step-fits lim room s (bringUp t shards) h f =
-      let y = all-yes 0 (asked o s (bringUp t shards)) (rising o s (bringUp t shards)) h in
+      let y = all-yes (asked o s (bringUp t shards)) (apart o s (bringUp t shards)) h in
       new-till s t (upTill shards) f (up-near (o .sizes) shards (y .1 .0))
   step-fits lim room s (handlers t gossip host) h f =
-      let y = all-yes 0 (asked o s (handlers t gossip host)) (rising o s (handlers t gossip host)) h in
+      let y = all-yes (asked o s (handlers t gossip host)) (apart o s (handlers t gossip host)) h in
       let x = both (within gossip (o .sizes .types)) (within host (o .sizes .types)) (y .1 .0) in
       new-till s t (withHandlers (tillAt s t) gossip host) f
       (join _ _ (join _ _ (x .0) (x .1)) (both (within (tillAt s t .gossip) (o .sizes .types) && within (tillAt s t .host) (o .sizes .types)) (within (tillAt s t .shards) (o .sizes .shards))
       (each-at (λ (x : Till). nearTill (o .sizes) x ≡ true) (s .tills) t downTill (f .masks) (down-near (o .sizes))) .1))
   step-fits lim room s (block from to) h f =
-      let y = all-yes 0 (asked o s (block from to)) (rising o s (block from to)) h in
+      let y = all-yes (asked o s (block from to)) (apart o s (block from to)) h in
       let n = max-below from to (o .sizes .tills) (y .0) in
       with-engine s _ f (add-block (s .engine) (always from to) (f .engine) (y .1 .0) (join _ _ (n .0) (n .1)))
   step-fits lim room s (blockDuring from to start end) h f =
-      let y = all-yes 0 (asked o s (blockDuring from to start end)) (rising o s (blockDuring from to start end)) h in
+      let y = all-yes (asked o s (blockDuring from to start end)) (apart o s (blockDuring from to start end)) h in
       let n = max-below from to (o .sizes .tills) (y .0) in
       with-engine s _ f (add-block (s .engine) (during from to start end) (f .engine) (y .1 .0) (join _ _ (n .0) (n .1)))
   step-fits lim room s (unblock from to) h f = with-engine s _ f (record {
@@ -203,7 +203,7 @@ module _ (o : Opening) where
     near = each-keep (λ (x : BlockWindow). nearBlock (o .sizes) x ≡ true) _ (s .engine .blocks) (f .engine .near);
   })
   step-fits lim room s (install card) h f =
-      let y = all-yes 0 (asked o s (install card)) (rising o s (install card)) h in
+      let y = all-yes (asked o s (install card)) (apart o s (install card)) h in
       let free = both (ltb (length (s .engine .rules)) ruleSlots) (ltb (s .engine .installed) mostRules) (y .0) .0 in
       with-engine s _ f (record { blocks = f .engine .blocks; rules = add-rule (s .engine .rules) _ free; near = f .engine .near })
   step-fits lim room s (remove id) h f = with-engine s _ f (record { blocks = f .engine .blocks; rules = le-trans (length-without id (s .engine .rules)) (f .engine .rules); near = f .engine .near })

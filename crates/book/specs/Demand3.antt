@@ -1,13 +1,15 @@
 -- Document 01, 'The book': DEMAND 3, one statement on every list of calls after an accepted opening.
 use mathlib.Core.Path.{_≡_}
 use Prim.Native.Nat.{ℕ, zero, suc, _+_}
-use mathlib.Core.Bool.{Bool, true, false}
+use mathlib.Core.Bool.{Bool, true, false, _&&_}
 use mathlib.Core.List.{List, [], _∷_, _++_, map, reverseAux}
 use lib.Dec.{T}
 use lib.ListN.{length}
 use Rattle.rows.specs.Rows.{keep}
+use Rattle.rows.specs.Lists.{Each}
 use Rattle.waiting.specs.Waiting.{onTime, Sorted}
 use Rattle.waiting.specs.declared.Copy.{Copy}
+use Rattle.marks.specs.Marks.{Rises}
 use Rattle.rules.specs.Rules.{Ascending}
 use Rattle.network.specs.Lists.{bit, count, some-of}
 use Rattle.network.specs.Opening.{Settings, Opening}
@@ -16,7 +18,7 @@ use Rattle.log.specs.Log.{Log, emptyLog}
 use Rattle.network.specs.Accept.{messageOf, selected, Booked, booked, noCounts, tally, total}
 use Rattle.network.specs.Flush.{Row, handled, due, loggedAll}
 use Rattle.network.specs.Calls.{Call, Answer, silent, countsIn, rowsIn, deliveredIn, dropsIn, accept, flush, takeDown, bringUp, handlers, block, blockDuring, unblock, install, remove, decide, drain, reading}
-use Rattle.network.specs.Questions.{Room, askedIn, answerTo}
+use Rattle.network.specs.Questions.{Room, askedIn, asked, firstNo, answerTo}
 use Rattle.network.specs.Tables.{Tables, sizesAt, live}
 use Rattle.network.specs.Real.{openingOf, openingAt}
 use Rattle.network.specs.Lent.{question1}
@@ -27,7 +29,7 @@ use Rattle.book.specs.History.{hasSequence, given, originalOf, clears, s
 
 -- ---- A list of calls
 
--- a call on the tables that the last one left, by a network with slots of its own or a chain of a pool; a call that was lent others, which question 1 refuses; an opening, on whatever tables, that a number refuses
+-- a call on the tables that the last one left, by a network with slots of its own or a chain of a pool; a call that was lent others, which question 1 refuses, of the tables or of a short output; an opening, on whatever tables, that a number refuses
 pub data Item : Type 0 where
   own : Room → Call → Item
   others : Tables → Call → Item
@@ -35,7 +37,7 @@ pub data Item : Type 0 where
 
 abbrev pub Admitted : Item → Type 0
 Admitted (own room c) = Unit {0}
-Admitted (others X c) = question1 (sizesAt (X .setup)) X c ≡ false
+Admitted (others X c) = callReply X c .number ≡ 1
 Admitted (reopen X y ms) = openNumber y ms X ≡ 0 → ⊥
 
 abbrev pub AllAdmitted : List Item → Type 0
@@ -88,12 +90,18 @@ module _ (o : Opening) where
 
   -- ---- What holds of each call
 
-  -- a number came back only where its question's answer is "no"; question 1 is asked of the tables lent, the others of the book
+  -- a number came back only where its question's answer is "no"; question 1 is asked of the tables and the output lent, the others of the book
   abbrev pub OnlyNo : Book → Item → ℕ → Type 0
   OnlyNo b i zero = Unit {0}
   OnlyNo b (own room c) (suc n) = answerTo (askedIn o room (b .live) c) (suc n) ≡ false
-  OnlyNo b (others X c) (suc n) = (suc n ≡ 1) × (question1 (sizesAt (X .setup)) X c ≡ false)
+  OnlyNo b (others X c) (suc n) = (suc n ≡ 1) × ((question1 (sizesAt (X .setup)) X c && answerTo (asked (openingAt X) (live (sizesAt (X .setup)) X) c) 1) ≡ false)
   OnlyNo b (reopen X y ms) (suc n) = answerTo (askedOpening y ms X) (suc n) ≡ false
+
+  -- and it is the number of the first such question: 0 says that every answer is "yes"
+  abbrev pub NumberIs : Book → Item → ℕ → Type 0
+  NumberIs b (own room c) n = n ≡ firstNo (askedIn o room (b .live) c)
+  NumberIs b (others X c) n = n ≡ 1
+  NumberIs b (reopen X y ms) n = n ≡ firstNo (askedOpening y ms X)
 
   -- an accepted entry that opened: each of its selected tills goes under exactly one of the five, the book's class of it, and the counts count these tills
   pub record FiveCounts (b : Book) (c : Call) (scope from : ℕ) (bs : List Booked) (a : Answer) : Type 0 where
@@ -149,6 +157,7 @@ module _ (o : Opening) where
     -- its counts, and a flush's rows in their order, are the book's
     pub same-answer : replyTo T i .answer ≡ expectedOf b T i
     pub only-no : OnlyNo b i (replyTo T i .number)
+    pub number-is : NumberIs b i (replyTo T i .number)
     pub kept : Kept T i
     -- its rows, in their order, are the copies that land with it; its drops count the copies that it drops, and delivered its rows with a handler
     pub rows-land : landedIn (bookAfter b T i .past) ≡ reverseAux (copiesOf (rowsIn (replyTo T i .answer))) (landedIn (b .past))
@@ -164,7 +173,7 @@ module _ (o : Opening) where
 
 -- ---- What holds of the book
 
-pub record BookHolds (b : Book) : Type 0 where
+pub record BookHolds (o : Opening) (b : Book) : Type 0 where
   -- every copy scheduled is in one place, waiting, one row or one flush drop, and nothing else is in any of these
   pub same-copies : (p : Copy → Bool) → count p (scheduledIn (b .past)) ≡ count p (b .live .waiting) + (count p (landedIn (b .past)) + count p (droppedIn (b .past)))
   pub one-place : (n : ℕ) → count (hasSequence n) (b .live .waiting) + (count (hasSequence n) (landedIn (b .past)) + count (hasSequence n) (droppedIn (b .past))) ≡ bit (given n (b .live .sequence))
@@ -173,6 +182,9 @@ pub record BookHolds (b : Book) : Type 0 where
       → T (originalOf t i c) → T (originalOf t i d) → T (some-of (clears t i) between)
   -- a mark stands exactly where an original was scheduled and nothing has cleared it since
   pub marks : (t i : ℕ) → marked (b .live) t i ≡ standing t i (b .past)
+  -- each till has its marks, rising and none twice: with the line above they are settled whole
+  pub marks-each : length (b .live .seen) ≡ o .sizes .tills
+  pub marks-rise : Each Rises (b .live .seen)
   -- waiting stands by time, then sequence, and a flush takes all the copies with a time at or before now
   pub sorted : Sorted (b .live .waiting)
   pub due-all : (now : ℕ) → due now (b .live) ≡ keep (onTime now) (b .live .waiting)
@@ -184,7 +196,7 @@ pub record Demand3 (x : Settings) (masks : List ℕ) (lent : Tables) (is : List 
   -- the copies waiting at the list's end are the book's, in every field, each one time; so is all else that the tables hold, the marks as the ids that they list, and the opening's settings
   pub same-live : plainly (live (x .sizes) (tablesAtEnd (openTables x masks lent) is)) ≡ bookAtEnd (openingOf x (lent .names)) (opened (openingOf x (lent .names)) masks) (openTables x masks lent) is .live
   pub same-opening : openingAt (tablesAtEnd (openTables x masks lent) is) ≡ openingOf x (lent .names)
-  pub book : BookHolds (bookAtEnd (openingOf x (lent .names)) (opened (openingOf x (lent .names)) masks) (openTables x masks lent) is)
+  pub book : BookHolds (openingOf x (lent .names)) (bookAtEnd (openingOf x (lent .names)) (opened (openingOf x (lent .names)) masks) (openTables x masks lent) is)
 
 -- ---- A later accepted opening begins another list
 
