@@ -287,7 +287,7 @@ def storm():
 def embedded():
     text = (HERE / 'morning.script').read_text()
     assert '"' not in text and '\\' not in text
-    code = HERE.parent / 'crates/morning/src/lib.rt'
+    code = HERE.parent / 'crates/sim_morning/src/lib.rt'
     front, back = code.read_text().split('b"')[0], code.read_text().rsplit('";', 1)[1]
     code.write_text(front + 'b"' + text + '";' + back)
 

@@ -2,6 +2,6 @@
 # Builds the archive of the crate leaves, links the benchmark and runs it.
 set -eu
 cd "$(dirname "$0")/../.."
-rt staticlib leaves >/dev/null
-rustc --edition 2024 -O -o target/bench-leaves bench/leaves/main.rs -L target/staticlib -l static=leaves
+rt staticlib bench_leaves >/dev/null
+rustc --edition 2024 -O -o target/bench-leaves bench/leaves/main.rs -L target/staticlib -l static=bench_leaves
 exec target/bench-leaves

@@ -2,7 +2,7 @@
 # Draws on stream records that Rust lends by `&mut` to the function of the crate stream, against the original's answers in crates/simulate.
 set -eu
 cd "$(dirname "$0")/../.."
-rt staticlib stream >/dev/null
+rt staticlib rand_stream >/dev/null
 rustc --edition 2024 -O -o target/bench-stream bench/stream/main.rs -L target/staticlib -l static=stream
 grep '^draw long ' crates/simulate/stdin | target/bench-stream >target/bench-stream.answers
 grep '^draw long ' crates/simulate/stdout | diff - target/bench-stream.answers

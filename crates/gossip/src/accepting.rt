@@ -1,6 +1,6 @@
 // Accept as a C function.
-use accept_calls::Accepted;
-ghost use Rattle.accept_calls.specs.Accepting.{DoesAccept, callOf};
+use call_accept::Accepted;
+ghost use Rattle.call_accept.specs.Accepting.{DoesAccept, callOf};
 
 // Takes an entry of a till's outbox.
 #[no_mangle]
@@ -28,7 +28,7 @@ pub extern "C" fn gossip_accept(
 ) -> Accepted
     ensures { λ r. ⌜ DoesAccept (now (setup .entry)) (now (names .entry)) (now (tills .entry)) (now (keys .entry)) (now (prices .entry)) (now (blocks .entry)) (now (net .entry)) (now (words .entry)) (now (seen .entry)) (now (waiting .entry)) (now (rings .entry)) (now (rules .entry)) (now (net .exit)) (now (words .exit)) (now (seen .exit)) (now (waiting .exit)) (now (rings .exit)) (now (rules .exit)) (callOf (now (wire .entry)) «from» at kind «class» scope tag opens) r ⌝ }
 {
-    accept_calls::accept(
+    call_accept::accept(
         setup,
         net,
         names,

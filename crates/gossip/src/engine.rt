@@ -1,8 +1,8 @@
 // The block and rule calls as C functions.
-use reply::Done;
-use reply::Value;
-ghost use Rattle.block_calls.specs.Calls.{DoesBlock, DoesBlockDuring, DoesIsBlocked, DoesUnblock};
-ghost use Rattle.rule_calls.specs.Calls.{DoesDecide, DoesFired, DoesInstall, DoesRemove};
+use call_reply::Done;
+use call_reply::Value;
+ghost use Rattle.call_block.specs.Calls.{DoesBlock, DoesBlockDuring, DoesIsBlocked, DoesUnblock};
+ghost use Rattle.call_rule.specs.Calls.{DoesDecide, DoesFired, DoesInstall, DoesRemove};
 
 // Blocks a directed pair of tills.
 #[no_mangle]
@@ -15,7 +15,7 @@ pub extern "C" fn gossip_block(
 ) -> Done
     ensures { λ r. ⌜ DoesBlock (now (setup .entry)) (now (net .entry)) (now (blocks .entry)) (now (net .exit)) (now (blocks .exit)) «from» to r ⌝ }
 {
-    block_calls::block(setup, net, blocks, from, to)
+    call_block::block(setup, net, blocks, from, to)
 }
 
 // Blocks a directed pair for a window.
@@ -31,7 +31,7 @@ pub extern "C" fn gossip_block_during(
 ) -> Done
     ensures { λ r. ⌜ DoesBlockDuring (now (setup .entry)) (now (net .entry)) (now (blocks .entry)) (now (net .exit)) (now (blocks .exit)) «from» to start end r ⌝ }
 {
-    block_calls::block_during(setup, net, blocks, from, to, start, end)
+    call_block::block_during(setup, net, blocks, from, to, start, end)
 }
 
 // Takes every window of a pair away.
@@ -45,7 +45,7 @@ pub extern "C" fn gossip_unblock(
 ) -> Done
     ensures { λ r. ⌜ DoesUnblock (now (setup .entry)) (now (net .entry)) (now (blocks .entry)) (now (net .exit)) (now (blocks .exit)) «from» to r ⌝ }
 {
-    block_calls::unblock(setup, net, blocks, from, to)
+    call_block::unblock(setup, net, blocks, from, to)
 }
 
 // Is a pair blocked at a time?
@@ -60,7 +60,7 @@ pub extern "C" fn gossip_is_blocked(
 ) -> Value
     ensures { λ r. ⌜ DoesIsBlocked (now (setup .entry)) (now (net .entry)) (now (blocks .entry)) «from» to at r ⌝ }
 {
-    block_calls::is_blocked(setup, net, blocks, from, to, at)
+    call_block::is_blocked(setup, net, blocks, from, to, at)
 }
 
 // Installs the rule of a drop card.
@@ -73,7 +73,7 @@ pub extern "C" fn gossip_install(
 ) -> Value
     ensures { λ r. ⌜ DoesInstall (now (setup .entry)) (now (net .entry)) (now (rules .entry)) (now (net .exit)) (now (rules .exit)) (now (card .entry)) r ⌝ }
 {
-    rule_calls::install(setup, net, rules, card)
+    call_rule::install(setup, net, rules, card)
 }
 
 // Removes a rule; its last fired count.
@@ -81,7 +81,7 @@ pub extern "C" fn gossip_install(
 pub extern "C" fn gossip_remove(setup: &[u64], net: &mut [u64], rules: &mut [u64], id: u64) -> Value
     ensures { λ r. ⌜ DoesRemove (now (setup .entry)) (now (net .entry)) (now (rules .entry)) (now (net .exit)) (now (rules .exit)) id r ⌝ }
 {
-    rule_calls::remove(setup, net, rules, id)
+    call_rule::remove(setup, net, rules, id)
 }
 
 // How often a rule has fired.
@@ -89,7 +89,7 @@ pub extern "C" fn gossip_remove(setup: &[u64], net: &mut [u64], rules: &mut [u64
 pub extern "C" fn gossip_fired(setup: &[u64], net: &[u64], rules: &[u64], id: u64) -> Value
     ensures { λ r. ⌜ DoesFired (now (setup .entry)) (now (net .entry)) (now (rules .entry)) id r ⌝ }
 {
-    rule_calls::fired(setup, net, rules, id)
+    call_rule::fired(setup, net, rules, id)
 }
 
 // What the rules say of a message.
@@ -106,5 +106,5 @@ pub extern "C" fn gossip_decide(
 ) -> Value
     ensures { λ r. ⌜ DoesDecide (now (setup .entry)) (now (net .entry)) (now (rules .entry)) (now (net .exit)) (now (rules .exit)) «from» to kind tier at r ⌝ }
 {
-    rule_calls::decide(setup, net, rules, from, to, kind, tier, at)
+    call_rule::decide(setup, net, rules, from, to, kind, tier, at)
 }

@@ -1,6 +1,6 @@
 // Flush as a C function.
-use flush_calls::Flushed;
-ghost use Rattle.flush_calls.specs.Call.{DoesFlush};
+use call_flush::Flushed;
+ghost use Rattle.call_flush.specs.Call.{DoesFlush};
 
 // Moves every copy due at a time: rows to the output, or drops.
 #[no_mangle]
@@ -17,5 +17,5 @@ pub extern "C" fn gossip_flush(
 ) -> Flushed
     ensures { λ r. ⌜ DoesFlush (now (setup .entry)) (now (net .entry)) (now (net .exit)) (now (tills .entry)) (now (seen .entry)) (now (seen .exit)) (now (waiting .entry)) (now (waiting .exit)) (now (blocks .entry)) (now (log .entry)) (now (log .exit)) (now (out .entry)) (now (out .exit)) at r ⌝ }
 {
-    flush_calls::flush(setup, net, tills, seen, waiting, blocks, log, out, at)
+    call_flush::flush(setup, net, tills, seen, waiting, blocks, log, out, at)
 }

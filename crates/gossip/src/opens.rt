@@ -1,15 +1,15 @@
 // The opening as C functions.
-use opening_tests::NetworkConfig;
-use opening_tests::NetworkSizes;
-use opening_tests::RegionPlan;
-use opening_tests::TableSizes;
-use reply::Done;
+use ask_opening::NetworkConfig;
+use ask_opening::NetworkSizes;
+use ask_opening::RegionPlan;
+use ask_opening::TableSizes;
+use call_reply::Done;
 ghost use mathlib.Core.Path.{_≡_};
-ghost use Rattle.held.specs.Lending.{tablesOf};
-ghost use Rattle.opening.specs.Opens.{Does};
-ghost use Rattle.opening_tests.specs.Given.{settingsOf};
-ghost use Rattle.opening_tests.specs.Sizes.{tableSizes};
-ghost use Rattle.opening_tests.specs.Given.{sized};
+ghost use Rattle.ask_tables.specs.Lending.{tablesOf};
+ghost use Rattle.call_open.specs.Opens.{Does};
+ghost use Rattle.ask_opening.specs.Given.{settingsOf};
+ghost use Rattle.ask_opening.specs.Sizes.{tableSizes};
+ghost use Rattle.ask_opening.specs.Given.{sized};
 
 // Opens a network in the lent tables, or refuses with 1, 2, 3 or 5.
 #[no_mangle]
@@ -39,7 +39,7 @@ pub extern "C" fn gossip_open(
         (tablesOf (now (setup .exit)) (now (net .exit)) (now (names .entry)) (now (tills .exit)) (now (words .exit)) (now (keys .exit)) (now (prices .exit)) (now (seen .exit)) (now (waiting .entry)) (now (rings .exit)) (now (rules .entry)) (now (blocks .entry)) (now (log .exit)))
         r ⌝ }
 {
-    opening::open_network(
+    call_open::open_network(
         config,
         sizes,
         plan,
@@ -67,5 +67,5 @@ pub extern "C" fn gossip_open(
 pub extern "C" fn gossip_table_sizes(sizes: NetworkSizes, plan: RegionPlan) -> TableSizes
     ensures { λ r. ⌜ r ≡ tableSizes (sized sizes plan) ⌝ }
 {
-    opening_tests::table_sizes(sizes, plan)
+    ask_opening::table_sizes(sizes, plan)
 }

@@ -1,20 +1,20 @@
 // The readings, the drain and the digest as C functions.
-use digest::Hashed;
-use log_calls::Drained;
-use log_calls::Tallied;
-use reply::Value;
-use waiting_calls::Copied;
+use call_log::Drained;
+use call_log::Tallied;
+use call_reply::Value;
+use call_waiting::Copied;
+use hash_digest::Hashed;
 ghost use mathlib.Core.Path.{_≡_};
-ghost use Rattle.digest.specs.Blake3.{digestOf};
-ghost use Rattle.log_calls.specs.Call.{DoesDrain, DoesTally};
-ghost use Rattle.waiting_calls.specs.Call.{DoesCopies, DoesNextTime, DoesTransit};
+ghost use Rattle.hash_digest.specs.Blake3.{digestOf};
+ghost use Rattle.call_log.specs.Call.{DoesDrain, DoesTally};
+ghost use Rattle.call_waiting.specs.Call.{DoesCopies, DoesNextTime, DoesTransit};
 
 // How many copies wait for a till.
 #[no_mangle]
 pub extern "C" fn gossip_in_transit(setup: &[u64], net: &[u64], waiting: &[u64], t: u64) -> Value
     ensures { λ r. ⌜ DoesTransit (now (setup .entry)) (now (net .entry)) (now (waiting .entry)) t r ⌝ }
 {
-    waiting_calls::in_transit(setup, net, waiting, t)
+    call_waiting::in_transit(setup, net, waiting, t)
 }
 
 // The time of the next delivery, if there is one.
@@ -22,7 +22,7 @@ pub extern "C" fn gossip_in_transit(setup: &[u64], net: &[u64], waiting: &[u64],
 pub extern "C" fn gossip_next_time(setup: &[u64], net: &[u64], waiting: &[u64]) -> Value
     ensures { λ r. ⌜ DoesNextTime (now (setup .entry)) (now (net .entry)) (now (waiting .entry)) r ⌝ }
 {
-    waiting_calls::next_time(setup, net, waiting)
+    call_waiting::next_time(setup, net, waiting)
 }
 
 // The waiting copies, to the output.
@@ -35,7 +35,7 @@ pub extern "C" fn gossip_waiting(
 ) -> Copied
     ensures { λ r. ⌜ DoesCopies (now (setup .entry)) (now (net .entry)) (now (waiting .entry)) (now (out .entry)) (now (out .exit)) r ⌝ }
 {
-    waiting_calls::waiting_copies(setup, net, waiting, out)
+    call_waiting::waiting_copies(setup, net, waiting, out)
 }
 
 // The log's records to the output; the log is then empty.
@@ -43,7 +43,7 @@ pub extern "C" fn gossip_waiting(
 pub extern "C" fn gossip_drain(setup: &[u64], log: &mut [u64], out: &mut [u64]) -> Drained
     ensures { λ r. ⌜ DoesDrain (now (setup .entry)) (now (log .entry)) (now (log .exit)) (now (out .entry)) (now (out .exit)) r ⌝ }
 {
-    log_calls::drain(setup, log, out)
+    call_log::drain(setup, log, out)
 }
 
 // Deliveries and bytes of a class.
@@ -51,7 +51,7 @@ pub extern "C" fn gossip_drain(setup: &[u64], log: &mut [u64], out: &mut [u64]) 
 pub extern "C" fn gossip_tally(setup: &[u64], log: &[u64], class: u64) -> Tallied
     ensures { λ r. ⌜ DoesTally (now (setup .entry)) (now (log .entry)) «class» r ⌝ }
 {
-    log_calls::tally_of(setup, log, class)
+    call_log::tally_of(setup, log, class)
 }
 
 // The digest by itself.
@@ -59,5 +59,5 @@ pub extern "C" fn gossip_tally(setup: &[u64], log: &[u64], class: u64) -> Tallie
 pub extern "C" fn gossip_digest(input: &[u8]) -> Hashed
     ensures { λ r. ⌜ r ≡ digestOf (now (input .entry)) ⌝ }
 {
-    digest::digest(input)
+    hash_digest::digest(input)
 }

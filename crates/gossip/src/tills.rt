@@ -1,8 +1,8 @@
 // The till calls as C functions.
-use reply::Done;
-use reply::Value;
-use till_calls::Marks;
-ghost use Rattle.till_calls.specs.Calls.{DoesBringUp, DoesIsDown, DoesMarksOf, DoesSetHandlers, DoesTakeDown};
+use call_reply::Done;
+use call_reply::Value;
+use call_till::Marks;
+ghost use Rattle.call_till.specs.Calls.{DoesBringUp, DoesIsDown, DoesMarksOf, DoesSetHandlers, DoesTakeDown};
 
 // A till goes down.
 #[no_mangle]
@@ -14,7 +14,7 @@ pub extern "C" fn gossip_take_down(
 ) -> Done
     ensures { λ r. ⌜ DoesTakeDown (now (setup .entry)) (now (tills .entry)) (now (seen .entry)) (now (tills .exit)) (now (seen .exit)) t r ⌝ }
 {
-    till_calls::take_down(setup, tills, seen, t)
+    call_till::take_down(setup, tills, seen, t)
 }
 
 // A till comes up, with the shards given.
@@ -22,7 +22,7 @@ pub extern "C" fn gossip_take_down(
 pub extern "C" fn gossip_bring_up(setup: &[u64], tills: &mut [u64], t: u64, shards: u64) -> Done
     ensures { λ r. ⌜ DoesBringUp (now (setup .entry)) (now (tills .entry)) (now (tills .exit)) t shards r ⌝ }
 {
-    till_calls::bring_up(setup, tills, t, shards)
+    call_till::bring_up(setup, tills, t, shards)
 }
 
 // The types that a till's gossip and host handlers take.
@@ -36,7 +36,7 @@ pub extern "C" fn gossip_set_handlers(
 ) -> Done
     ensures { λ r. ⌜ DoesSetHandlers (now (setup .entry)) (now (tills .entry)) (now (tills .exit)) t gossip host r ⌝ }
 {
-    till_calls::set_handlers(setup, tills, t, gossip, host)
+    call_till::set_handlers(setup, tills, t, gossip, host)
 }
 
 // Is a till down?
@@ -44,7 +44,7 @@ pub extern "C" fn gossip_set_handlers(
 pub extern "C" fn gossip_is_down(setup: &[u64], tills: &[u64], t: u64) -> Value
     ensures { λ r. ⌜ DoesIsDown (now (setup .entry)) (now (tills .entry)) t r ⌝ }
 {
-    till_calls::is_down(setup, tills, t)
+    call_till::is_down(setup, tills, t)
 }
 
 // The ids that a till has seen, to the output.
@@ -52,5 +52,5 @@ pub extern "C" fn gossip_is_down(setup: &[u64], tills: &[u64], t: u64) -> Value
 pub extern "C" fn gossip_marks(setup: &[u64], seen: &[u64], t: u64, out: &mut [u64]) -> Marks
     ensures { λ r. ⌜ DoesMarksOf (now (setup .entry)) (now (seen .entry)) (now (out .entry)) (now (out .exit)) t r ⌝ }
 {
-    till_calls::marks_of(setup, seen, t, out)
+    call_till::marks_of(setup, seen, t, out)
 }

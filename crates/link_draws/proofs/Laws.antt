@@ -10,24 +10,24 @@ use lib.Ieee.{Float, lt}
 use lib.ListN.{length, List·getD-eq-default}
 use lib.Seq.{getD-drop}
 use borrow.Author.Tests.{leb-true}
-use Rattle.float.specs.Float.{zero64}
-use Rattle.time.specs.Seconds.{millisecond, seconds}
-use Rattle.streams.specs.declared.Cursor.{Cursor}
-use Rattle.streams.specs.declared.Drawn32.{Drawn32}
-use Rattle.streams.specs.Streams.{Moved}
-use Rattle.draw.specs.declared.Hit.{Hit}
-use Rattle.draw.specs.Draw.{whole32At, words32At, drawsOf, choose, again}
-use Rattle.draw.specs.Fraction.{hitsAt, hitWords}
-use Rattle.latency.specs.declared.Sample.{Sample}
-use Rattle.latency.specs.Latency.{latencyAt, latencyWords, jitterWords, jitters, spikeCount, longest}
-use Rattle.latency.specs.Admitted.{Admitted, fractionAdmitted, longestBase, longestTransmission}
-use Rattle.geography.specs.declared.Cost.{Cost}
-use Rattle.geography.specs.declared.Link.{Link}
-use Rattle.geography.specs.Geography.{atLeastOne, mostRegions, linkIn, linkAt, linkAdmitted, linkCost, transmissionOf, costOf, pickCost}
-use Rattle.network.specs.Opening.{Settings, Plan, longestWire, mostTills}
-use Rattle.network.specs.Tables.{cell, settingsAt, keyAt}
-use Rattle.network.specs.Limits.{rateOf}
-use Rattle.network.specs.Real.{keyWidth, faultKeyOf, chance, regionAt, costAt, pairCells}
+use Rattle.math_float.specs.Float.{zero64}
+use Rattle.math_time.specs.Seconds.{millisecond, seconds}
+use Rattle.rand_streams.specs.declared.Cursor.{Cursor}
+use Rattle.rand_streams.specs.declared.Drawn32.{Drawn32}
+use Rattle.rand_streams.specs.Streams.{Moved}
+use Rattle.rand_draw.specs.declared.Hit.{Hit}
+use Rattle.rand_draw.specs.Draw.{whole32At, words32At, drawsOf, choose, again}
+use Rattle.rand_draw.specs.Fraction.{hitsAt, hitWords}
+use Rattle.link_latency.specs.declared.Sample.{Sample}
+use Rattle.link_latency.specs.Latency.{latencyAt, latencyWords, jitterWords, jitters, spikeCount, longest}
+use Rattle.link_latency.specs.Admitted.{Admitted, fractionAdmitted, longestBase, longestTransmission}
+use Rattle.link_geography.specs.declared.Cost.{Cost}
+use Rattle.link_geography.specs.declared.Link.{Link}
+use Rattle.link_geography.specs.Geography.{atLeastOne, mostRegions, linkIn, linkAt, linkAdmitted, linkCost, transmissionOf, costOf, pickCost}
+use Rattle.spec_network.specs.Opening.{Settings, Plan, longestWire, mostTills}
+use Rattle.spec_network.specs.Tables.{cell, settingsAt, keyAt}
+use Rattle.spec_network.specs.Limits.{rateOf}
+use Rattle.spec_network.specs.Real.{keyWidth, faultKeyOf, chance, regionAt, costAt, pairCells}
 use Rattle.link_draws.specs.Drawing.{Sent, Struck, Picked, Delayed}
 
 -- ---- Word counts

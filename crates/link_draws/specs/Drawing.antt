@@ -5,19 +5,19 @@ use mathlib.Core.Bool.{true, false}
 use mathlib.Core.List.{List}
 use lib.Dec.{T, eqb}
 use lib.ListN.{length}
-use Rattle.streams.specs.declared.Cursor.{Cursor}
-use Rattle.streams.specs.declared.Drawn32.{Drawn32}
-use Rattle.streams.specs.Streams.{Holds}
-use Rattle.draw.specs.declared.Hit.{Hit}
-use Rattle.draw.specs.Draw.{whole32At, words32At}
-use Rattle.latency.specs.declared.Sample.{Sample}
-use Rattle.latency.specs.Latency.{latencyAt, latencyWords, longest}
-use Rattle.latency.specs.Admitted.{longestBase, fractionAdmitted}
-use Rattle.geography.specs.Geography.{atLeastOne, mostRegions, linkIn, linkAdmitted}
-use Rattle.network.specs.Opening.{Draw, Settings, mostTills, longestWire}
-use Rattle.network.specs.Tables.{setupWidth, settingsAt}
-use Rattle.network.specs.Limits.{rateOf}
-use Rattle.network.specs.Real.{chance, regionAt, costAt}
+use Rattle.rand_streams.specs.declared.Cursor.{Cursor}
+use Rattle.rand_streams.specs.declared.Drawn32.{Drawn32}
+use Rattle.rand_streams.specs.Streams.{Holds}
+use Rattle.rand_draw.specs.declared.Hit.{Hit}
+use Rattle.rand_draw.specs.Draw.{whole32At, words32At}
+use Rattle.link_latency.specs.declared.Sample.{Sample}
+use Rattle.link_latency.specs.Latency.{latencyAt, latencyWords, longest}
+use Rattle.link_latency.specs.Admitted.{longestBase, fractionAdmitted}
+use Rattle.link_geography.specs.Geography.{atLeastOne, mostRegions, linkIn, linkAdmitted}
+use Rattle.spec_network.specs.Opening.{Draw, Settings, mostTills, longestWire}
+use Rattle.spec_network.specs.Tables.{setupWidth, settingsAt}
+use Rattle.spec_network.specs.Limits.{rateOf}
+use Rattle.spec_network.specs.Real.{chance, regionAt, costAt}
 
 -- settings and prices that an opening can leave
 pub record Priced (setup prices : List ℕ) : Type 0 where

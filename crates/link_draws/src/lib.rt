@@ -2,22 +2,22 @@
 ghost use mathlib.Core.Path.{_≡_};
 ghost use Prim.Native.Nat.{_+_, _*_, _^_, _%_, _<_, _≤_};
 ghost use lib.ListN.{length, take, drop};
-ghost use Rattle.streams.specs.Streams.{Holds};
-ghost use Rattle.geography.specs.Geography.{Stands};
-ghost use Rattle.network.specs.Opening.{mostTills};
-ghost use Rattle.network.specs.Tables.{cell, setupWidth, settingsAt};
-ghost use Rattle.network.specs.Limits.{rateOf};
-ghost use Rattle.network.specs.Real.{keyWidth, keyOf, faultKeyOf, regionAt, costAt};
+ghost use Rattle.rand_streams.specs.Streams.{Holds};
+ghost use Rattle.link_geography.specs.Geography.{Stands};
+ghost use Rattle.spec_network.specs.Opening.{mostTills};
+ghost use Rattle.spec_network.specs.Tables.{cell, setupWidth, settingsAt};
+ghost use Rattle.spec_network.specs.Limits.{rateOf};
+ghost use Rattle.spec_network.specs.Real.{keyWidth, keyOf, faultKeyOf, regionAt, costAt};
 ghost use Rattle.link_draws.specs.Drawing.{Priced, Sent, Struck, Picked, Delayed};
-use draw::Hit;
-use geography::Cost;
-use latency::Sample;
-use streams::Cursor;
-use streams::Drawn32;
-use time::Time;
+use link_geography::Cost;
+use link_latency::Sample;
+use math_time::Time;
+use rand_draw::Hit;
+use rand_streams::Cursor;
+use rand_streams::Drawn32;
 
 // The words of a key.
-const KEY: usize = held::KEY_WIDTH as usize;
+const KEY: usize = ask_tables::KEY_WIDTH as usize;
 
 fn low(x: u64) -> u32
     ensures { λ r. ⌜ r ≡ x % 2 ^ 32 ⌝ }
@@ -30,7 +30,7 @@ pub fn rate(setup: &[u64], i: usize) -> f64
     requires { ⌜ i < length (now setup) ⌝ }
     ensures { λ r. ⌜ r ≡ rateOf (cell (now (setup .entry)) i) ⌝ }
 {
-    float::of_any(setup[i])
+    math_float::of_any(setup[i])
 }
 
 // The key whose words start at b.
@@ -55,14 +55,14 @@ fn fault_key(setup: &[u64]) -> [u32; 8]
     ensures { λ r. ⌜ r ≡ faultKeyOf (settingsAt (now (setup .entry)) .faultKey) ⌝ }
 {
     [
-        low(setup[held::FAULT_KEY]),
-        low(setup[held::FAULT_KEY + 1]),
-        low(setup[held::FAULT_KEY + 2]),
-        low(setup[held::FAULT_KEY + 3]),
-        low(setup[held::FAULT_KEY + 4]),
-        low(setup[held::FAULT_KEY + 5]),
-        low(setup[held::FAULT_KEY + 6]),
-        low(setup[held::FAULT_KEY + 7]),
+        low(setup[ask_tables::FAULT_KEY]),
+        low(setup[ask_tables::FAULT_KEY + 1]),
+        low(setup[ask_tables::FAULT_KEY + 2]),
+        low(setup[ask_tables::FAULT_KEY + 3]),
+        low(setup[ask_tables::FAULT_KEY + 4]),
+        low(setup[ask_tables::FAULT_KEY + 5]),
+        low(setup[ask_tables::FAULT_KEY + 6]),
+        low(setup[ask_tables::FAULT_KEY + 7]),
     ]
 }
 
@@ -72,7 +72,7 @@ pub fn link_at(keys: &[u32], tills: usize, from: usize, to: usize, count: u64) -
     ensures { λ r. ⌜ Stands (keyOf tills (now (keys .entry)) «from» to) count r ⌝ }
 {
     let key = key_at(keys, (from * tills + to) * KEY);
-    streams::at(key, count)
+    rand_streams::at(key, count)
 }
 
 // The fault stream at a word count.
@@ -81,7 +81,7 @@ pub fn fault_at(setup: &[u64], count: u64) -> Cursor
     ensures { λ r. ⌜ Stands (faultKeyOf (settingsAt (now (setup .entry)) .faultKey)) count r ⌝ }
 {
     let key = fault_key(setup);
-    streams::at(key, count)
+    rand_streams::at(key, count)
 }
 
 // A draw for the rate in cell i, made only where it is above 0.
@@ -89,7 +89,7 @@ pub fn chance(setup: &[u64], i: usize, c: Cursor) -> Hit
     requires { ⌜ (i < length (now setup)) × (c .count + 1 < 2 ^ 63) × Holds c ⌝ }
     ensures { λ r. ⌜ Struck (cell (now (setup .entry)) i) c r ⌝ }
 {
-    draw::hits(c, rate(setup, i))
+    rand_draw::hits(c, rate(setup, i))
 }
 
 // A ring index below n.
@@ -97,7 +97,7 @@ pub fn index(c: Cursor, n: u32) -> Drawn32
     requires { ⌜ (0 < n) × (c .count + 1 < 2 ^ 63) × Holds c ⌝ }
     ensures { λ r. ⌜ Picked n c r ⌝ }
 {
-    draw::whole32(c, n)
+    rand_draw::whole32(c, n)
 }
 
 // The region that a till sits in; 0 without a plan.
@@ -105,7 +105,7 @@ fn region(setup: &[u64], prices: &[u64], t: usize) -> u64
     requires { ⌜ Priced (now setup) (now prices) × (t < mostTills) ⌝ }
     ensures { λ r. ⌜ r ≡ regionAt (settingsAt (now (setup .entry)) .plan) (now (prices .entry)) t ⌝ }
 {
-    let n = geography::at_least_one(setup[held::REGIONS]);
+    let n = link_geography::at_least_one(setup[ask_tables::REGIONS]);
     let i = (2 * (n * n)) as usize + t;
     if i < prices.len() {
         return prices[i];
@@ -120,11 +120,11 @@ fn cost(setup: &[u64], prices: &[u64], from: usize, to: usize, bytes: u64) -> Co
 {
     let a = region(setup, prices, from);
     let b = region(setup, prices, to);
-    let latency = Time::from_nanos(setup[held::LATENCY]);
+    let latency = Time::from_nanos(setup[ask_tables::LATENCY]);
     link_prices::cost_between(
         prices,
-        setup[held::PLANNED] != 0,
-        setup[held::REGIONS],
+        setup[ask_tables::PLANNED] != 0,
+        setup[ask_tables::REGIONS],
         a,
         b,
         latency,
@@ -140,11 +140,11 @@ pub fn delay(setup: &[u64], prices: &[u64], from: usize, to: usize, bytes: u64, 
     let k = cost(setup, prices, from, to, bytes);
     let base = k.base;
     let wire = k.transmission;
-    latency::sample_latency(
+    link_latency::sample_latency(
         c,
         base,
-        rate(setup, held::JITTER),
-        rate(setup, held::SPIKE),
+        rate(setup, ask_tables::JITTER),
+        rate(setup, ask_tables::SPIKE),
         wire,
     )
 }

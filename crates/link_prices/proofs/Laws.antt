@@ -7,15 +7,15 @@ use native.Mathlib.Omega.{arith}
 use native.Mathlib.Numerals.{add-one}
 use native.Mathlib.Nat.{mul-le-mul}
 use lib.ListN.{getD, set}
-use Rattle.streams.specs.declared.Cursor.{Cursor}
-use Rattle.streams.specs.Streams.{Moved, Holds}
-use Rattle.draw.specs.Draw.{words64At}
-use Rattle.draw.proofs.Laws.{words-most}
-use Rattle.geography.specs.declared.Link.{Link}
-use Rattle.geography.specs.declared.Cost.{Cost}
-use Rattle.geography.specs.declared.Band.{Band}
-use Rattle.geography.specs.Bytes.{derive, links}
-use Rattle.geography.specs.Geography.{mostRegions, atLeastOne, transmissionOf, linkOf, bandOf, drawnLink, linkWords, rowCount, allCount, pairLink, linkIn, putLink, putPair, pricedRow, pricedAll, pricesOf, linkAt, linkCost, costOf, Stands}
+use Rattle.rand_streams.specs.declared.Cursor.{Cursor}
+use Rattle.rand_streams.specs.Streams.{Moved, Holds}
+use Rattle.rand_draw.specs.Draw.{words64At}
+use Rattle.rand_draw.proofs.Laws.{words-most}
+use Rattle.link_geography.specs.declared.Link.{Link}
+use Rattle.link_geography.specs.declared.Cost.{Cost}
+use Rattle.link_geography.specs.declared.Band.{Band}
+use Rattle.link_geography.specs.Bytes.{derive, links}
+use Rattle.link_geography.specs.Geography.{mostRegions, atLeastOne, transmissionOf, linkOf, bandOf, drawnLink, linkWords, rowCount, allCount, pairLink, linkIn, putLink, putPair, pricedRow, pricedAll, pricesOf, linkAt, linkCost, costOf, Stands}
 
 -- ---- the words that are taken
 pub link-words-most : (key : List ℕ) (count : ℕ) (s : Band) → linkWords key count s ≤ 8

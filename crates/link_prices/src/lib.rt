@@ -1,13 +1,13 @@
 // What a delivery between two regions costs. The links' prices lie in lent memory.
-use geography::Cost;
-use geography::Link;
-use streams::Cursor;
-use time::Time;
+use link_geography::Cost;
+use link_geography::Link;
+use math_time::Time;
+use rand_streams::Cursor;
 ghost use mathlib.Core.Path.{_≡_};
 ghost use Prim.Native.Nat.{_+_, _-_, _<_, _≤_, _^_};
 ghost use lib.ListN.{getD, set};
-ghost use Rattle.streams.specs.Streams.{Holds};
-ghost use Rattle.geography.specs.Geography.{putLink, putPair, linkAt, costOf, Stands, allCount, pricedRow, pricedAll, pricesOf, mostRegions, mostBytes};
+ghost use Rattle.rand_streams.specs.Streams.{Holds};
+ghost use Rattle.link_geography.specs.Geography.{putLink, putPair, linkAt, costOf, Stands, allCount, pricedRow, pricedAll, pricesOf, mostRegions, mostBytes};
 
 fn put(s: &mut [u64], i: usize, v: u64)
     ensures { λ _. ⌜ now (s .exit) ≡ set (now (s .entry)) i v ⌝ }
@@ -44,7 +44,7 @@ fn price_row(prices: &mut [u64], c: Cursor, regions: u64, a: u64) -> Cursor
     let mut d = c;
     let mut b = a;
     while b < regions {
-        let p = geography::price(d, a, b);
+        let p = link_geography::price(d, a, b);
         let next = p.next;
         put_pair(prices, regions, a, b, p.link);
         d = next;
@@ -72,9 +72,9 @@ pub fn price_links(prices: &mut [u64], seed: u64, regions: u64)
     requires { ⌜ regions ≤ mostRegions ⌝ }
     ensures { λ _. ⌜ now (prices .exit) ≡ pricesOf seed regions (now (prices .entry)) ⌝ }
 {
-    let n = geography::at_least_one(regions);
-    let key = geography::links_digest(seed);
-    let c = streams::at(key, 0);
+    let n = link_geography::at_least_one(regions);
+    let key = link_geography::links_digest(seed);
+    let c = rand_streams::at(key, 0);
     price_rows(prices, c, n);
 }
 
@@ -89,7 +89,7 @@ pub fn link_between(prices: &[u64], regions: u64, a: u64, b: u64) -> Link
     requires { ⌜ (a < mostRegions) × (b < mostRegions) × (regions ≤ mostRegions) ⌝ }
     ensures { λ r. ⌜ r ≡ linkAt (now (prices .entry)) regions a b ⌝ }
 {
-    let n = geography::at_least_one(regions);
+    let n = link_geography::at_least_one(regions);
     let at = (2 * (a * n + b)) as usize;
     let base = Time::from_nanos(get(prices, at));
     let rate = get(prices, at + 1);
@@ -112,7 +112,7 @@ pub fn cost_between(
     if planned {
         let l = link_between(prices, regions, a, b);
         let base = l.base;
-        let wire = geography::transmission(bytes, l.rate);
+        let wire = link_geography::transmission(bytes, l.rate);
         return Cost {
             base,
             transmission: wire,

@@ -1,10 +1,10 @@
 // Runs a script of calls on a network: standard input is read line by line, and every answer goes to standard output. README.md says more.
-use script::calls;
-use script_openings::Opening;
-use session::lines;
-use session::lines::Parsed;
-use session::lines::Session;
-use session::turns;
+use sim_openings::Opening;
+use sim_script::calls;
+use sim_session::lines;
+use sim_session::lines::Parsed;
+use sim_session::lines::Session;
+use sim_session::turns;
 
 // A line, acted on: an opening, a call on the network that is open, or neither.
 fn act(
@@ -35,7 +35,7 @@ fn act(
         return lines::passed(text, r, which);
     }
     if which == calls::OPEN {
-        return run_parts::open_line(
+        return sim_run_parts::open_line(
             o,
             r,
             room,
@@ -57,7 +57,7 @@ fn act(
             text,
         );
     }
-    script_acts::call(
+    sim_acts::call(
         which,
         v,
         r,
@@ -107,7 +107,7 @@ fn run(
     due: &mut [u64],
     text: &mut [u8],
 ) {
-    let begun = run_parts::source(asked, piece);
+    let begun = sim_run_parts::source(asked, piece);
     let mut i = begun;
     let mut r = lines::fresh();
     let mut left = TURNS;
@@ -139,7 +139,7 @@ fn run(
         r = after;
         left = lines::remaining(left, i.ended);
     }
-    run_parts::finish(asked, due, setup, net, seen, waiting, log, text, r.used);
+    sim_run_parts::finish(asked, due, setup, net, seen, waiting, log, text, r.used);
 }
 
 // Bytes of a line: the hexadecimal digits of 65,536 wire bytes, and 4,096 more.
@@ -151,36 +151,36 @@ const ROOM: usize = LINE / 2;
 const PIECE: usize = 65536;
 
 // The largest sizes: tills, slots, types, regions.
-const TILLS: usize = held::MOST_TILLS as usize;
+const TILLS: usize = ask_tables::MOST_TILLS as usize;
 
-const SLOTS: usize = held::MOST_SLOTS as usize;
+const SLOTS: usize = ask_tables::MOST_SLOTS as usize;
 
-const TYPES: usize = held::MOST_TYPES as usize;
+const TYPES: usize = ask_tables::MOST_TYPES as usize;
 
-const REGIONS: usize = held::MOST_REGIONS as usize;
+const REGIONS: usize = ask_tables::MOST_REGIONS as usize;
 
 fn main() {
     let mut piece = [0u8; PIECE];
     let mut line = [0u8; LINE];
     let mut room = [0u8; ROOM];
     let mut text = [0u8; PIECE];
-    let mut setup = [0u64; held::SETUP_WIDTH];
-    let mut net = [0u64; held::NET_WIDTH];
-    let mut names = [0u8; held_rows::NAMES_WIDTH];
-    let mut tills = [0u64; TILLS * held::TILL_WIDTH];
-    let mut words = [0u64; held::LINKS];
-    let mut keys = [0u32; held::LINKS * held::KEY_WIDTH as usize];
-    let mut prices = [0u64; REGIONS * REGIONS * held_rows::LINK_WIDTH + TILLS];
+    let mut setup = [0u64; ask_tables::SETUP_WIDTH];
+    let mut net = [0u64; ask_tables::NET_WIDTH];
+    let mut names = [0u8; ask_rows::NAMES_WIDTH];
+    let mut tills = [0u64; TILLS * ask_tables::TILL_WIDTH];
+    let mut words = [0u64; ask_tables::LINKS];
+    let mut keys = [0u32; ask_tables::LINKS * ask_tables::KEY_WIDTH as usize];
+    let mut prices = [0u64; REGIONS * REGIONS * ask_rows::LINK_WIDTH + TILLS];
     let mut seen = [0u64; TILLS + TILLS * SLOTS];
-    let mut waiting = [0u64; SLOTS * waiting::WIDTH];
-    let mut rings = [0u64; TYPES * rings::SCOPES * rings::SIZE];
-    let mut rules = [0u64; rules::SLOTS * rules::WIDTH];
-    let mut blocks = [0u64; blocks::SLOTS * blocks::WIDTH];
-    let mut log = [0u64; log::RECORDS + SLOTS * delivery::WIDTH];
-    let mut out = [0u64; SLOTS * flush::ROW];
-    let mut due = [0u64; notes::FIGURES + figures::SIZE];
+    let mut waiting = [0u64; SLOTS * table_waiting::WIDTH];
+    let mut rings = [0u64; TYPES * table_rings::SCOPES * table_rings::SIZE];
+    let mut rules = [0u64; fault_rules::SLOTS * fault_rules::WIDTH];
+    let mut blocks = [0u64; fault_blocks::SLOTS * fault_blocks::WIDTH];
+    let mut log = [0u64; table_log::RECORDS + SLOTS * table_delivery::WIDTH];
+    let mut out = [0u64; SLOTS * call_flush_pass::ROW];
+    let mut due = [0u64; sim_notes::FIGURES + sim_figures::SIZE];
     run(
-        run_parts::asked(),
+        sim_run_parts::asked(),
         &mut piece,
         &mut line,
         &mut room,

@@ -1,17 +1,17 @@
 // Vectors from outside: BLAKE3 digests, ChaCha8 words, 64-bit draws and link keys. The file stdout holds the answers of
 // b3sum, of a published table and of Debian's rand_chacha; README.md beside this folder says how each was made.
-use digest::Hashed;
-use digest::digest;
-use digest::digest_parts;
+use hash_digest::Hashed;
+use hash_digest::digest;
+use hash_digest::digest_parts;
 use libc::STDOUT_FILENO;
-use parts::back;
-use parts::front;
-use streams::Cursor;
-use streams::at;
-use streams::draw64;
-use streams::link_key;
+use math_parts::back;
+use math_parts::front;
+use rand_streams::Cursor;
+use rand_streams::at;
+use rand_streams::draw64;
+use rand_streams::link_key;
 ghost use Prim.Native.Nat.{_+_, _<_, _≤_, _^_};
-ghost use Rattle.streams.specs.Streams.{Holds};
+ghost use Rattle.rand_streams.specs.Streams.{Holds};
 
 const LENGTHS: [usize; 48] = [
     0,
@@ -271,7 +271,7 @@ fn words(i: usize) {
         number(i as u64);
         number(count);
         say(b" ");
-        io::print_hex(STDOUT_FILENO, chacha::word(key_of(i), count) as u64, 8);
+        io::print_hex(STDOUT_FILENO, rand_chacha::word(key_of(i), count) as u64, 8);
         say(b"\n");
         k += 1;
     }

@@ -1,8 +1,8 @@
 use mathlib.Core.Bool.{not}
 use lib.Dec.{eqb}
-use Rattle.network.specs.Tables.{settingsAt}
+use Rattle.spec_network.specs.Tables.{settingsAt}
 use Rattle.link_draws.proofs.Laws.{region-small}
-use Rattle.geography.specs.Geography.{costOf}
+use Rattle.link_geography.specs.Geography.{costOf}
 use mathlib.Core.Path.{_∙_}
 use borrow.Author.Needs.{needs}
 use Rattle.link_draws.proofs.cost.Statement.{statement}

@@ -1,4 +1,4 @@
-use Rattle.shift.proofs.Blocks.{cells-at}
+use Rattle.table_shift.proofs.Blocks.{cells-at}
 use borrow.Author.Needs.{needs}
 use Rattle.link_draws.proofs.key_at.Statement.{statement}
 use Rattle.link_draws.proofs.key_at.Tie as tie

@@ -1,6 +1,6 @@
 use Rattle.link_draws.proofs.Laws.{regions-few, square, region-in, region-out}
 use native.Mathlib.Omega.{arith}
-use Rattle.network.specs.Tables.{settingsAt}
+use Rattle.spec_network.specs.Tables.{settingsAt}
 use borrow.Author.Needs.{needs}
 use Rattle.link_draws.proofs.region.Statement.{statement}
 use Rattle.link_draws.proofs.region.Tie as tie

@@ -1,7 +1,7 @@
 use mathlib.Core.Path.{_∙_}
 use native.Mathlib.Omega.{arith}
 use Rattle.link_prices.proofs.Laws.{index-small, link-read}
-use Rattle.geography.proofs.Laws.{one-most}
+use Rattle.link_geography.proofs.Laws.{one-most}
 use borrow.Author.Needs.{needs}
 use Rattle.link_prices.proofs.link_between.Statement.{statement}
 use Rattle.link_prices.proofs.link_between.Tie as tie

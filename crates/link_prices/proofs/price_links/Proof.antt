@@ -1,4 +1,4 @@
-use Rattle.geography.proofs.Laws.{one-most}
+use Rattle.link_geography.proofs.Laws.{one-most}
 use Rattle.link_prices.proofs.Laws.{plan-made}
 use borrow.Author.Needs.{needs}
 use Rattle.link_prices.proofs.price_links.Statement.{statement}

@@ -1,6 +1,6 @@
 use mathlib.Core.Path.{_∙_, ap}
 use Rattle.link_prices.proofs.Laws.{row-none, row-start, row-room, row-moves, row-writes, row-end, row-done}
-use Rattle.geography.specs.Geography.{Stands, rowCount, pricedRow}
+use Rattle.link_geography.specs.Geography.{Stands, rowCount, pricedRow}
 use borrow.Author.Needs.{needs}
 use lib.ListN.{length}
 use native.Mathlib.Omega.{arith}

@@ -1,5 +1,5 @@
 use Rattle.link_prices.proofs.Laws.{all-none, all-start, all-count, all-moves, all-writes, all-done}
-use Rattle.geography.specs.Geography.{Stands, allCount, pricedAll}
+use Rattle.link_geography.specs.Geography.{Stands, allCount, pricedAll}
 use borrow.Author.Needs.{needs}
 use lib.ListN.{length}
 use native.Mathlib.Omega.{arith}

@@ -1,5 +1,5 @@
 use borrow.Author.Needs.{needs}
-use Rattle.streams.specs.Streams.{Holds}
+use Rattle.rand_streams.specs.Streams.{Holds}
 use mathlib.Core.Path.{_≡_}
 use Prim.Native.Nat.{_≤_, _-_, _+_, _*_}
 use Rattle.vectors.proofs.draws_from.Statement.{statement}

@@ -1,0 +1,94 @@
+-- Document 01, network (the delivery log), with questions 1 and 5: THE CONTRACTS of drain and tally_of. Of the tables `setup` and `log` are lent; the others hold whatever they hold, and stay.
+use mathlib.Core.Path.{_≡_}
+use mathlib.Core.Bool.{Bool, true, cond, _&&_}
+use mathlib.Core.List.{List}
+use Prim.Native.Nat.{ℕ, _/_}
+use lib.Dec.{leb, ltb}
+use lib.ListN.{length}
+use Rattle.table_delivery.specs.Delivery as delivery
+use Rattle.table_log.specs.declared.Tally.{Tally}
+use Rattle.table_log.specs.Log.{noTally}
+use Rattle.spec_network.specs.Calls.{Call, drain, reading, tallyOf, Answer, silent, counted, moved, number, tallied, drained, copies, ids}
+use Rattle.spec_network.specs.Tables.{Tables, sizesAt}
+use Rattle.spec_network.specs.Writes.{Reply, callTables, callReply, callOutput}
+use Rattle.ask_tables.specs.Held.{setupHeld, logHeld}
+use Rattle.call_log.specs.declared.Drained.{Drained}
+use Rattle.call_log.specs.declared.Tallied.{Tallied}
+
+abbrev pub lend : Tables → (setup log : List ℕ) → Tables
+lend T s l = record { setup = s; net = T .net; names = T .names; tills = T .tills; words = T .words; keys = T .keys; prices = T .prices; seen = T .seen; waiting = T .waiting; rings = T .rings; rules = T .rules; blocks = T .blocks; log = l }
+
+-- ---- The replies
+
+-- how many records an answer has, and how many the capacity forced out
+abbrev pub recordsIn : Answer → ℕ
+recordsIn (drained l) = length (l .records)
+recordsIn silent = 0
+recordsIn (counted n) = 0
+recordsIn (moved rows delivered drops) = 0
+recordsIn (number found value) = 0
+recordsIn (tallied t) = 0
+recordsIn (copies cs) = 0
+recordsIn (ids is) = 0
+
+abbrev pub forcedIn : Answer → ℕ
+forcedIn (drained l) = l .forced
+forcedIn silent = 0
+forcedIn (counted n) = 0
+forcedIn (moved rows delivered drops) = 0
+forcedIn (number found value) = 0
+forcedIn (tallied t) = 0
+forcedIn (copies cs) = 0
+forcedIn (ids is) = 0
+
+abbrev pub tallyIn : Answer → Tally
+tallyIn (tallied t) = t
+tallyIn silent = noTally
+tallyIn (counted n) = noTally
+tallyIn (moved rows delivered drops) = noTally
+tallyIn (number found value) = noTally
+tallyIn (drained l) = noTally
+tallyIn (copies cs) = noTally
+tallyIn (ids is) = noTally
+
+abbrev pub drainedOf : Reply → Drained
+drainedOf q = record { number = q .number; records = recordsIn (q .answer); forced = forcedIn (q .answer) }
+
+abbrev pub talliedOf : Reply → Tallied
+talliedOf q = record { number = q .number; deliveries = tallyIn (q .answer) .deliveries; bytes = tallyIn (q .answer) .bytes }
+
+-- ---- The contracts
+
+-- an output has room for so many records
+abbrev pub drainCall : (out : List ℕ) → Call
+drainCall out = drain (length out / delivery.width)
+
+unfoldable pub DoesDrain : (setup log log′ out out′ : List ℕ) → Drained → Type 0
+DoesDrain s l l′ o o′ r =
+    (T : Tables) → (r ≡ drainedOf (callReply (lend T s l) (drainCall o))) × (callTables (lend T s l) (drainCall o) ≡ lend T s l′) × (o′ ≡ callOutput (lend T s l) (drainCall o) o)
+
+abbrev pub tallyCall : ℕ → Call
+tallyCall class = reading (tallyOf class)
+
+unfoldable pub DoesTally : (setup log : List ℕ) (class : ℕ) → Tallied → Type 0
+DoesTally s l class r = (T : Tables) → (r ≡ talliedOf (callReply (lend T s l) (tallyCall class))) × (callTables (lend T s l) (tallyCall class) ≡ lend T s l)
+
+-- ---- The questions as the code asks them
+
+-- 1
+unfoldable pub logLent : (setup log : List ℕ) → Bool
+logLent s l = setupHeld s && (logHeld s l && true)
+
+-- 1, also of an output that is shorter than the log's capacity
+unfoldable pub drainNumber : (setup log : List ℕ) (rows : ℕ) → ℕ
+drainNumber s l rows = cond (logLent s l) (cond (leb (sizesAt s .logSlots) rows) 0 1) 1
+
+-- 1 and 5
+unfoldable pub tallyNumber : (setup log : List ℕ) (class : ℕ) → ℕ
+tallyNumber s l class = cond (logLent s l) (cond (ltb class (sizesAt s .classes)) 0 5) 1
+
+abbrev pub noDrain : ℕ → Drained
+noDrain n = record { number = n; records = 0; forced = 0 }
+
+abbrev pub noTallies : ℕ → Tallied
+noTallies n = record { number = n; deliveries = 0; bytes = 0 }

@@ -1,0 +1,195 @@
+-- One turn, and all of them. Assumes nothing.
+use Prim.Native.Nat.{ℕ, _+_, _≤_, _<_}
+use mathlib.Core.Path.{_≡_, refl, sym, ap, subst, _∙_}
+use mathlib.Core.Bool.{Bool, true, false, cond}
+use mathlib.Core.List.{List, [], _∷_}
+use native.Mathlib.Omega.{arith}
+use Rattle.spec_network.specs.Lists.{bit}
+use Rattle.spec_network.specs.Opening.{Opening}
+use Rattle.spec_network.specs.Live.{Live}
+use Rattle.spec_network.specs.Tables.{Tables, live, sizesAt}
+use Rattle.spec_network.specs.Real.{openingAt}
+use Rattle.spec_network.specs.Accept.{Class, deduplicated, partition, loss, fault, sent, classOf, offered, Counts, booked, tally, noCounts, add, isClass, total}
+use Rattle.spec_network.specs.Writes.{offeredT, acceptT}
+use Rattle.ask_tables.specs.Lending.{tablesOf}
+use Rattle.call_offer.specs.declared.Message.{Message}
+use Rattle.call_offer.specs.declared.Offer.{Offer}
+use Rattle.call_offer.specs.Needed.{Fixed, Ranged}
+use Rattle.call_offer.specs.Offering.{told, selectsAt, Answers, Offers}
+use Rattle.call_schedule.specs.declared.Counts as counts
+use Rattle.call_schedule.specs.Writing.{Applicable, Applies, classIn, countsOf}
+use Rattle.call_schedule.proofs.Applying.{answers-write}
+use Rattle.call_recipients.specs.Turning.{left, Going, Turned, Served}
+use Rattle.call_recipients.proofs.Stepping.{rest-on, rest-off, rest-end}
+use Rattle.call_recipients.proofs.Onward.{can-send, live-after, goes-on, passes-on}
+
+-- ---- One turn
+
+module _ (setup tills keys prices blocks net words seen waiting rings rules : List ℕ) (m : Message) (to : ℕ) where
+  pub can-apply : Fixed setup tills keys prices blocks → Ranged setup m → Going setup net tills words seen waiting rings rules m to → to < sizesAt setup .tills → selectsAt tills (m .scope) (m .from) to ≡ true
+      → (r : Offer) → Offers setup net tills words keys prices seen rings rules blocks m to r → Applicable setup net words seen waiting rings m to r
+  unfolding Offers
+  can-apply F R G b e r a = record {
+    sender = omega (arith, R .from, F .priced .tills);
+    below = omega (arith, F .priced .tills);
+    netSize = G .state .netSize;
+    wordsSize = G .state .wordsSize;
+    sendable = λ x h.
+        let T = tablesOf setup net [] tills words keys prices seen waiting rings rules blocks [] in
+        can-send setup net [] tills words keys prices seen waiting rings rules blocks [] m to F R G b e x (subst (Answers (openingAt T) (told m) (live (sizesAt setup) T) to) h (a [] waiting []));
+  }
+
+  pub passed-by : (c : counts.Counts) → selectsAt tills (m .scope) (m .from) to ≡ false → Turned setup tills keys prices blocks net words seen waiting rings rules net words seen waiting rings rules m to c c
+  unfolding Turned
+  passed-by c e = λ names log.
+      let T = tablesOf setup net names tills words keys prices seen waiting rings rules blocks log in (
+        ap (λ (b : Bool). cond b (offeredT (openingAt T) (told m) T to) T) (sym e),
+        ap (λ (b : Bool). cond b (add (classOf (openingAt T) (told m) (live (sizesAt setup) T) to) (countsOf c)) (countsOf c)) (sym e),
+      )
+
+  pub taken-up : (net′ words′ seen′ waiting′ rings′ rules′ : List ℕ) (c n : counts.Counts) (r : Offer) → selectsAt tills (m .scope) (m .from) to ≡ true
+      → Offers setup net tills words keys prices seen rings rules blocks m to r → Applies m to r setup net words seen waiting rings rules net′ words′ seen′ waiting′ rings′ rules′
+      → countsOf n ≡ add (classIn r) (countsOf c) → Turned setup tills keys prices blocks net words seen waiting rings rules net′ words′ seen′ waiting′ rings′ rules′ m to c n
+  unfolding Turned Offers Applies
+  taken-up net′ words′ seen′ waiting′ rings′ rules′ c n r e a w k = λ names log.
+      let T = tablesOf setup net names tills words keys prices seen waiting rings rules blocks log in
+      let both = answers-write (openingAt T) (told m) T to r (a names waiting log) in (
+        w names tills keys prices blocks log ∙ both .1 ∙ ap (λ (b : Bool). cond b (offeredT (openingAt T) (told m) T to) T) (sym e),
+        k ∙ ap (λ (j : Class). add j (countsOf c)) (both .0) ∙ ap (λ (b : Bool). cond b (add (classOf (openingAt T) (told m) (live (sizesAt setup) T) to) (countsOf c)) (countsOf c)) (sym e),
+      )
+
+-- ---- All of them: what is done, and what is left
+
+abbrev plus : Counts → Counts → Counts
+plus a b = record { sent = a .sent + b .sent; deduplicated = a .deduplicated + b .deduplicated; partition = a .partition + b .partition; loss = a .loss + b .loss; fault = a .fault + b .fault }
+
+plus-none : (a : Counts) → plus a noCounts ≡ a
+plus-none a = (λ j. record { sent = p1 j; deduplicated = p2 j; partition = p3 j; loss = p4 j; fault = p5 j })
+  where
+    p1 : a .sent + 0 ≡ a .sent
+    p1 = omega arith
+
+    p2 : a .deduplicated + 0 ≡ a .deduplicated
+    p2 = omega arith
+
+    p3 : a .partition + 0 ≡ a .partition
+    p3 = omega arith
+
+    p4 : a .loss + 0 ≡ a .loss
+    p4 = omega arith
+
+    p5 : a .fault + 0 ≡ a .fault
+    p5 = omega arith
+
+none-plus : (a : Counts) → plus noCounts a ≡ a
+none-plus a = (λ j. record { sent = p1 j; deduplicated = p2 j; partition = p3 j; loss = p4 j; fault = p5 j })
+  where
+    p1 : 0 + a .sent ≡ a .sent
+    p1 = omega arith
+
+    p2 : 0 + a .deduplicated ≡ a .deduplicated
+    p2 = omega arith
+
+    p3 : 0 + a .partition ≡ a .partition
+    p3 = omega arith
+
+    p4 : 0 + a .loss ≡ a .loss
+    p4 = omega arith
+
+    p5 : 0 + a .fault ≡ a .fault
+    p5 = omega arith
+
+swap : (x y z : ℕ) → x + y + z ≡ y + (x + z)
+swap x y z = omega arith
+
+plus-add : (k : Class) (a b : Counts) → plus (add k a) b ≡ plus a (add k b)
+plus-add k a b = (λ j. record {
+  sent = swap (bit (isClass k sent)) (a .sent) (b .sent) j;
+  deduplicated = swap (bit (isClass k deduplicated)) (a .deduplicated) (b .deduplicated) j;
+  partition = swap (bit (isClass k partition)) (a .partition) (b .partition) j;
+  loss = swap (bit (isClass k loss)) (a .loss) (b .loss) j;
+  fault = swap (bit (isClass k fault)) (a .fault) (b .fault) j;
+})
+
+total-add : (k : Class) (a : Counts) → total (add k a) ≡ total a + 1
+total-add deduplicated a = omega arith
+total-add partition a = omega arith
+total-add loss a = omega arith
+total-add fault a = omega arith
+total-add sent a = omega arith
+
+module _ (setup tills keys prices blocks net₀ words₀ seen₀ waiting₀ rings₀ rules₀ : List ℕ) (m : Message) where
+  -- what was done, with what is left, is all of it
+  unfoldable pub Done : (net words seen waiting rings rules : List ℕ) (c : counts.Counts) (to : ℕ) → Type 0
+  Done net words seen waiting rings rules c to =
+      (names log : List ℕ) → let T₀ = tablesOf setup net₀ names tills words₀ keys prices seen₀ waiting₀ rings₀ rules₀ blocks log in
+      let T = tablesOf setup net names tills words keys prices seen waiting rings rules blocks log in
+      (acceptT (openingAt T₀) (told m) T (left setup tills m to) ≡ acceptT (openingAt T₀) (told m) T₀ (left setup tills m 0))
+      × (plus (countsOf c) (tally (booked (openingAt T₀) (told m) (live (sizesAt setup) T) (left setup tills m to))) ≡ tally (booked (openingAt T₀) (told m) (live (sizesAt setup) T₀) (left setup tills m 0)))
+
+  pub done-none : (c : counts.Counts) → countsOf c ≡ noCounts → Done net₀ words₀ seen₀ waiting₀ rings₀ rules₀ c 0
+  unfolding Done
+  done-none c e = λ names log.
+      let T₀ = tablesOf setup net₀ names tills words₀ keys prices seen₀ waiting₀ rings₀ rules₀ blocks log in
+      let t = tally (booked (openingAt T₀) (told m) (live (sizesAt setup) T₀) (left setup tills m 0)) in
+      (refl, ap (λ (a : Counts). plus a t) e ∙ none-plus t)
+
+  module _ (net words seen waiting rings rules net′ words′ seen′ waiting′ rings′ rules′ : List ℕ) (c n : counts.Counts) (to : ℕ)
+      (F : Fixed setup tills keys prices blocks) (R : Ranged setup m) (class : m .class < sizesAt setup .classes) (G : Going setup net tills words seen waiting rings rules m to) (b : to < sizesAt setup .tills)
+      (turned : Turned setup tills keys prices blocks net words seen waiting rings rules net′ words′ seen′ waiting′ rings′ rules′ m to c n) where
+    pub going-more : Going setup net′ tills words′ seen′ waiting′ rings′ rules′ m (to + 1)
+    unfolding Turned
+    going-more = go (selectsAt tills (m .scope) (m .from) to) refl (turned [] [] .0)
+      where
+        go : (v : Bool) → selectsAt tills (m .scope) (m .from) to ≡ v → tablesOf setup net′ [] tills words′ keys prices seen′ waiting′ rings′ rules′ blocks [] ≡ cond v (offeredT (openingAt (tablesOf setup net [] tills words keys prices seen waiting rings rules blocks [])) (told m) (tablesOf setup net [] tills words keys prices seen waiting rings rules blocks []) to) (tablesOf setup net [] tills words keys prices seen waiting rings rules blocks []) → Going setup net′ tills words′ seen′ waiting′ rings′ rules′ m (to + 1)
+        go true e q = subst (λ (x : Tables). Going setup (x .net) tills (x .words) (x .seen) (x .waiting) (x .rings) (x .rules) m (to + 1)) (sym q) (goes-on setup net [] tills words keys prices seen waiting rings rules blocks [] m to F R G b e class)
+        go false e q = subst (λ (x : Tables). Going setup (x .net) tills (x .words) (x .seen) (x .waiting) (x .rings) (x .rules) m (to + 1)) (sym q) (passes-on setup net [] tills words keys prices seen waiting rings rules blocks [] m to F R G b e)
+
+    pub total-more : total (countsOf c) ≤ to → total (countsOf n) ≤ to + 1
+    unfolding Turned
+    total-more h = go (selectsAt tills (m .scope) (m .from) to) (classOf (openingAt (tablesOf setup net [] tills words keys prices seen waiting rings rules blocks [])) (told m) (live (sizesAt setup) (tablesOf setup net [] tills words keys prices seen waiting rings rules blocks [])) to) (turned [] [] .1)
+      where
+        go : (v : Bool) (k : Class) → countsOf n ≡ cond v (add k (countsOf c)) (countsOf c) → total (countsOf n) ≤ to + 1
+        go true k q = omega (arith, ap total q, total-add k (countsOf c))
+        go false k q = omega (arith, ap total q)
+
+    pub done-more : Done net words seen waiting rings rules c to → Done net′ words′ seen′ waiting′ rings′ rules′ n (to + 1)
+    unfolding Done Turned
+    done-more d = λ names log. go names log (selectsAt tills (m .scope) (m .from) to) refl (turned names log .0) (turned names log .1)
+      where
+        go : (names log : List ℕ) (v : Bool) → selectsAt tills (m .scope) (m .from) to ≡ v
+            → tablesOf setup net′ names tills words′ keys prices seen′ waiting′ rings′ rules′ blocks log ≡ cond v (offeredT (openingAt (tablesOf setup net names tills words keys prices seen waiting rings rules blocks log)) (told m) (tablesOf setup net names tills words keys prices seen waiting rings rules blocks log) to) (tablesOf setup net names tills words keys prices seen waiting rings rules blocks log)
+            → countsOf n ≡ cond v (add (classOf (openingAt (tablesOf setup net names tills words keys prices seen waiting rings rules blocks log)) (told m) (live (sizesAt setup) (tablesOf setup net names tills words keys prices seen waiting rings rules blocks log)) to) (countsOf c)) (countsOf c)
+            → (acceptT (openingAt (tablesOf setup net₀ names tills words₀ keys prices seen₀ waiting₀ rings₀ rules₀ blocks log)) (told m) (tablesOf setup net′ names tills words′ keys prices seen′ waiting′ rings′ rules′ blocks log) (left setup tills m (to + 1)) ≡ acceptT (openingAt (tablesOf setup net₀ names tills words₀ keys prices seen₀ waiting₀ rings₀ rules₀ blocks log)) (told m) (tablesOf setup net₀ names tills words₀ keys prices seen₀ waiting₀ rings₀ rules₀ blocks log) (left setup tills m 0))
+            × (plus (countsOf n) (tally (booked (openingAt (tablesOf setup net₀ names tills words₀ keys prices seen₀ waiting₀ rings₀ rules₀ blocks log)) (told m) (live (sizesAt setup) (tablesOf setup net′ names tills words′ keys prices seen′ waiting′ rings′ rules′ blocks log)) (left setup tills m (to + 1)))) ≡ tally (booked (openingAt (tablesOf setup net₀ names tills words₀ keys prices seen₀ waiting₀ rings₀ rules₀ blocks log)) (told m) (live (sizesAt setup) (tablesOf setup net₀ names tills words₀ keys prices seen₀ waiting₀ rings₀ rules₀ blocks log)) (left setup tills m 0)))
+        go names log true e q k =
+            let T = tablesOf setup net names tills words keys prices seen waiting rings rules blocks log in
+            let o : Opening = openingAt T in
+            let s : Live = live (sizesAt setup) T in
+            let ts : List ℕ = left setup tills m (to + 1) in
+            let r : left setup tills m to ≡ to ∷ ts = rest-on (λ t. selectsAt tills (m .scope) (m .from) t) (sizesAt setup .tills) to b e in
+            let p : live (sizesAt setup) (offeredT o (told m) T to) ≡ offered o (told m) s to = live-after setup net names tills words keys prices seen waiting rings rules blocks log m to F R G b e class in (
+              ap (λ (x : Tables). acceptT o (told m) x ts) q ∙ ap (acceptT o (told m) T) (sym r) ∙ d names log .0,
+              (λ j. plus (k j) (tally (booked o (told m) ((ap (live (sizesAt setup)) q ∙ p) j) ts)))
+                  ∙ plus-add (classOf o (told m) s to) (countsOf c) (tally (booked o (told m) (offered o (told m) s to) ts))
+                  ∙ ap (λ (l : List ℕ). plus (countsOf c) (tally (booked o (told m) s l))) (sym r)
+                  ∙ d names log .1,
+            )
+        go names log false e q k =
+            let T = tablesOf setup net names tills words keys prices seen waiting rings rules blocks log in
+            let o : Opening = openingAt T in
+            let r : left setup tills m to ≡ left setup tills m (to + 1) = rest-off (λ t. selectsAt tills (m .scope) (m .from) t) (sizesAt setup .tills) to b e in (
+              (λ j. acceptT o (told m) (q j) (sym r j)) ∙ d names log .0,
+              (λ j. plus (k j) (tally (booked o (told m) (live (sizesAt setup) (q j)) (sym r j)))) ∙ d names log .1,
+            )
+
+  pub done-all : (net words seen waiting rings rules : List ℕ) (c : counts.Counts) (to : ℕ) → sizesAt setup .tills ≤ to → Done net words seen waiting rings rules c to
+      → Served setup tills keys prices blocks net₀ words₀ seen₀ waiting₀ rings₀ rules₀ net words seen waiting rings rules m c
+  unfolding Done Served
+  done-all net words seen waiting rings rules c to h d = λ names log.
+      let T₀ = tablesOf setup net₀ names tills words₀ keys prices seen₀ waiting₀ rings₀ rules₀ blocks log in
+      let T = tablesOf setup net names tills words keys prices seen waiting rings rules blocks log in
+      let r : left setup tills m to ≡ [] = rest-end (λ t. selectsAt tills (m .scope) (m .from) t) (sizesAt setup .tills) to h in (
+        ap (acceptT (openingAt T₀) (told m) T) (sym r) ∙ d names log .0,
+        sym (plus-none (countsOf c)) ∙ ap (λ (l : List ℕ). plus (countsOf c) (tally (booked (openingAt T₀) (told m) (live (sizesAt setup) T) l))) (sym r) ∙ d names log .1,
+      )

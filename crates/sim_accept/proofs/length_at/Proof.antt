@@ -1,0 +1,24 @@
+use borrow.Author.Needs.{needs}
+use native.Mathlib.Omega.{arith}
+use Prim.Native.Nat.{_≤_}
+use mathlib.Core.Path.{_≡_, sym}
+use lib.ListN.{List·getD-eq-default}
+use Rattle.sim_accept.proofs.length_at.Statement.{statement}
+use Rattle.sim_accept.proofs.length_at.Tie as tie
+
+shared-slice-read-result : tie.Need-shared-slice-read-result
+shared-slice-read-result c = search needs
+
+returns : tie.Need-returns
+returns c = search needs
+
+returns-2 : tie.Need-returns-2
+returns-2 c = sym (List·getD-eq-default (c .before .args .names .now) 0 (c .if1 .left))
+
+pub length-at-spec : {M : Type 1} → statement M
+length-at-spec =
+    tie.close
+    (tie.spec
+    shared-slice-read-result
+    returns
+    returns-2)

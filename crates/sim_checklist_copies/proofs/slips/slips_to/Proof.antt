@@ -1,0 +1,48 @@
+use native.Mathlib.Omega.{arith}
+use borrow.Author.Needs.{needs}
+use Prim.Native.Nat.{_≤_, _-_}
+use lib.ListN.{length}
+use mathlib.Core.Path.{_≡_, refl}
+use Rattle.sim_checklist_copies.proofs.slips.slips_to.Statement.{statement}
+use Rattle.sim_checklist_copies.proofs.slips.slips_to.Tie as tie
+
+abbrev Inv-loop : tie.InvT-loop
+Inv-loop figures buf₀ used n u₀ t₀ buf u t = (t ≤ n) × (length buf ≡ length buf₀)
+
+abbrev μ-loop : tie.MeasureT-loop
+μ-loop figures buf₀ used n u₀ t₀ buf u t = n - t
+
+loop-holds : tie.Need-loop-holds Inv-loop μ-loop
+loop-holds c = (omega arith, refl)
+
+slip-requires : tie.Need-slip-requires Inv-loop μ-loop
+slip-requires c κs = search needs
+
+add-t : tie.Need-add-t Inv-loop μ-loop
+add-t c = search needs
+
+loop-less : tie.Need-loop-less Inv-loop μ-loop
+loop-less c = search needs
+
+loop-again : tie.Need-loop-again Inv-loop μ-loop
+loop-again c = (omega arith, search needs)
+
+same-length : tie.Need-same-length Inv-loop μ-loop
+same-length c = search needs
+
+returns : tie.Need-returns Inv-loop μ-loop
+returns c = tt
+
+pub slips-to-spec : {M : Type 1} → statement M
+slips-to-spec =
+    tie.close
+    (tie.spec
+    Inv-loop
+    μ-loop
+    loop-holds
+    slip-requires
+    add-t
+    loop-less
+    loop-again
+    same-length
+    returns)

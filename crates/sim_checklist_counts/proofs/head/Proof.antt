@@ -1,0 +1,89 @@
+use native.Mathlib.Omega.{arith}
+use borrow.Author.Needs.{needs}
+use Rattle.sim_checklist_counts.proofs.head.Statement.{statement}
+use Rattle.sim_checklist_counts.proofs.head.Tie as tie
+
+slice-aggregate-say : tie.Need-slice-aggregate-say
+slice-aggregate-say c = search needs
+
+say-requires : tie.Need-say-requires
+say-requires c κs = search needs
+
+slice-aggregate-line : tie.Need-slice-aggregate-line
+slice-aggregate-line c = search needs
+
+get-requires : tie.Need-get-requires
+get-requires c κs = search needs
+
+line-requires : tie.Need-line-requires
+line-requires c κs = search needs
+
+slice-aggregate-line-2 : tie.Need-slice-aggregate-line-2
+slice-aggregate-line-2 c = search needs
+
+get-requires-2 : tie.Need-get-requires-2
+get-requires-2 c κs = search needs
+
+line-requires-2 : tie.Need-line-requires-2
+line-requires-2 c κs = search needs
+
+slice-aggregate-line-3 : tie.Need-slice-aggregate-line-3
+slice-aggregate-line-3 c = search needs
+
+get-requires-3 : tie.Need-get-requires-3
+get-requires-3 c κs = search needs
+
+line-requires-3 : tie.Need-line-requires-3
+line-requires-3 c κs = search needs
+
+slice-aggregate-line-4 : tie.Need-slice-aggregate-line-4
+slice-aggregate-line-4 c = search needs
+
+sum-requires : tie.Need-sum-requires
+sum-requires c κs = search needs
+
+line-requires-4 : tie.Need-line-requires-4
+line-requires-4 c κs = search needs
+
+refusals-requires : tie.Need-refusals-requires
+refusals-requires c κs = search needs
+
+slice-aggregate-line-5 : tie.Need-slice-aggregate-line-5
+slice-aggregate-line-5 c = search needs
+
+differ-requires : tie.Need-differ-requires
+differ-requires c κs = search needs
+
+line-requires-5 : tie.Need-line-requires-5
+line-requires-5 c κs = search needs
+
+same-length : tie.Need-same-length
+same-length c = omega (arith, c .before .before .line5 .kept .0, c .before .before .before .before .before .before .before .before .refusals .kept .1 .0, c .before .before .before .before .before .before .before .before .before .before .before .before .line4 .kept .0, c .before .before .before .before .before .before .before .before .before .before .before .before .before .before .before .before .before .before .line3 .kept .0, c .before .before .before .before .before .before .before .before .before .before .before .before .before .before .before .before .before .before .before .before .before .before .before .before .line2 .kept .0, c .before .before .before .before .before .before .before .before .before .before .before .before .before .before .before .before .before .before .before .before .before .before .before .before .before .before .before .before .before .before .line .kept .0, c .before .before .before .before .before .before .before .before .before .before .before .before .before .before .before .before .before .before .before .before .before .before .before .before .before .before .before .before .before .before .before .before .before .before .before .before .say .kept .0)
+
+returns : tie.Need-returns
+returns c = search needs
+
+pub head-spec : {M : Type 1} → statement M
+head-spec =
+    tie.close
+    (tie.spec
+    slice-aggregate-say
+    say-requires
+    slice-aggregate-line
+    get-requires
+    line-requires
+    slice-aggregate-line-2
+    get-requires-2
+    line-requires-2
+    slice-aggregate-line-3
+    get-requires-3
+    line-requires-3
+    slice-aggregate-line-4
+    sum-requires
+    line-requires-4
+    refusals-requires
+    slice-aggregate-line-5
+    differ-requires
+    line-requires-5
+    same-length
+    returns)

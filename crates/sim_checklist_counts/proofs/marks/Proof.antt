@@ -1,0 +1,93 @@
+use native.Mathlib.Omega.{arith}
+use borrow.Author.Needs.{needs}
+use Rattle.sim_checklist_counts.proofs.marks.Statement.{statement}
+use Rattle.sim_checklist_counts.proofs.marks.Tie as tie
+
+slice-aggregate-say : tie.Need-slice-aggregate-say
+slice-aggregate-say c = search needs
+
+say-requires : tie.Need-say-requires
+say-requires c κs = search needs
+
+slice-aggregate-line : tie.Need-slice-aggregate-line
+slice-aggregate-line c = search needs
+
+get-requires : tie.Need-get-requires
+get-requires c κs = search needs
+
+line-requires : tie.Need-line-requires
+line-requires c κs = search needs
+
+slice-aggregate-line-2 : tie.Need-slice-aggregate-line-2
+slice-aggregate-line-2 c = search needs
+
+get-requires-2 : tie.Need-get-requires-2
+get-requires-2 c κs = search needs
+
+line-requires-2 : tie.Need-line-requires-2
+line-requires-2 c κs = search needs
+
+slice-aggregate-line-3 : tie.Need-slice-aggregate-line-3
+slice-aggregate-line-3 c = search needs
+
+get-requires-3 : tie.Need-get-requires-3
+get-requires-3 c κs = search needs
+
+line-requires-3 : tie.Need-line-requires-3
+line-requires-3 c κs = search needs
+
+marks-requires : tie.Need-marks-requires
+marks-requires c κs = search needs
+
+slice-aggregate-compared : tie.Need-slice-aggregate-compared
+slice-aggregate-compared c = search needs
+
+slice-aggregate-compared-2 : tie.Need-slice-aggregate-compared-2
+slice-aggregate-compared-2 c = search needs
+
+compared-requires : tie.Need-compared-requires
+compared-requires c κs = search needs
+
+cleared-requires : tie.Need-cleared-requires
+cleared-requires c κs = search needs
+
+slice-aggregate-bounded : tie.Need-slice-aggregate-bounded
+slice-aggregate-bounded c = search needs
+
+slice-aggregate-bounded-2 : tie.Need-slice-aggregate-bounded-2
+slice-aggregate-bounded-2 c = search needs
+
+bounded-requires : tie.Need-bounded-requires
+bounded-requires c κs = search needs
+
+same-length : tie.Need-same-length
+same-length c = omega (arith, c .before .before .bounded .kept .0, c .before .before .before .before .before .before .before .before .before .compared .kept .0, c .before .before .before .before .before .before .before .before .before .before .before .before .before .before .before .before .line3 .kept .0, c .before .before .before .before .before .before .before .before .before .before .before .before .before .before .before .before .before .before .before .before .before .before .line2 .kept .0, c .before .before .before .before .before .before .before .before .before .before .before .before .before .before .before .before .before .before .before .before .before .before .before .before .before .before .before .before .line .kept .0, c .before .before .before .before .before .before .before .before .before .before .before .before .before .before .before .before .before .before .before .before .before .before .before .before .before .before .before .before .before .before .before .before .before .before .say .kept .0)
+
+returns : tie.Need-returns
+returns c = search needs
+
+pub marks-spec : {M : Type 1} → statement M
+marks-spec =
+    tie.close
+    (tie.spec
+    slice-aggregate-say
+    say-requires
+    slice-aggregate-line
+    get-requires
+    line-requires
+    slice-aggregate-line-2
+    get-requires-2
+    line-requires-2
+    slice-aggregate-line-3
+    get-requires-3
+    line-requires-3
+    marks-requires
+    slice-aggregate-compared
+    slice-aggregate-compared-2
+    compared-requires
+    cleared-requires
+    slice-aggregate-bounded
+    slice-aggregate-bounded-2
+    bounded-requires
+    same-length
+    returns)

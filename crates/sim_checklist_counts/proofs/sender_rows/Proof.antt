@@ -1,0 +1,48 @@
+use native.Mathlib.Omega.{arith}
+use borrow.Author.Needs.{needs}
+use Prim.Native.Nat.{_≤_, _-_}
+use lib.ListN.{length}
+use mathlib.Core.Path.{_≡_, refl}
+use Rattle.sim_checklist_counts.proofs.sender_rows.Statement.{statement}
+use Rattle.sim_checklist_counts.proofs.sender_rows.Tie as tie
+
+abbrev Inv-loop : tie.InvT-loop
+Inv-loop figures buf₀ used tills u₀ t₀ buf u t = (t ≤ tills) × (length buf ≡ length buf₀)
+
+abbrev μ-loop : tie.MeasureT-loop
+μ-loop figures buf₀ used tills u₀ t₀ buf u t = tills - t
+
+loop-holds : tie.Need-loop-holds Inv-loop μ-loop
+loop-holds c = (omega arith, refl)
+
+sender-row-requires : tie.Need-sender-row-requires Inv-loop μ-loop
+sender-row-requires c κs = search needs
+
+add-t : tie.Need-add-t Inv-loop μ-loop
+add-t c = search needs
+
+loop-less : tie.Need-loop-less Inv-loop μ-loop
+loop-less c = search needs
+
+loop-again : tie.Need-loop-again Inv-loop μ-loop
+loop-again c = (omega arith, search needs)
+
+same-length : tie.Need-same-length Inv-loop μ-loop
+same-length c = search needs
+
+returns : tie.Need-returns Inv-loop μ-loop
+returns c = tt
+
+pub sender-rows-spec : {M : Type 1} → statement M
+sender-rows-spec =
+    tie.close
+    (tie.spec
+    Inv-loop
+    μ-loop
+    loop-holds
+    sender-row-requires
+    add-t
+    loop-less
+    loop-again
+    same-length
+    returns)

@@ -1,0 +1,22 @@
+use Rattle.sim_figures.proofs.Laws.{up}
+use borrow.Author.Needs.{needs}
+use Rattle.sim_figures.proofs.came_up.Statement.{statement}
+use Rattle.sim_figures.proofs.came_up.Tie as tie
+
+till-row-requires : tie.Need-till-row-requires
+till-row-requires c κs = search needs
+
+add-put : tie.Need-add-put
+add-put c = search needs
+
+put-requires : tie.Need-put-requires
+put-requires c κs = search needs
+
+same-length : tie.Need-same-length
+same-length c = search needs
+
+returns : tie.Need-returns
+returns c = up _ _ _ _ _ (c .before .before .before .till-row .ensures .0) (c .before .before .put .ensures)
+
+pub came-up-spec : {M : Type 1} → statement M
+came-up-spec = tie.close (tie.spec till-row-requires add-put put-requires same-length returns)

@@ -1,0 +1,26 @@
+use Rattle.sim_figures.proofs.Laws.{classed}
+use borrow.Author.Needs.{needs}
+use Rattle.sim_figures.proofs.note_class.Statement.{statement}
+use Rattle.sim_figures.proofs.note_class.Tie as tie
+
+class-row-requires : tie.Need-class-row-requires
+class-row-requires c κs = search needs
+
+add-requires : tie.Need-add-requires
+add-requires c κs = search needs
+
+add-add : tie.Need-add-add
+add-add c = search needs
+
+add-requires-2 : tie.Need-add-requires-2
+add-requires-2 c κs = search needs
+
+same-length : tie.Need-same-length
+same-length c = search needs
+
+returns : tie.Need-returns
+returns c = classed _ _ _ _ _ _ (c .before .before .before .before .before .before .before .before .class-row .ensures .0) (c .before .before .before .before .before .before .add .ensures) (c .before .before .add2 .ensures)
+
+pub note-class-spec : {M : Type 1} → statement M
+note-class-spec =
+    tie.close (tie.spec class-row-requires add-requires add-add add-requires-2 same-length returns)

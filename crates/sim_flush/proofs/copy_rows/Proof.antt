@@ -1,0 +1,56 @@
+use native.Mathlib.Omega.{arith}
+use mathlib.Core.Path.{_≡_, refl}
+use lib.ListN.{length}
+use borrow.Author.Needs.{needs}
+use Prim.Native.Nat.{_-_}
+use Rattle.sim_flush.proofs.copy_rows.Statement.{statement}
+use Rattle.sim_flush.proofs.copy_rows.Tie as tie
+use Rattle.sim_flush.proofs.copy_rows.Reads as reads
+use Rattle.sim_flush.proofs.copy_rows.Lts as lts
+use Rattle.sim_flush.proofs.copy_row.Reads as copy-row-reads
+use Rattle.std.proofs.num.wrapping_add_usize.Reads as wrapping-add-usize-reads
+
+abbrev Inv-loop : tie.InvT-loop
+Inv-loop to₀ from n row₀ i₀ to row i = (length to ≡ length to₀)
+
+abbrev μ-loop : tie.MeasureT-loop
+μ-loop to₀ from n row₀ i₀ to row i = n - i
+
+loop-holds : tie.Need-loop-holds Inv-loop μ-loop
+loop-holds c = search needs
+
+copy-row-requires : tie.Need-copy-row-requires Inv-loop μ-loop
+copy-row-requires c κs = search needs
+
+wrapping-add-usize-requires : tie.Need-wrapping-add-usize-requires Inv-loop μ-loop
+wrapping-add-usize-requires c κs = search needs
+
+add-i : tie.Need-add-i Inv-loop μ-loop
+add-i c = search needs
+
+loop-less : tie.Need-loop-less Inv-loop μ-loop
+loop-less c = search needs
+
+loop-again : tie.Need-loop-again Inv-loop μ-loop
+loop-again c = search needs
+
+same-length : tie.Need-same-length Inv-loop μ-loop
+same-length c = search needs
+
+returns : tie.Need-returns Inv-loop μ-loop
+returns c = search needs
+
+pub copy-rows-spec : {M : Type 1} → statement M
+copy-rows-spec =
+    tie.close
+    (tie.spec
+    Inv-loop
+    μ-loop
+    loop-holds
+    copy-row-requires
+    wrapping-add-usize-requires
+    add-i
+    loop-less
+    loop-again
+    same-length
+    returns)

@@ -1,0 +1,272 @@
+-- Demand 3 is met: for every accepted opening and every list of calls.
+use mathlib.Core.Path.{_≡_, refl, sym, ap, _∙_, subst}
+use Prim.Native.Nat.{ℕ, zero, suc, _+_}
+use native.Mathlib.Omega.{arith}
+use mathlib.Core.Bool.{Bool, true, false, cond, _&&_, false≢true}
+use mathlib.Core.List.{List, [], _∷_, _++_, reverseAux}
+use lib.ListN.{length, drop}
+use Rattle.table_waiting.proofs.Order.{front-all}
+use Rattle.table_marks.specs.Marks.{listed}
+use Rattle.spec_network.specs.Lists.{count}
+use Rattle.spec_network.specs.Opening.{Settings, Opening}
+use Rattle.spec_network.specs.Marking.{plain, table}
+use Rattle.spec_network.specs.Live.{Live, LiveBy, plainly, openingLive}
+use Rattle.spec_network.specs.Accept.{messageOf, selected, booked, noCounts, tally, total}
+use Rattle.spec_network.specs.Flush.{handled}
+use Rattle.spec_network.specs.Calls.{Call, Answer, liveStep, answerOf, countsIn, rowsIn, deliveredIn, dropsIn, accept, flush, takeDown, bringUp, handlers, block, blockDuring, unblock, install, remove, decide, drain, reading}
+use Rattle.spec_network.specs.Questions.{Asked, Room, alone, askedIn, asked, firstNo, answerTo}
+use Rattle.spec_network.specs.Tables.{Tables, sizesAt, live}
+use Rattle.spec_network.specs.Real.{openingOf, openingAt}
+use Rattle.spec_network.specs.Lent.{question1}
+use Rattle.spec_network.specs.Writes.{Reply, isNumber, numberIn, exitT, answerT, tablesIn, replyIn, outputOf, callReply, roomReply}
+use Rattle.spec_network.specs.Open.{askedOpening, openNumber, openTables, openExit}
+use Rattle.spec_book.specs.Book.{Book, landedIn, droppedIn, bookStep, expected, opened}
+use Rattle.spec_book.specs.History.{hasSequence}
+use Rattle.spec_book.specs.Demand3.{Item, own, others, reopen, Admitted, AllAdmitted, replyTo, tablesAfter, tablesAtEnd, refused, Kept, copiesOf, bookAfter, expectedOf, bookAtEnd, OnlyNo, NumberIs, SumOf, isDrain, logFrom, LogOf, CallHolds, CallsHold, BookHolds, Demand3, Run, tablesAfterRun, Accepted, EveryList}
+use Rattle.spec_book.proofs.Marks.{two-originals}
+use Rattle.spec_book.proofs.Sound.{SoundBook, book-sound, opened-sound}
+use Rattle.spec_book.proofs.Plain as marks
+use Rattle.spec_book.proofs.Sums.{booked-tills, booked-total}
+use Rattle.spec_book.proofs.Moves.{book-rows, book-drops, book-delivered, book-log, quiet}
+use Rattle.spec_book.proofs.Asking.{first-no, apart-in, apart, apart-opening}
+use Rattle.spec_book.proofs.Fitting.{Limited}
+use Rattle.spec_book.proofs.StepFits.{step-fits}
+use Rattle.spec_book.proofs.Formed.{Fixed}
+use Rattle.spec_book.proofs.Simulation.{step-wrote}
+use Rattle.spec_book.proofs.Unwritten.{same-step}
+use Rattle.spec_book.proofs.Held.{Held, yes1}
+use Rattle.spec_book.proofs.Start.{limited, open-held}
+
+-- the tables hold a live part, and it is the book's once its marks are plain
+pub record Bears (o : Opening) (T : Tables) (b : Book) : Type 0 where
+  pub kept : Live
+  pub held : Held o T kept
+  pub same : plainly kept ≡ b .live
+
+module _ (o : Opening) where
+  -- ---- One call: the contracts speak of the book's opening
+
+  module _ (room : Room) (T : Tables) (b : Book) (h : Bears o T b) (c : Call) where
+    pub reply-is : roomReply room T c ≡ replyIn o room T c
+    reply-is = ap (λ (q : Opening). replyIn q room T c) (h .held .fixed .opening)
+
+    -- the questions of the tables are those of the book
+    pub asked-is : askedIn o room (h .kept) c ≡ askedIn o room (b .live) c
+    asked-is = marks.same-asked o (h .kept) (h .held .fits .ordered) room c ∙ ap (λ (q : LiveBy plain). askedIn o room q c) (h .same)
+
+    pub number-kept : numberIn o room T c ≡ firstNo (askedIn o room (h .kept) c)
+    number-kept = rw (yes1 o T (h .kept) (h .held) c) (ap (λ (q : Live). firstNo (askedIn o room q c)) (h .held .wrote .holds))
+
+    pub number-is : numberIn o room T c ≡ firstNo (askedIn o room (b .live) c)
+    number-is = number-kept ∙ ap firstNo asked-is
+
+  pub answer-is : (T : Tables) (b : Book) (h : Bears o T b) (c : Call) (r : Bool) → answerT o r T c ≡ expected o b c r
+  answer-is T b h c true = refl
+  answer-is T b h c false =
+      ap (λ (s : Live). answerOf o s c) (h .held .wrote .holds) ∙ marks.same-answer o (h .kept) (h .held .fits .ordered) c ∙ ap (λ (q : LiveBy plain). answerOf o q c) (h .same)
+
+  held-step : Limited (o .sizes) → (room : Room) (T : Tables) (b : Book) (c : Call) (h : Bears o T b) → (n : ℕ) → n ≡ firstNo (askedIn o room (h .kept) c)
+      → Bears o (exitT o (isNumber n) T c) (bookStep o b c (isNumber n))
+  held-step lim room T b c h zero e = record {
+    kept = liveStep o (h .kept) c;
+    held = record {
+      fixed = subst (Fixed o) (sym (same-step o T c)) (h .held .fixed);
+      wrote = step-wrote o lim room c T (h .kept) (h .held .wrote) (h .held .fits) (sym e);
+      fits = step-fits o lim room (h .kept) c (sym e) (h .held .fits);
+    };
+    same = marks.same-step o (h .kept) (h .held .fits .ordered) c ∙ ap (λ (q : LiveBy plain). liveStep o q c) (h .same);
+  }
+  held-step lim room T b c h (suc n) e = h
+
+  -- ---- What holds of each call
+
+  same-answer : (b : Book) (T : Tables) (i : Item) → Bears o T b → Admitted i → replyTo T i .answer ≡ expectedOf o b T i
+  same-answer b T (own room c) h a =
+      ap (λ (r : Reply). r .answer) (reply-is room T b h c)
+      ∙ answer-is T b h c (isNumber (numberIn o room T c))
+      ∙ ap (λ (r : Reply). expected o b c (isNumber (r .number))) (sym (reply-is room T b h c))
+  same-answer b T (others X c) h a = rw a
+  same-answer b T (reopen X y ms) h a = refl
+
+  only-own : (room : Room) (b : Book) (c : Call) (n : ℕ) → n ≡ firstNo (askedIn o room (b .live) c) → OnlyNo o b (own room c) n
+  only-own room b c zero h = tt
+  only-own room b c (suc n) h = rw h (first-no (askedIn o room (b .live) c) (apart-in o room (b .live) c) (λ e. omega arith))
+
+  -- question 1, of the tables or of the output
+  only-others : (X : Tables) (c : Call) → callReply X c .number ≡ 1 → (question1 (sizesAt (X .setup)) X c && answerTo (asked (openingAt X) (live (sizesAt (X .setup)) X) c) 1) ≡ false
+  only-others X c a = go (question1 (sizesAt (X .setup)) X c) a
+    where
+      qs : List Asked
+      qs = asked (openingAt X) (live (sizesAt (X .setup)) X) c
+
+      go : (q : Bool) → cond q (firstNo qs) 1 ≡ 1 → (q && answerTo qs 1) ≡ false
+      go true h = subst (λ (n : ℕ). answerTo qs n ≡ false) h (first-no qs (apart (openingAt X) (live (sizesAt (X .setup)) X) c) (λ e. omega (arith, h, e)))
+      go false h = refl
+
+  only-reopen : (b : Book) (X : Tables) (y : Settings) (ms : List ℕ) (n : ℕ) → n ≡ openNumber y ms X → OnlyNo o b (reopen X y ms) n
+  only-reopen b X y ms zero h = tt
+  only-reopen b X y ms (suc n) h = rw h (first-no (askedOpening y ms X) (apart-opening y ms X) (λ e. omega arith))
+
+  number-of : (b : Book) (T : Tables) (i : Item) → Bears o T b → Admitted i → NumberIs o b i (replyTo T i .number)
+  number-of b T (own room c) h a = ap (λ (r : Reply). r .number) (reply-is room T b h c) ∙ number-is room T b h c
+  number-of b T (others X c) h a = a
+  number-of b T (reopen X y ms) h a = refl
+
+  only-no : (b : Book) (T : Tables) (i : Item) → Bears o T b → Admitted i → OnlyNo o b i (replyTo T i .number)
+  only-no b T (own room c) h a = only-own room b c (roomReply room T c .number) (number-of b T (own room c) h a)
+  only-no b T (others X c) h a = rw a (refl, only-others X c a)
+  only-no b T (reopen X y ms) h a = only-reopen b X y ms (openNumber y ms X) refl
+
+  -- a refused call leaves what it was lent as found
+  call-kept : (p : Opening) (T : Tables) (c : Call) (r : Bool) → r ≡ true → (exitT p r T c ≡ T) × ((out : List ℕ) → outputOf (answerT p r T c) ++ drop (length (outputOf (answerT p r T c))) out ≡ out)
+  call-kept p T c true h = (refl, λ out. refl)
+  call-kept p T c false h = absurd (false≢true h)
+
+  reopen-kept : (X : Tables) (y : Settings) (ms : List ℕ) (n : ℕ) → (n ≡ 0 → ⊥) → openExit y ms X n ≡ X
+  reopen-kept X y ms zero h = absurd (h refl)
+  reopen-kept X y ms (suc n) h = refl
+
+  kept : (T : Tables) (i : Item) → Admitted i → Kept T i
+  kept T (own room c) a = λ r. call-kept (openingAt T) T c (isNumber (numberIn (openingAt T) room T c)) r
+  kept T (others X c) a = call-kept (openingAt X) X c (isNumber (numberIn (openingAt X) alone X c)) (rw a)
+  kept T (reopen X y ms) a = reopen-kept X y ms (openNumber y ms X) a
+
+  -- calls other than an accept count nothing
+  none : (room : Room) (b : Book) (T : Tables) (c : Call) → Bears o T b → countsIn (answerOf o (b .live) c) ≡ noCounts → countsIn (roomReply room T c .answer) ≡ noCounts
+  none room b T c h e = ap countsIn (same-answer b T (own room c) h tt) ∙ go (refused T (own room c))
+    where
+      go : (r : Bool) → countsIn (expected o b c r) ≡ noCounts
+      go true = refl
+      go false = e
+
+  sum : (b : Book) (T : Tables) (i : Item) → Bears o T b → Admitted i → SumOf o b i (replyTo T i)
+  sum b T (own room (accept e true)) h a = λ z.
+      let c = accept e true in
+      let ts = selected o (b .live) (e .scope) (e .from) in
+      let m = messageOf o e in
+      let n : countsIn (roomReply room T c .answer) ≡ tally (booked o m (b .live) ts) =
+      ap countsIn (same-answer b T (own room c) h tt) ∙ ap (λ (k : ℕ). countsIn (expected o b c (isNumber k))) z in
+      record { each-once = booked-tills o m (b .live) ts; counts = n; sum = ap total n ∙ booked-total o m (b .live) ts }
+  sum b T (own room (accept e false)) h a = none room b T (accept e false) h refl
+  sum b T (own room (flush now rows)) h a = none room b T (flush now rows) h refl
+  sum b T (own room (takeDown t)) h a = none room b T (takeDown t) h refl
+  sum b T (own room (bringUp t shards)) h a = none room b T (bringUp t shards) h refl
+  sum b T (own room (handlers t gossip host)) h a = none room b T (handlers t gossip host) h refl
+  sum b T (own room (block from to)) h a = none room b T (block from to) h refl
+  sum b T (own room (blockDuring from to start end)) h a = none room b T (blockDuring from to start end) h refl
+  sum b T (own room (unblock from to)) h a = none room b T (unblock from to) h refl
+  sum b T (own room (install card)) h a = none room b T (install card) h refl
+  sum b T (own room (remove id)) h a = none room b T (remove id) h refl
+  sum b T (own room (decide x)) h a = none room b T (decide x) h refl
+  sum b T (own room (drain rows)) h a = none room b T (drain rows) h refl
+  sum b T (own room (reading x)) h a = none room b T (reading x) h (quiet (b .live) x .counts)
+  sum b T (others X c) h a = rw a
+  sum b T (reopen X y ms) h a = refl
+
+  log-of : (b : Book) (T : Tables) (i : Item) → Bears o T b → Admitted i → LogOf o b (bookAfter o b T i) i (replyTo T i)
+  log-of b T (own room c) h a = λ z.
+      ap (λ (k : ℕ). bookStep o b c (isNumber k) .live .log) z ∙ book-log o b c
+      ∙ ap (logFrom o (isDrain o c) (b .live .log)) (sym (same-answer b T (own room c) h tt ∙ ap (λ (k : ℕ). expected o b c (isNumber k)) z))
+  log-of b T (others X c) h a = rw a
+  log-of b T (reopen X y ms) h a = refl
+
+  rows-land : (b : Book) (T : Tables) (i : Item) → landedIn (bookAfter o b T i .past) ≡ reverseAux (copiesOf (rowsIn (expectedOf o b T i))) (landedIn (b .past))
+  rows-land b T (own room c) = book-rows o b c (refused T (own room c))
+  rows-land b T (others X c) = book-rows o b c (refused T (others X c))
+  rows-land b T (reopen X y ms) = refl
+
+  drops-count : (b : Book) (T : Tables) (i : Item) → length (droppedIn (bookAfter o b T i .past)) ≡ dropsIn (expectedOf o b T i) + length (droppedIn (b .past))
+  drops-count b T (own room c) = book-drops o b c (refused T (own room c))
+  drops-count b T (others X c) = book-drops o b c (refused T (others X c))
+  drops-count b T (reopen X y ms) = omega arith
+
+  delivered-count : (b : Book) (T : Tables) (i : Item) → deliveredIn (expectedOf o b T i) ≡ count handled (rowsIn (expectedOf o b T i))
+  delivered-count b T (own room c) = book-delivered o b c (refused T (own room c))
+  delivered-count b T (others X c) = book-delivered o b c (refused T (others X c))
+  delivered-count b T (reopen X y ms) = refl
+
+  pub call-holds : (b : Book) (T : Tables) (i : Item) → Bears o T b → Admitted i → CallHolds o b T i
+  call-holds b T i h a =
+      let e = same-answer b T i h a in
+      record {
+        same-answer = e;
+        only-no = only-no b T i h a;
+        number-is = number-of b T i h a;
+        kept = kept T i a;
+        rows-land = rows-land b T i ∙ ap (λ (x : Answer). reverseAux (copiesOf (rowsIn x)) (landedIn (b .past))) (sym e);
+        drops-count = drops-count b T i ∙ ap (λ (x : Answer). dropsIn x + length (droppedIn (b .past))) (sym e);
+        delivered-count = ap deliveredIn e ∙ delivered-count b T i ∙ ap (λ (x : Answer). count handled (rowsIn x)) (sym e);
+        sum = sum b T i h a;
+        log = log-of b T i h a;
+      }
+
+  -- ---- Every list
+
+  module _ (lim : Limited (o .sizes)) where
+    pub held-after : (b : Book) (T : Tables) (i : Item) → Bears o T b → Admitted i → Bears o (tablesAfter T i) (bookAfter o b T i)
+    held-after b T (own room c) h a =
+        subst (λ (q : Opening). Bears o (tablesIn q room T c) (bookStep o b c (isNumber (numberIn q room T c)))) (sym (h .held .fixed .opening))
+        (held-step lim room T b c h (numberIn o room T c) (number-kept room T b h c))
+    held-after b T (others X c) h a = rw a h
+    held-after b T (reopen X y ms) h a = h
+
+    calls-hold : (is : List Item) (b : Book) (T : Tables) → Bears o T b → AllAdmitted is → CallsHold o b T is
+    calls-hold [] b T h a = tt
+    calls-hold (i ∷ is) b T h a = (call-holds b T i h (a .0), calls-hold is (bookAfter o b T i) (tablesAfter T i) (held-after b T i h (a .0)) (a .1))
+
+    pub end-held : (is : List Item) (b : Book) (T : Tables) → Bears o T b → AllAdmitted is → Bears o (tablesAtEnd T is) (bookAtEnd o b T is)
+    end-held [] b T h a = h
+    end-held (i ∷ is) b T h a = end-held is (bookAfter o b T i) (tablesAfter T i) (held-after b T i h (a .0)) (a .1)
+
+  pub after-sound : (b : Book) (T : Tables) (i : Item) → SoundBook o b → SoundBook o (bookAfter o b T i)
+  after-sound b T (own room c) h = book-sound o b c (refused T (own room c)) h
+  after-sound b T (others X c) h = book-sound o b c (refused T (others X c)) h
+  after-sound b T (reopen X y ms) h = h
+
+  end-sound : (is : List Item) (b : Book) (T : Tables) → SoundBook o b → SoundBook o (bookAtEnd o b T is)
+  end-sound [] b T h = h
+  end-sound (i ∷ is) b T h = end-sound is (bookAfter o b T i) (tablesAfter T i) (after-sound b T i h)
+
+  pub book-holds : (b : Book) → SoundBook o b → BookHolds o b
+  book-holds b k = record {
+    same-copies = k .places;
+    one-place = λ n. sym (k .places (hasSequence n)) ∙ k .numbers n;
+    two-apart = λ after between before c d t i e oc od. two-originals (b .past) after between before c d t i (k .apart) e oc od;
+    marks = λ t i. sym (k .marks t i);
+    marks-each = k .shape;
+    marks-rise = k .rises;
+    sorted = k .order;
+    due-all = λ now. front-all now (b .live .waiting) (k .order);
+    rule-ids = k .ids;
+  }
+
+-- ---- THE THEOREM
+
+pub open-bears : (x : Settings) (masks : List ℕ) (lent : Tables) → openNumber x masks lent ≡ 0 → Bears (openingOf x (lent .names)) (openTables x masks lent) (opened (openingOf x (lent .names)) masks)
+open-bears x masks lent n =
+    let s = openingLive table (x .sizes) masks in
+    record {
+      kept = s;
+      held = open-held x masks lent n;
+      same = (λ j. record { tills = s .tills; seen = marks.map-replicate listed (x .sizes .tills) [] j; engine = s .engine; rings = s .rings; words = s .words; sequence = s .sequence; waiting = s .waiting; log = s .log });
+    }
+
+-- for every accepted opening, whatever tables it was lent, and every list of calls
+pub demand3 : (x : Settings) (masks : List ℕ) (lent : Tables) → openNumber x masks lent ≡ 0 → (is : List Item) → AllAdmitted is → Demand3 x masks lent is
+demand3 x masks lent n is a =
+    let o = openingOf x (lent .names) in
+    let lim = limited x masks lent n in
+    let T = openTables x masks lent in
+    let h = open-bears x masks lent n in
+    let end = end-held o lim is (opened o masks) T h a in
+    record {
+      calls = calls-hold o lim is (opened o masks) T h a;
+      same-live = ap plainly (end .held .wrote .holds) ∙ end .same;
+      same-opening = end .held .fixed .opening;
+      book = book-holds o (bookAtEnd o (opened o masks) T is) (end-sound o is (opened o masks) T (opened-sound o masks));
+    }
+
+-- and for list after list, each begun by an accepted opening on what the one before left
+pub every-list : (rs : List Run) (T : Tables) → Accepted T rs → EveryList T rs
+every-list [] T a = tt
+every-list (r ∷ rs) T a = (demand3 (r .settings) (r .masks) T (a .0) (r .items) (a .1), every-list rs (tablesAfterRun T r) (a .2))

@@ -1,0 +1,204 @@
+-- What holds of every book: each copy is in one place, no original is scheduled twice, waiting is in order.
+use mathlib.Core.Path.{_≡_, refl, sym, _∙_, subst}
+use Prim.Native.Nat.{ℕ, zero, suc, _+_, _<_}
+use native.Mathlib.Omega.{arith}
+use mathlib.Core.Bool.{Bool, true, false, cond, _&&_}
+use mathlib.Core.List.{List, [], _∷_}
+use lib.ListN.{length, getD, replicate, length-set, length-replicate}
+use borrow.Author.Tests.{lt-ltb, lt-leb}
+use Rattle.table_rows.specs.Rows.{pick, keep}
+use Rattle.table_rows.specs.Lists.{Each, front, behind}
+use Rattle.table_waiting.specs.Waiting.{insertCopy, onTime, Sorted}
+use Rattle.table_waiting.specs.declared.Copy.{Copy}
+use Rattle.table_waiting.proofs.Order.{sorted-insert, sorted-drop}
+use Rattle.table_rows.proofs.Lists.{drop-front}
+use Rattle.table_marks.specs.Marks.{member, Rises}
+use Rattle.fault_rule.specs.declared.DropSpec.{DropSpec}
+use Rattle.fault_card.specs.Card.{fieldsOf}
+use Rattle.fault_rules.specs.Rules.{Ascending, fireAt, withRule}
+use Rattle.fault_rules.specs.declared.FaultRule.{FaultRule}
+use Rattle.fault_rules.proofs.Ids.{install-ascends, remove-ascends, fire-ascends}
+use Rattle.fault_decide.specs.Decide.{Decision, rulesAfter}
+use Rattle.spec_network.specs.Lists.{bit, count, below}
+use Rattle.spec_network.specs.Opening.{Opening}
+use Rattle.spec_network.specs.Marking.{Marking, plain, Marks, inserted}
+use Rattle.spec_network.specs.Live.{LiveBy, isOriginal, marked, idsAt, stopped}
+use Rattle.spec_network.specs.Accept.{Message, messageOf, selected, Drawn, drawn, original, Class, deduplicated, partition, loss, fault, sent, firstFit, classOf, copies, effect, offered, liveAfter, insertAll}
+use Rattle.spec_network.specs.Flush.{due, stops, unmark, clearing}
+use Rattle.spec_network.specs.Calls.{Call, liveStep, accept, flush, takeDown, bringUp, handlers, block, blockDuring, unblock, install, remove, decide, drain, reading}
+use Rattle.spec_book.specs.Book.{Book, Event, scheduledIn, landedIn, droppedIn, eventsOf, offerEvents, eventsAfter, happened, opened, bookStep}
+use Rattle.spec_book.specs.History.{hasSequence, given, standing}
+use Rattle.spec_book.proofs.Counting.{numbered-count, count-split, count-insertAll, scheduling-scheduled, scheduling-landed, scheduling-dropped, flushing-scheduled, flushing-moved}
+use Rattle.spec_book.proofs.Marks.{Apart, Echo, echoes-standing, echoes-apart, member-set, member-empty, rises-inserted, clearing-rises, clearing-agrees, flushing-apart}
+use Rattle.spec_book.proofs.Each.{each-set, each-at, each-replicate, each-upTo}
+use Rattle.spec_book.proofs.Echoing.{drawn-echoes}
+
+-- It speaks of the parts that it needs, and so holds at once of a live part that differs elsewhere.
+pub record Sound (tills : ℕ) (waiting : List Copy) (sequence : ℕ) (seen : List (List ℕ)) (installed : ℕ) (rules : List FaultRule) (past : List Event) : Type 0 where
+  pub places : (p : Copy → Bool) → count p (scheduledIn past) ≡ count p waiting + (count p (landedIn past) + count p (droppedIn past))
+  pub numbers : (n : ℕ) → count (hasSequence n) (scheduledIn past) ≡ bit (given n sequence)
+  pub marks : (t i : ℕ) → standing t i past ≡ member i (getD seen t [])
+  pub apart : Apart past
+  pub order : Sorted waiting
+  pub shape : length seen ≡ tills
+  pub rises : Each Rises seen
+  pub ids : Ascending 0 installed rules
+
+abbrev pub SoundLive : Opening → LiveBy plain → List Event → Type 0
+SoundLive o s past = Sound (o .sizes .tills) (s .waiting) (s .sequence) (s .seen) (s .engine .installed) (s .engine .rules) past
+
+sorted-insertAll : (cs w : List Copy) → Sorted w → Sorted (insertAll cs w)
+sorted-insertAll [] w h = h
+sorted-insertAll (c ∷ cs) w h = sorted-insertAll cs (insertCopy c w) (sorted-insert c w h)
+
+sorted-behind : (q : Copy → Bool) (w : List Copy) → Sorted w → Sorted (behind q w)
+sorted-behind q w h = subst Sorted (drop-front q w) (sorted-drop (length (front q w)) w h)
+
+-- a decision leaves each rule its place and its id
+ruled-ascends : (v : Decision) (n : ℕ) (rs : List FaultRule) → Ascending 0 n rs → Ascending 0 n (rulesAfter v rs)
+ruled-ascends v n rs h = go (v .drops)
+  where
+    go : (b : Bool) → Ascending 0 n (cond b (fireAt (v .place) rs) rs)
+    go true = fire-ascends (v .place) 0 n rs h
+    go false = h
+
+pub sent-unmarked : (m p l f : Bool) → firstFit m p l f ≡ sent → m ≡ false
+sent-unmarked true p l f h = cc
+sent-unmarked false p l f h = refl
+
+-- ---- One recipient
+
+module _ (o : Opening) (m : Message) (s : LiveBy plain) (d : Drawn) (t : ℕ) (past : List Event) (h : SoundLive o s past) where
+  effect-sound : (k : Class) → (k ≡ sent → marked s t (m .id) ≡ false) → t < o .sizes .tills → Each Echo (d .echoes .copies) → SoundLive o (effect o m k s d t) (eventsOf o m k s d t past)
+  effect-sound deduplicated f b e = h
+  effect-sound partition f b e = h
+  effect-sound loss f b e = h
+  effect-sound fault f b e = record {
+    places = h .places;
+    numbers = h .numbers;
+    marks = h .marks;
+    apart = h .apart;
+    order = h .order;
+    shape = h .shape;
+    rises = h .rises;
+    ids = ruled-ascends (d .verdict) (s .engine .installed) (s .engine .rules) (h .ids);
+  }
+  effect-sound sent f b e =
+      let cs = copies o m s d t in
+      let es = d .echoes .copies in
+      record {
+        places = λ p. rw (scheduling-landed cs past, scheduling-dropped cs past)
+            (omega (arith, scheduling-scheduled p cs past, count-insertAll p cs (s .waiting), h .places p));
+        numbers = λ n. omega (arith, scheduling-scheduled (hasSequence n) cs past, numbered-count (original m t (d .latency .value) ∷ es) (s .sequence) n, h .numbers n);
+        marks = λ u j. echoes-standing u j (suc (s .sequence)) es _ e ∙ rw (h .marks u j) (sym (member-set (s .seen) t (m .id) u j (omega (arith, h .shape))));
+        apart = echoes-apart (suc (s .sequence)) es _ e (λ z. h .marks t (m .id) ∙ f refl, h .apart);
+        order = sorted-insertAll cs (s .waiting) (h .order);
+        shape = length-set (s .seen) t _ ∙ h .shape;
+        rises = each-set Rises (s .seen) t (inserted (m .id) (idsAt s t)) (h .rises) (rises-inserted (m .id) (idsAt s t) (f refl) (each-at Rises (s .seen) t [] (h .rises) tt));
+        ids = ruled-ascends (d .verdict) (s .engine .installed) (s .engine .rules) (h .ids);
+      }
+
+-- ---- The selected tills
+
+abbrev pub Below : ℕ → List ℕ → Type 0
+Below n ts = Each (λ t. t < n) ts
+
+keep-below : (n : ℕ) (q : ℕ → Bool) (ts : List ℕ) → Below n ts → Below n (keep q ts)
+keep-below n q [] h = tt
+keep-below n q (t ∷ ts) h = go (q t) (keep-below n q ts (h .1))
+  where
+    go : (b : Bool) → Below n (keep q ts) → Below n (pick b (t ∷ keep q ts) (keep q ts))
+    go true r = (h .0, r)
+    go false r = r
+
+pub selected-below : (o : Opening) {k : Marking} (s : LiveBy k) (scope from : ℕ) → Below (o .sizes .tills) (selected o s scope from)
+selected-below o s scope from = keep-below (o .sizes .tills) _ (below (o .sizes .tills)) (each-upTo (λ t. t < o .sizes .tills) (o .sizes .tills) (λ i. i) (λ j h. h))
+
+module _ (o : Opening) (m : Message) where
+  accept-sound : (ts : List ℕ) (s : LiveBy plain) (past : List Event) → Below (o .sizes .tills) ts → SoundLive o s past → SoundLive o (liveAfter o m s ts) (eventsAfter o m s ts past)
+  unfolding offered offerEvents
+  accept-sound [] s past b h = h
+  accept-sound (t ∷ ts) s past b h =
+      let d = drawn o m t s in
+      accept-sound ts (offered o m s t) (offerEvents o m s t past) (b .1)
+      (effect-sound o m s d t past h (classOf o m s t) (sent-unmarked (marked s t (m .id)) (stopped s (m .from) t (m .now)) (d .loss .value) (d .verdict .drops)) (b .0) (drawn-echoes o m t s))
+
+-- ---- Every call
+
+pub length-clearing : {k : Marking} (s : LiveBy k) (cs : List Copy) (seen : List (Marks k)) → length (clearing s cs seen) ≡ length seen
+length-clearing s [] seen = refl
+length-clearing {k} s (c ∷ cs) seen = length-clearing s cs _ ∙ go (stops s c && isOriginal c)
+  where
+    go : (b : Bool) → length (cond b (unmark k (c .delivery .to) (c .id) seen) seen) ≡ length seen
+    go true = length-set seen (c .delivery .to) _
+    go false = refl
+
+install-next : (n : ℕ) (rs : List FaultRule) (d : DropSpec) → Ascending 0 n rs → Ascending 0 (suc n) (withRule n d rs)
+install-next n rs d h = let z : n + 1 ≡ suc n = omega arith in subst (λ (k : ℕ). Ascending 0 k (withRule n d rs)) z (install-ascends 0 n rs d (omega arith) h)
+
+module _ (o : Opening) where
+  with-ids : (s : LiveBy plain) (past : List Event) → SoundLive o s past → (n : ℕ) (rs : List FaultRule) → Ascending 0 n rs → Sound (o .sizes .tills) (s .waiting) (s .sequence) (s .seen) n rs past
+  with-ids s past h n rs a = record { places = h .places; numbers = h .numbers; marks = h .marks; apart = h .apart; order = h .order; shape = h .shape; rises = h .rises; ids = a }
+
+  pub step-sound : (s : LiveBy plain) (c : Call) (past : List Event) → SoundLive o s past → SoundLive o (liveStep o s c) (happened o s c past)
+  step-sound s (accept e true) past h = accept-sound o (messageOf o e) (selected o s (e .scope) (e .from)) s past (selected-below o s (e .scope) (e .from)) h
+  step-sound s (accept e false) past h = h
+  step-sound s (flush now rows) past h = record {
+    places = λ p. rw (flushing-scheduled s (due now s) past)
+        (omega (arith, h .places p, flushing-moved p s (due now s) past, count-split p (onTime now) (s .waiting)));
+    numbers = λ n. rw (flushing-scheduled s (due now s) past) (h .numbers n);
+    marks = clearing-agrees s (due now s) past (s .seen) (h .marks);
+    apart = flushing-apart s (due now s) past (h .apart);
+    order = sorted-behind (onTime now) (s .waiting) (h .order);
+    shape = length-clearing s (due now s) (s .seen) ∙ h .shape;
+    rises = clearing-rises s (due now s) (s .seen) (h .rises);
+    ids = h .ids;
+  }
+  step-sound s (takeDown t) past h = record {
+    places = h .places;
+    numbers = h .numbers;
+    apart = h .apart;
+    order = h .order;
+    marks = λ u j. rw (h .marks u j) (sym (member-empty (s .seen) t u j));
+    shape = length-set (s .seen) t [] ∙ h .shape;
+    rises = each-set Rises (s .seen) t [] (h .rises) tt;
+    ids = h .ids;
+  }
+  step-sound s (bringUp t shards) past h = h
+  step-sound s (handlers t gossip host) past h = h
+  step-sound s (block from to) past h = h
+  step-sound s (blockDuring from to start end) past h = h
+  step-sound s (unblock from to) past h = h
+  step-sound s (install card) past h = with-ids s past h (suc (s .engine .installed)) _ (install-next (s .engine .installed) (s .engine .rules) (fieldsOf card) (h .ids))
+  step-sound s (remove id) past h = with-ids s past h (s .engine .installed) _ (remove-ascends id 0 (s .engine .installed) (s .engine .rules) (h .ids))
+  step-sound s (decide x) past h = with-ids s past h (s .engine .installed) _ (ruled-ascends (o .draws .decide x (s .engine .rules) (s .engine .words)) (s .engine .installed) (s .engine .rules) (h .ids))
+  step-sound s (drain rows) past h = h
+  step-sound s (reading r) past h = h
+
+  abbrev pub SoundBook : Book → Type 0
+  SoundBook b = SoundLive o (b .live) (b .past)
+
+  pub book-sound : (b : Book) (c : Call) (refused : Bool) → SoundBook b → SoundBook (bookStep o b c refused)
+  book-sound b c true h = h
+  book-sound b c false h = step-sound (b .live) c (b .past) h
+
+  none-marked : (n t i : ℕ) → false ≡ member i (getD (replicate n []) t [])
+  none-marked zero t i = refl
+  none-marked (suc n) zero i = refl
+  none-marked (suc n) (suc t) i = none-marked n t i
+
+  none-given : (n : ℕ) → 0 ≡ bit (given n 0)
+  none-given zero = refl
+  none-given (suc n) = rw (lt-ltb 0 (suc n) (omega arith), lt-leb (suc n) 0 (omega arith))
+
+  pub opened-sound : (masks : List ℕ) → SoundBook (opened o masks)
+  opened-sound masks = record {
+    places = λ p. refl;
+    numbers = none-given;
+    marks = none-marked (o .sizes .tills);
+    apart = tt;
+    order = tt;
+    shape = length-replicate (o .sizes .tills) [];
+    rises = each-replicate Rises (o .sizes .tills) [] tt;
+    ids = omega arith;
+  }

@@ -1,0 +1,247 @@
+-- Document 01, 'The book', Accept: each recipient in host order.
+use Prim.Native.Nat.{ℕ, _+_}
+use mathlib.Core.Bool.{Bool, true, false, cond, not, _&&_, _||_}
+use mathlib.Core.List.{List, [], _∷_, _++_}
+use lib.Dec.{eqb}
+use lib.ListN.{length, getD, set}
+use Rattle.table_rows.specs.Rows.{keep}
+use Rattle.table_waiting.specs.declared.Copy.{Copy}
+use Rattle.table_waiting.specs.Waiting.{insertCopy}
+use Rattle.fault_decide.specs.Decide.{Decision, rulesAfter}
+use Rattle.table_ring.specs.Ring.{push}
+use Rattle.spec_network.specs.Lists.{bit, below, bitAt}
+use Rattle.table_rings.specs.Rings.{slots, numberOf}
+use Rattle.spec_network.specs.Opening.{Draw, Opening, link, global}
+use Rattle.spec_network.specs.Marking.{Marking, Marks, noMarks, withMark}
+use Rattle.spec_network.specs.Live.{numbered, Carried, Context, Engine, LiveBy, withRules, withSeen, withEngine, withRings, withWords, withWaiting, marked, tillAt, stopped}
+
+-- an outbox entry as the caller lends it; the tag stands for its payload
+pub record Entry : Type 0 where
+  pub from : ℕ
+  pub now : ℕ
+  pub kind : ℕ
+  pub class : ℕ
+  pub scope : ℕ
+  pub wire : List ℕ
+  pub tag : ℕ
+
+-- the entry with its id and its wire length
+pub record Message : Type 0 where
+  pub from : ℕ
+  pub now : ℕ
+  pub kind : ℕ
+  pub class : ℕ
+  pub scope : ℕ
+  pub wire : ℕ
+  pub id : ℕ
+  pub tag : ℕ
+
+abbrev pub messageOf : Opening → Entry → Message
+messageOf o e = record { from = e .from; now = e .now; kind = e .kind; class = e .class; scope = e .scope; wire = length (e .wire); id = o .draws .id (e .kind) (e .scope) (e .wire); tag = e .tag }
+
+-- ---- Recipients
+
+-- all tills for a global entry, else those whose mask holds its shard
+abbrev pub receives : {k : Marking} → LiveBy k → ℕ → ℕ → Bool
+receives s scope t = eqb scope global || bitAt (tillAt s t .shards) scope
+
+-- selected means recipients other than the sender; in host order
+abbrev pub selected : {k : Marking} → Opening → LiveBy k → ℕ → ℕ → List ℕ
+selected o s scope from = keep (λ t. receives s scope t && not (eqb t from)) (below (o .sizes .tills))
+
+-- ---- The draws for one recipient, in their order
+
+-- echoes with their latencies, and the link's word count after these
+pub record Echoes : Type 0 where
+  pub copies : List Copy
+  pub words : ℕ
+
+pub record Drawn : Type 0 where
+  pub loss : Draw Bool
+  pub latency : Draw ℕ
+  pub verdict : Decision
+  pub echoes : Echoes
+
+abbrev pub carriedOf : Message → Carried
+carriedOf m = record { class = m .class; wire = m .wire; tag = m .tag }
+
+abbrev pub ringFor : {k : Marking} → LiveBy k → Message → List Carried
+ringFor s m = getD (s .rings) (numberOf (m .kind) (m .scope)) []
+
+abbrev pub isEmpty : {A : Type 0} → List A → Bool
+isEmpty [] = true
+isEmpty (x ∷ xs) = false
+
+-- the original: now plus latency. Its sequence comes when it is scheduled
+abbrev pub original : Message → ℕ → ℕ → Copy
+original m t latency = record {
+  delivery = record { from = m .from; to = t; kind = m .kind; class = m .class; sent = m .now; time = m .now + latency; scope = m .scope; wire = m .wire };
+  sequence = 0;
+  original = 1;
+  id = m .id;
+  tag = m .tag;
+}
+
+-- an echo carries no id
+abbrev pub echo : Message → ℕ → Carried → ℕ → Copy
+echo m t c latency = record {
+  delivery = record { from = m .from; to = t; kind = m .kind; class = c .class; sent = m .now; time = m .now + latency; scope = m .scope; wire = c .wire };
+  sequence = 0;
+  original = 0;
+  id = 0;
+  tag = c .tag;
+}
+
+module _ (o : Opening) (m : Message) (t : ℕ) where
+  -- each echo's latency, one after the other
+  abbrev pub timed : ℕ → List Carried → Echoes
+  timed words [] = record { copies = []; words = words }
+  timed words (c ∷ cs) =
+      let l = o .draws .latency (m .from) t (c .wire) words in
+      let rest = timed (l .words) cs in
+      record { copies = echo m t c (l .value) ∷ rest .copies; words = rest .words }
+
+  -- the replay draw; the ring index only after a hit on a ring that isn't empty
+  abbrev pub replayed : List Carried → ℕ → Draw (List Carried)
+  replayed ring words =
+      let hit = o .draws .replay (m .from) t words in
+      let at = o .draws .index (m .from) t (length ring) (hit .words) in
+      cond (hit .value && not (isEmpty ring))
+      (record { value = getD ring (at .value) (carriedOf m) ∷ []; words = at .words })
+      (record { value = []; words = hit .words })
+
+  -- duplicate draw, replay draw, ring index: what is echoed, duplicate first
+  abbrev pub echoed : List Carried → ℕ → Draw (List Carried)
+  echoed ring words =
+      let d = o .draws .duplicate (m .from) t words in
+      let r = replayed ring (d .words) in
+      record { value = cond (d .value) (carriedOf m ∷ []) [] ++ r .value; words = r .words }
+
+  -- where either echo rate is above 0; then the echoes' latencies
+  abbrev pub echoesOf : List Carried → ℕ → Echoes
+  echoesOf ring words =
+      let e = echoed ring words in
+      cond (o .draws .echoing) (timed (e .words) (e .value)) (record { copies = []; words = words })
+
+  -- what the rules are asked of: the tier is gossip's, 0
+  abbrev pub context : Context
+  context = record { kind = m .kind; from = m .from; to = t; tier = 0; now = m .now }
+
+  -- loss draw, latency, fault rules, echoes
+  unfoldable pub drawn : {k : Marking} → LiveBy k → Drawn
+  drawn s =
+      let l = o .draws .loss (m .from) t (getD (s .words) (link (m .from) t) 0) in
+      let d = o .draws .latency (m .from) t (m .wire) (l .words) in
+      record { loss = l; latency = d; verdict = o .draws .decide context (s .engine .rules) (s .engine .words); echoes = echoesOf (ringFor s m) (d .words) }
+
+-- ---- Rules
+
+-- the fault stream's word count moves, and the fired count of the rule that drops goes up
+abbrev pub ruled : Engine → Decision → Engine
+ruled e v = withRules e (rulesAfter v (e .rules)) (e .installed) (v .words)
+
+-- ---- One recipient
+
+pub data Class : Type 0 where
+  deduplicated partition loss fault sent : Class
+
+-- a recipient goes under the first that fits: its mark stands, it is stopped, the loss draw hits, a rule drops it; else sent
+abbrev pub firstFit : Bool → Bool → Bool → Bool → Class
+firstFit true p l f = deduplicated
+firstFit false true l f = partition
+firstFit false false true f = loss
+firstFit false false false true = fault
+firstFit false false false false = sent
+
+abbrev pub insertAll : List Copy → List Copy → List Copy
+insertAll [] w = w
+insertAll (c ∷ cs) w = insertAll cs (insertCopy c w)
+
+abbrev pub mark : (k : Marking) → ℕ → ℕ → List (Marks k) → List (Marks k)
+mark k t i seen = set seen t (withMark k i (getD seen t (noMarks k)))
+
+module _ (o : Opening) (m : Message) where
+  abbrev pub classOf : {k : Marking} → LiveBy k → ℕ → Class
+  classOf s t =
+      let d = drawn o m t s in
+      firstFit (marked s t (m .id)) (stopped s (m .from) t (m .now)) (d .loss .value) (d .verdict .drops)
+
+  -- the copies of a sent recipient: the original, then its echoes; each takes the next sequence
+  abbrev pub copies : {k : Marking} → LiveBy k → Drawn → ℕ → List Copy
+  copies s d t = numbered (s .sequence) (original m t (d .latency .value) ∷ d .echoes .copies)
+
+  abbrev pub wordsMoved : {k : Marking} → LiveBy k → ℕ → ℕ → LiveBy k
+  wordsMoved s t n = withWords s (set (s .words) (link (m .from) t) n)
+
+  -- the ring takes the message, and gives up its oldest first
+  abbrev pub remembered : List (List Carried) → List (List Carried)
+  remembered l = let r = numberOf (m .kind) (m .scope) in cond (o .draws .echoing) (set l r (push slots (getD l r []) (carriedOf m))) l
+
+  -- sent sets the mark and puts the copies into waiting; then the ring takes the message
+  abbrev pub effect : {k : Marking} → Class → LiveBy k → Drawn → ℕ → LiveBy k
+  effect deduplicated s d t = s
+  effect partition s d t = s
+  effect loss s d t = wordsMoved s t (d .loss .words)
+  effect fault s d t = withEngine (wordsMoved s t (d .latency .words)) (ruled (s .engine) (d .verdict))
+  effect {k} sent s d t =
+      let cs = copies s d t in
+      let s₁ = withEngine (wordsMoved s t (d .echoes .words)) (ruled (s .engine) (d .verdict)) in
+      let s₂ = withSeen s₁ (mark k t (m .id) (s .seen)) in
+      let s₃ = withWaiting s₂ (length cs + s .sequence) (insertAll cs (s .waiting)) in
+      withRings s₃ (remembered (s .rings))
+
+  unfoldable pub offered : {k : Marking} → LiveBy k → ℕ → LiveBy k
+  offered s t = effect (classOf s t) s (drawn o m t s) t
+
+  -- the selected in host order, each on what the one before left
+  abbrev pub liveAfter : {k : Marking} → LiveBy k → List ℕ → LiveBy k
+  liveAfter s [] = s
+  liveAfter s (t ∷ ts) = liveAfter (offered s t) ts
+
+-- ---- The five counts
+
+-- a selected till, and what it goes under
+pub record Booked : Type 0 where
+  pub till : ℕ
+  pub class : Class
+
+module _ (o : Opening) (m : Message) where
+  abbrev pub booked : {k : Marking} → LiveBy k → List ℕ → List Booked
+  booked s [] = []
+  booked s (t ∷ ts) = record { till = t; class = classOf o m s t } ∷ booked (offered o m s t) ts
+
+pub record Counts : Type 0 where
+  pub sent : ℕ
+  pub deduplicated : ℕ
+  pub partition : ℕ
+  pub loss : ℕ
+  pub fault : ℕ
+
+abbrev pub classNumber : Class → ℕ
+classNumber sent = 0
+classNumber deduplicated = 1
+classNumber partition = 2
+classNumber loss = 3
+classNumber fault = 4
+
+abbrev pub isClass : Class → Class → Bool
+isClass j k = eqb (classNumber j) (classNumber k)
+
+abbrev pub noCounts : Counts
+noCounts = record { sent = 0; deduplicated = 0; partition = 0; loss = 0; fault = 0 }
+
+abbrev pub add : Class → Counts → Counts
+add k n = record {
+  sent = bit (isClass k sent) + n .sent;
+  deduplicated = bit (isClass k deduplicated) + n .deduplicated;
+  partition = bit (isClass k partition) + n .partition;
+  loss = bit (isClass k loss) + n .loss;
+  fault = bit (isClass k fault) + n .fault;
+}
+
+abbrev pub tally : List Booked → Counts
+tally [] = noCounts
+tally (b ∷ bs) = add (b .class) (tally bs)
+
+abbrev pub total : Counts → ℕ
+total n = n .sent + n .deduplicated + n .partition + n .loss + n .fault

@@ -1,0 +1,72 @@
+use native.Mathlib.Omega.{arith}
+use Rattle.table_marks.proofs.Both.{left-old, left-new, less-old, less-new}
+use borrow.Author.Needs.{needs}
+use Rattle.table_marks.proofs.remove.Statement.{statement}
+use Rattle.table_marks.proofs.remove.Tie as tie
+
+sub-k : tie.Need-sub-k
+sub-k c = search needs
+
+has-in-requires : tie.Need-has-in-requires
+has-in-requires c κs = search needs
+
+remove-in-requires : tie.Need-remove-in-requires
+remove-in-requires c κs = search needs
+
+refill-requires : tie.Need-refill-requires
+refill-requires c κs =
+    let a = c .before .before .before .before .before .before .before .before .before .args in
+    let n = left-old (a .seen .now) (a .start) (a .count) (a .id) (c .before .before .before .before .before .before .before .before .before .pre) (c .before .before .before .remove-in .result) (c .before .before .before .before .before .before .has-in .ensures) (c .before .before .before .before .before .if1 .taken) (c .before .before .before .remove-in .ensures .0) in
+    omega (arith, n, c .before .before .before .remove-in .kept .0)
+
+add-result : tie.Need-add-result
+add-result c =
+    let a = c .before .before .before .before .before .before .before .before .before .before .before .before .args in
+    let n = left-old (a .seen .now) (a .start) (a .count) (a .id) (c .before .before .before .before .before .before .before .before .before .before .before .before .pre) (c .before .before .before .before .before .before .remove-in .result) (c .before .before .before .before .before .before .before .before .before .has-in .ensures) (c .before .before .before .before .before .before .before .before .if1 .taken) (c .before .before .before .before .before .before .remove-in .ensures .0) in
+    omega (arith, n)
+
+same-length : tie.Need-same-length
+same-length c = search needs
+
+returns : tie.Need-returns
+returns c =
+    let a = c .before .before .before .before .before .before .before .before .before .before .before .before .args in
+    less-old (a .seen .now) (a .start) (a .count) (a .id) (c .before .before .before .before .before .before .before .before .before .before .before .before .pre) (c .before .before .before .before .before .before .remove-in .last .0) (c .before .before .refill .last .0) (c .before .before .before .before .before .before .remove-in .result)
+    (c .before .before .before .before .before .before .before .before .before .has-in .ensures) (c .before .before .before .before .before .before .before .before .if1 .taken) (c .before .before .before .before .before .before .remove-in .ensures .0) (c .before .before .before .before .before .before .remove-in .ensures .1) (c .before .before .refill .ensures)
+
+add-remove-in : tie.Need-add-remove-in
+add-remove-in c = search needs
+
+remove-in-requires-2 : tie.Need-remove-in-requires-2
+remove-in-requires-2 c κs = search needs
+
+add-result-2 : tie.Need-add-result-2
+add-result-2 c =
+    let a = c .before .before .before .before .before .before .before .before .args in
+    let n = left-new (a .seen .now) (a .start) (a .count) (a .id) (c .before .before .before .before .before .before .before .before .pre) (c .before .before .remove-in2 .result) (c .before .before .remove-in2 .ensures .0) in
+    omega (arith, n)
+
+same-length-2 : tie.Need-same-length-2
+same-length-2 c = search needs
+
+returns-2 : tie.Need-returns-2
+returns-2 c =
+    let a = c .before .before .before .before .before .before .before .before .args in
+    less-new (a .seen .now) (a .start) (a .count) (a .id) (c .before .before .before .before .before .before .before .before .pre) (c .before .before .remove-in2 .last .0) (c .before .before .remove-in2 .result) (c .before .before .before .before .before .has-in .ensures) (c .before .before .before .before .if1 .left) (c .before .before .remove-in2 .ensures .0) (c .before .before .remove-in2 .ensures .1)
+
+pub remove-spec : {M : Type 1} → statement M
+remove-spec =
+    tie.close
+    (tie.spec
+    sub-k
+    has-in-requires
+    remove-in-requires
+    refill-requires
+    add-result
+    same-length
+    returns
+    add-remove-in
+    remove-in-requires-2
+    add-result-2
+    same-length-2
+    returns-2)
