@@ -1,5 +1,5 @@
-#!/bin/sh
-# run.sh [NAME]: a scenario of this folder, the morning where none is named: its answers, then its checklist.
-cd "$(dirname "$0")/.." || exit 1
-[ -x target/bin/simulate ] || rt check simulate >&2 || exit 1
+#!/usr/bin/env bash
+# scenarios/run.sh [NAME]: runs a scenario (the morning, where none is named) and prints its answers, checklist and slips.
+cd "$(dirname "${BASH_SOURCE[0]}")/.." || exit 1
+[ -x target/bin/simulate ] || scenarios/prove.sh simulate || exit 1
 exec target/bin/simulate checklist <"scenarios/${1:-morning}.script"
