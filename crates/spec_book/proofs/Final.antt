@@ -3,8 +3,8 @@ use mathlib.Core.Path.{_≡_, refl, sym, ap, _∙_, subst}
 use Prim.Native.Nat.{ℕ, zero, suc, _+_}
 use native.Mathlib.Omega.{arith}
 use mathlib.Core.Bool.{Bool, true, false, cond, _&&_, false≢true}
-use mathlib.Core.List.{List, [], _∷_, _++_, reverseAux}
-use lib.ListN.{length, drop}
+use mathlib.Core.List.{List, [], _∷_, reverseAux}
+use lib.ListN.{length}
 use Rattle.table_waiting.proofs.Order.{front-all}
 use Rattle.table_marks.specs.Marks.{listed}
 use Rattle.spec_network.specs.Lists.{count}
@@ -18,11 +18,11 @@ use Rattle.spec_network.specs.Questions.{Asked, Room, alone, askedIn, asked, fi
 use Rattle.spec_network.specs.Tables.{Tables, sizesAt, live}
 use Rattle.spec_network.specs.Real.{openingOf, openingAt}
 use Rattle.spec_network.specs.Lent.{question1}
-use Rattle.spec_network.specs.Writes.{Reply, isNumber, numberIn, exitT, answerT, tablesIn, replyIn, outputOf, callReply, roomReply}
+use Rattle.spec_network.specs.Writes.{Reply, isNumber, numberIn, exitT, answerT, tablesIn, replyIn, outputWith, callReply, roomReply}
 use Rattle.spec_network.specs.Open.{askedOpening, openNumber, openTables, openExit}
 use Rattle.spec_book.specs.Book.{Book, landedIn, droppedIn, bookStep, expected, opened}
 use Rattle.spec_book.specs.History.{hasSequence}
-use Rattle.spec_book.specs.Demand3.{Item, own, others, reopen, Admitted, AllAdmitted, replyTo, tablesAfter, tablesAtEnd, refused, Kept, copiesOf, bookAfter, expectedOf, bookAtEnd, OnlyNo, NumberIs, SumOf, isDrain, logFrom, LogOf, CallHolds, CallsHold, BookHolds, Demand3, Run, tablesAfterRun, Accepted, EveryList}
+use Rattle.spec_book.specs.Demand3.{Item, own, others, reopen, Admitted, AllAdmitted, replyTo, tablesAfter, tablesAtEnd, refused, Kept, copiesOf, bookAfter, expectedOf, bookAtEnd, OnlyNo, NumberIs, SumOf, isDrain, logFrom, LogOf, OutputOf, CallHolds, CallsHold, BookHolds, Demand3, Run, Accepted, EveryList}
 use Rattle.spec_book.proofs.Marks.{two-originals}
 use Rattle.spec_book.proofs.Sound.{SoundBook, book-sound, opened-sound}
 use Rattle.spec_book.proofs.Plain as marks
@@ -118,7 +118,7 @@ module _ (o : Opening) where
   only-no b T (reopen X y ms) h a = only-reopen b X y ms (openNumber y ms X) refl
 
   -- a refused call leaves what it was lent as found
-  call-kept : (p : Opening) (T : Tables) (c : Call) (r : Bool) → r ≡ true → (exitT p r T c ≡ T) × ((out : List ℕ) → outputOf (answerT p r T c) ++ drop (length (outputOf (answerT p r T c))) out ≡ out)
+  call-kept : (p : Opening) (T : Tables) (c : Call) (r : Bool) → r ≡ true → (exitT p r T c ≡ T) × ((out : List ℕ) → outputWith (answerT p r T c) out ≡ out)
   call-kept p T c true h = (refl, λ out. refl)
   call-kept p T c false h = absurd (false≢true h)
 
@@ -130,6 +130,11 @@ module _ (o : Opening) where
   kept T (own room c) a = λ r. call-kept (openingAt T) T c (isNumber (numberIn (openingAt T) room T c)) r
   kept T (others X c) a = call-kept (openingAt X) X c (isNumber (numberIn (openingAt X) alone X c)) (rw a)
   kept T (reopen X y ms) a = reopen-kept X y ms (openNumber y ms X) a
+
+  output : (b : Book) (T : Tables) (i : Item) → Bears o T b → Admitted i → OutputOf o b T i
+  output b T (own room c) h a = λ out. ap (λ (r : Answer). outputWith r out) (same-answer b T (own room c) h a)
+  output b T (others X c) h a = kept T (others X c) a .1
+  output b T (reopen X y ms) h a = tt
 
   -- calls other than an accept count nothing
   none : (room : Room) (b : Book) (T : Tables) (c : Call) → Bears o T b → countsIn (answerOf o (b .live) c) ≡ noCounts → countsIn (roomReply room T c .answer) ≡ noCounts
@@ -190,6 +195,7 @@ module _ (o : Opening) where
       let e = same-answer b T i h a in
       record {
         same-answer = e;
+        output = output b T i h a;
         only-no = only-no b T i h a;
         number-is = number-of b T i h a;
         kept = kept T i a;
@@ -266,7 +272,7 @@ demand3 x masks lent n is a =
       book = book-holds o (bookAtEnd o (opened o masks) T is) (end-sound o is (opened o masks) T (opened-sound o masks));
     }
 
--- and for list after list, each begun by an accepted opening on what the one before left
-pub every-list : (rs : List Run) (T : Tables) → Accepted T rs → EveryList T rs
-every-list [] T a = tt
-every-list (r ∷ rs) T a = (demand3 (r .settings) (r .masks) T (a .0) (r .items) (a .1), every-list rs (tablesAfterRun T r) (a .2))
+-- and for list after list, each begun by an accepted opening
+pub every-list : (rs : List Run) → Accepted rs → EveryList rs
+every-list [] a = tt
+every-list (r ∷ rs) a = (demand3 (r .settings) (r .masks) (r .lent) (a .0) (r .items) (a .1), every-list rs (a .2))

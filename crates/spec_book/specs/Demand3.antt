@@ -22,7 +22,7 @@ use Rattle.spec_network.specs.Questions.{Room, askedIn, asked, firstNo, answerT
 use Rattle.spec_network.specs.Tables.{Tables, sizesAt, live}
 use Rattle.spec_network.specs.Real.{openingOf, openingAt}
 use Rattle.spec_network.specs.Lent.{question1}
-use Rattle.spec_network.specs.Writes.{Reply, isNumber, callTables, callReply, callOutput, roomTables, roomReply, roomOutput}
+use Rattle.spec_network.specs.Writes.{Reply, isNumber, outputWith, callTables, callReply, callOutput, roomTables, roomReply, roomOutput}
 use Rattle.spec_network.specs.Open.{askedOpening, openNumber, openTables, openCall}
 use Rattle.spec_book.specs.Book.{Book, Event, scheduled, scheduledIn, landedIn, droppedIn, bookStep, expected, opened}
 use Rattle.spec_book.specs.History.{hasSequence, given, originalOf, clears, standing}
@@ -104,14 +104,14 @@ module _ (o : Opening) where
   NumberIs b (reopen X y ms) n = n ≡ firstNo (askedOpening y ms X)
 
   -- an accepted entry that opened: each of its selected tills goes under exactly one of the five, the book's class of it, and the counts count these tills
-  pub record FiveCounts (b : Book) (c : Call) (scope from : ℕ) (bs : List Booked) (a : Answer) : Type 0 where
+  pub record FiveCounts (b : Book) (scope from : ℕ) (bs : List Booked) (a : Answer) : Type 0 where
     pub each-once : map (λ (x : Booked). x .till) bs ≡ selected o (b .live) scope from
     pub counts : countsIn a ≡ tally bs
     pub sum : total (countsIn a) ≡ length (selected o (b .live) scope from)
 
   abbrev pub SumOf : Book → Item → Reply → Type 0
   SumOf b (own room (accept e true)) r =
-      r .number ≡ 0 → FiveCounts b (accept e true) (e .scope) (e .from) (booked o (messageOf o e) (b .live) (selected o (b .live) (e .scope) (e .from))) (r .answer)
+      r .number ≡ 0 → FiveCounts b (e .scope) (e .from) (booked o (messageOf o e) (b .live) (selected o (b .live) (e .scope) (e .from))) (r .answer)
   SumOf b (own room (accept e false)) r = countsIn (r .answer) ≡ noCounts
   SumOf b (own room (flush now rows)) r = countsIn (r .answer) ≡ noCounts
   SumOf b (own room (takeDown t)) r = countsIn (r .answer) ≡ noCounts
@@ -153,9 +153,16 @@ module _ (o : Opening) where
   LogOf b b′ (others X c) r = b′ .live .log ≡ b .live .log
   LogOf b b′ (reopen X y ms) r = b′ .live .log ≡ b .live .log
 
+  -- the output lent to a call begins with the words of the book's answer, a flush's with its rows in their order; what lies behind them stays as found
+  abbrev pub OutputOf : Book → Tables → Item → Type 0
+  OutputOf b T (own room c) = (out : List ℕ) → roomOutput room T c out ≡ outputWith (expectedOf b T (own room c)) out
+  OutputOf b T (others X c) = (out : List ℕ) → callOutput X c out ≡ out
+  OutputOf b T (reopen X y ms) = Unit {0}
+
   pub record CallHolds (b : Book) (T : Tables) (i : Item) : Type 0 where
     -- its counts, and a flush's rows in their order, are the book's
     pub same-answer : replyTo T i .answer ≡ expectedOf b T i
+    pub output : OutputOf b T i
     pub only-no : OnlyNo b i (replyTo T i .number)
     pub number-is : NumberIs b i (replyTo T i .number)
     pub kept : Kept T i
@@ -191,28 +198,41 @@ pub record BookHolds (o : Opening) (b : Book) : Type 0 where
   -- no two rules have one id, and none an id that is still to come
   pub rule-ids : Ascending 0 (b .live .engine .installed) (b .live .engine .rules)
 
-pub record Demand3 (x : Settings) (masks : List ℕ) (lent : Tables) (is : List Item) : Type 0 where
-  pub calls : CallsHold (openingOf x (lent .names)) (opened (openingOf x (lent .names)) masks) (openTables x masks lent) is
-  -- the copies waiting at the list's end are the book's, in every field, each one time; so is all else that the tables hold, the marks as the ids that they list, and the opening's settings
-  pub same-live : plainly (live (x .sizes) (tablesAtEnd (openTables x masks lent) is)) ≡ bookAtEnd (openingOf x (lent .names)) (opened (openingOf x (lent .names)) masks) (openTables x masks lent) is .live
-  pub same-opening : openingAt (tablesAtEnd (openTables x masks lent) is) ≡ openingOf x (lent .names)
-  pub book : BookHolds (openingOf x (lent .names)) (bookAtEnd (openingOf x (lent .names)) (opened (openingOf x (lent .names)) masks) (openTables x masks lent) is)
+-- ---- DEMAND 3, of an accepted opening and the list of calls that follows it
 
--- ---- A later accepted opening begins another list
+module _ (x : Settings) (masks : List ℕ) (lent : Tables) where
+  -- the opening as the book has it; the book and the tables that it leaves; both at the list's end
+  abbrev pub bookOpening : Opening
+  bookOpening = openingOf x (lent .names)
+
+  abbrev pub openBook : Book
+  openBook = opened bookOpening masks
+
+  abbrev pub endTables : List Item → Tables
+  endTables is = tablesAtEnd (openTables x masks lent) is
+
+  abbrev pub endBook : List Item → Book
+  endBook is = bookAtEnd bookOpening openBook (openTables x masks lent) is
+
+  pub record Demand3 (is : List Item) : Type 0 where
+    pub calls : CallsHold bookOpening openBook (openTables x masks lent) is
+    -- the copies waiting at the list's end are the book's, in every field, each one time; so is all else that the tables hold, the marks as the ids that they list, and the opening's settings
+    pub same-live : plainly (live (x .sizes) (endTables is)) ≡ endBook is .live
+    pub same-opening : openingAt (endTables is) ≡ bookOpening
+    pub book : BookHolds bookOpening (endBook is)
+
+-- ---- A later accepted opening begins another list, on whatever tables it was lent
 
 pub record Run : Type 0 where
   pub settings : Settings
   pub masks : List ℕ
+  pub lent : Tables
   pub items : List Item
 
-abbrev pub tablesAfterRun : Tables → Run → Tables
-tablesAfterRun T r = tablesAtEnd (openTables (r .settings) (r .masks) T) (r .items)
+abbrev pub Accepted : List Run → Type 0
+Accepted [] = Unit {0}
+Accepted (r ∷ rs) = (openNumber (r .settings) (r .masks) (r .lent) ≡ 0) × AllAdmitted (r .items) × Accepted rs
 
--- each opening is accepted, on the tables that the list before it left
-abbrev pub Accepted : Tables → List Run → Type 0
-Accepted T [] = Unit {0}
-Accepted T (r ∷ rs) = (openNumber (r .settings) (r .masks) T ≡ 0) × AllAdmitted (r .items) × Accepted (tablesAfterRun T r) rs
-
-abbrev pub EveryList : Tables → List Run → Type 0
-EveryList T [] = Unit {0}
-EveryList T (r ∷ rs) = Demand3 (r .settings) (r .masks) T (r .items) × EveryList (tablesAfterRun T r) rs
+abbrev pub EveryList : List Run → Type 0
+EveryList [] = Unit {0}
+EveryList (r ∷ rs) = Demand3 (r .settings) (r .masks) (r .lent) (r .items) × EveryList rs

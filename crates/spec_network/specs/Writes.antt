@@ -241,9 +241,12 @@ callTables T c = tablesBy (openingAt T) T c
 abbrev pub callReply : Tables → Call → Reply
 callReply T c = replyBy (openingAt T) T c
 
--- what lies behind the answer's words stays
+-- an answer's words at the front of an output; what lies behind them stays
+abbrev pub outputWith : Answer → List ℕ → List ℕ
+outputWith a out = let new = outputOf a in new ++ drop (length new) out
+
 abbrev pub callOutput : Tables → Call → List ℕ → List ℕ
-callOutput T c out = let new = outputOf (callReply T c .answer) in new ++ drop (length new) out
+callOutput T c out = outputWith (callReply T c .answer) out
 
 -- ---- The same for a chain of a pool: `room` says how many of its slots are left to the chain (M-113)
 
@@ -254,4 +257,4 @@ abbrev pub roomReply : Room → Tables → Call → Reply
 roomReply room T c = replyIn (openingAt T) room T c
 
 abbrev pub roomOutput : Room → Tables → Call → List ℕ → List ℕ
-roomOutput room T c out = let new = outputOf (roomReply room T c .answer) in new ++ drop (length new) out
+roomOutput room T c out = outputWith (roomReply room T c .answer) out
