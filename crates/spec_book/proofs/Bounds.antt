@@ -27,7 +27,7 @@ use Rattle.spec_network.specs.Lists.{every, below}
 use Rattle.spec_network.specs.Tables.{cell, nameAt, shardAt, textAt}
 use Rattle.spec_network.specs.Limits.{rateOf, textTests, rangeTests}
 use Rattle.spec_network.specs.Real as real
-use Rattle.spec_network.specs.Real.{keyOf, keysOf, faultKeyOf, pricedBy, regionAt, costAt, scopeBytes, idOf, openingOf}
+use Rattle.spec_network.specs.Real.{keyOf, keysOf, faultKeyOf, pricedBy, regionAt, costAt, scopeBytes, idOf}
 use Rattle.spec_network.proofs.Opened.{prices-of, region-below}
 use Rattle.spec_network.proofs.Hash.{hash-fit}
 use Rattle.spec_book.proofs.Each.{all-each, every-each, each-at, upTo-each, True}
@@ -135,7 +135,11 @@ module _ (x : Settings) (names : List ℕ) (ranges : every (rangeTests (x .confi
       let head = textAt names (nameAt kind) ++ scopeBytes names scope in
       two-words (hash (head ++ wire)) (hash-fit (head ++ wire) (omega (arith, length-append head wire, length-append (textAt names (nameAt kind)) (scopeBytes names scope), name-short kind k, scope-short scope s)))
 
-  pub draws-fit : DrawsFit (openingOf x names)
+  -- the draws as the tables have them
+  abbrev pub tabled : Opening
+  tabled = record { sizes = x .sizes; draws = real.drawsOf x names (keyOf (x .sizes .tills) (keysOf x)) (costAt x (pricedBy x)) }
+
+  pub draws-fit : DrawsFit tabled
   unfolding real.drawsOf real.chance
   draws-fit = record {
     loss = λ from to w. omega (arith, hit-most (rateOf (x .config .loss)));

@@ -8,73 +8,84 @@ use lib.ListN.{length}
 use Rattle.table_waiting.proofs.Order.{front-all}
 use Rattle.table_marks.specs.Marks.{listed}
 use Rattle.spec_network.specs.Lists.{count}
-use Rattle.spec_network.specs.Opening.{Settings, Opening}
+use Rattle.spec_network.specs.Opening.{Settings, Opening, Draws}
 use Rattle.spec_network.specs.Marking.{plain, table}
 use Rattle.spec_network.specs.Live.{Live, LiveBy, plainly, openingLive}
 use Rattle.spec_network.specs.Accept.{messageOf, selected, booked, noCounts, tally, total}
 use Rattle.spec_network.specs.Flush.{handled}
 use Rattle.spec_network.specs.Calls.{Call, Answer, liveStep, answerOf, countsIn, rowsIn, deliveredIn, dropsIn, accept, flush, takeDown, bringUp, handlers, block, blockDuring, unblock, install, remove, decide, drain, reading}
 use Rattle.spec_network.specs.Questions.{Asked, Room, alone, askedIn, asked, firstNo, answerTo}
-use Rattle.spec_network.specs.Tables.{Tables, sizesAt, live}
-use Rattle.spec_network.specs.Real.{openingOf, openingAt}
+use Rattle.spec_network.specs.Tables.{Tables, sizesAt, settingsAt, live}
+use Rattle.spec_network.specs.Real.{keyOf, costAt, openingOf, openingAt}
 use Rattle.spec_network.specs.Lent.{question1}
 use Rattle.spec_network.specs.Writes.{Reply, isNumber, numberIn, exitT, answerT, tablesIn, replyIn, outputWith, callReply, roomReply}
 use Rattle.spec_network.specs.Open.{askedOpening, openNumber, openTables, openExit}
+use Rattle.spec_network.proofs.Opened.{keys-are, costs-are, SameDraws, draws-are}
 use Rattle.spec_book.specs.Book.{Book, landedIn, droppedIn, bookStep, expected, opened}
 use Rattle.spec_book.specs.History.{hasSequence}
-use Rattle.spec_book.specs.Demand3.{Item, own, others, reopen, Admitted, AllAdmitted, replyTo, tablesAfter, tablesAtEnd, refused, Kept, copiesOf, bookAfter, expectedOf, bookAtEnd, OnlyNo, NumberIs, SumOf, isDrain, logFrom, LogOf, OutputOf, CallHolds, CallsHold, BookHolds, Demand3, Run, Accepted, EveryList}
+use Rattle.spec_book.specs.Demand3.{Item, own, others, reopen, Admitted, AllAdmitted, replyTo, tablesAfter, tablesAtEnd, refused, Kept, copiesOf, bookAfter, expectedOf, bookAtEnd, OnlyNo, NumberIs, SumOf, isDrain, logFrom, LogOf, OutputOf, CallHolds, CallsHold, BookHolds, OpeningHeld, Demand3, Run, Accepted, EveryList}
 use Rattle.spec_book.proofs.Marks.{two-originals}
 use Rattle.spec_book.proofs.Sound.{SoundBook, book-sound, opened-sound}
 use Rattle.spec_book.proofs.Plain as marks
+use Rattle.spec_book.proofs.Drawing as drawing
+use Rattle.spec_book.proofs.Drawing.{by}
 use Rattle.spec_book.proofs.Sums.{booked-tills, booked-total}
 use Rattle.spec_book.proofs.Moves.{book-rows, book-drops, book-delivered, book-log, quiet}
 use Rattle.spec_book.proofs.Asking.{first-no, apart-in, apart, apart-opening}
 use Rattle.spec_book.proofs.Fitting.{Limited}
 use Rattle.spec_book.proofs.StepFits.{step-fits}
-use Rattle.spec_book.proofs.Formed.{Fixed}
+use Rattle.spec_book.proofs.Formed.{Four, Fixed}
 use Rattle.spec_book.proofs.Simulation.{step-wrote}
-use Rattle.spec_book.proofs.Unwritten.{same-step}
+use Rattle.spec_book.proofs.Unwritten.{same-step, same-end}
 use Rattle.spec_book.proofs.Held.{Held, yes1}
 use Rattle.spec_book.proofs.Start.{limited, open-held}
 
--- the tables hold a live part, and it is the book's once its marks are plain
+-- the tables, whose draws agree with the book's, hold a live part, and it is the book's once its marks are plain
 pub record Bears (o : Opening) (T : Tables) (b : Book) : Type 0 where
+  pub draws : Draws
+  pub agree : SameDraws (o .sizes .tills) draws (o .draws)
   pub kept : Live
-  pub held : Held o T kept
+  pub held : Held (by o draws) T kept
   pub same : plainly kept ≡ b .live
 
 module _ (o : Opening) where
   -- ---- One call: the contracts speak of the book's opening
 
   module _ (room : Room) (T : Tables) (b : Book) (h : Bears o T b) (c : Call) where
-    pub reply-is : roomReply room T c ≡ replyIn o room T c
+    pub reply-is : roomReply room T c ≡ replyIn (by o (h .draws)) room T c
     reply-is = ap (λ (q : Opening). replyIn q room T c) (h .held .fixed .opening)
 
     -- the questions of the tables are those of the book
-    pub asked-is : askedIn o room (h .kept) c ≡ askedIn o room (b .live) c
-    asked-is = marks.same-asked o (h .kept) (h .held .fits .ordered) room c ∙ ap (λ (q : LiveBy plain). askedIn o room q c) (h .same)
+    pub asked-is : askedIn (by o (h .draws)) room (h .kept) c ≡ askedIn o room (b .live) c
+    asked-is =
+        marks.same-asked (by o (h .draws)) (h .kept) (h .held .fits .ordered) room c ∙ ap (λ (q : LiveBy plain). askedIn (by o (h .draws)) room q c) (h .same)
+        ∙ drawing.same-asked o (h .draws) (h .agree) (b .live) room c
 
-    pub number-kept : numberIn o room T c ≡ firstNo (askedIn o room (h .kept) c)
-    number-kept = rw (yes1 o T (h .kept) (h .held) c) (ap (λ (q : Live). firstNo (askedIn o room q c)) (h .held .wrote .holds))
+    pub number-kept : numberIn (by o (h .draws)) room T c ≡ firstNo (askedIn (by o (h .draws)) room (h .kept) c)
+    number-kept = rw (yes1 (by o (h .draws)) T (h .kept) (h .held) c) (ap (λ (q : Live). firstNo (askedIn (by o (h .draws)) room q c)) (h .held .wrote .holds))
 
-    pub number-is : numberIn o room T c ≡ firstNo (askedIn o room (b .live) c)
+    pub number-is : numberIn (by o (h .draws)) room T c ≡ firstNo (askedIn o room (b .live) c)
     number-is = number-kept ∙ ap firstNo asked-is
 
-  pub answer-is : (T : Tables) (b : Book) (h : Bears o T b) (c : Call) (r : Bool) → answerT o r T c ≡ expected o b c r
-  answer-is T b h c true = refl
-  answer-is T b h c false =
-      ap (λ (s : Live). answerOf o s c) (h .held .wrote .holds) ∙ marks.same-answer o (h .kept) (h .held .fits .ordered) c ∙ ap (λ (q : LiveBy plain). answerOf o q c) (h .same)
+  pub answer-is : (room : Room) (T : Tables) (b : Book) (h : Bears o T b) (c : Call) (n : ℕ) → n ≡ firstNo (askedIn o room (b .live) c) → answerT (by o (h .draws)) (isNumber n) T c ≡ expected o b c (isNumber n)
+  answer-is room T b h c (suc n) e = refl
+  answer-is room T b h c zero e =
+      ap (λ (s : Live). answerOf (by o (h .draws)) s c) (h .held .wrote .holds) ∙ marks.same-answer (by o (h .draws)) (h .kept) (h .held .fits .ordered) c ∙ ap (λ (q : LiveBy plain). answerOf (by o (h .draws)) q c) (h .same)
+      ∙ drawing.same-answer o (h .draws) (h .agree) (b .live) room c (sym e)
 
-  held-step : Limited (o .sizes) → (room : Room) (T : Tables) (b : Book) (c : Call) (h : Bears o T b) → (n : ℕ) → n ≡ firstNo (askedIn o room (h .kept) c)
-      → Bears o (exitT o (isNumber n) T c) (bookStep o b c (isNumber n))
+  held-step : Limited (o .sizes) → (room : Room) (T : Tables) (b : Book) (c : Call) (h : Bears o T b) → (n : ℕ) → n ≡ firstNo (askedIn (by o (h .draws)) room (h .kept) c)
+      → Bears o (exitT (by o (h .draws)) (isNumber n) T c) (bookStep o b c (isNumber n))
   held-step lim room T b c h zero e = record {
-    kept = liveStep o (h .kept) c;
+    draws = h .draws;
+    agree = h .agree;
+    kept = liveStep (by o (h .draws)) (h .kept) c;
     held = record {
-      fixed = subst (Fixed o) (sym (same-step o T c)) (h .held .fixed);
-      wrote = step-wrote o lim room c T (h .kept) (h .held .wrote) (h .held .fits) (sym e);
-      fits = step-fits o lim room (h .kept) c (sym e) (h .held .fits);
+      fixed = subst (Fixed (by o (h .draws))) (sym (same-step (by o (h .draws)) T c)) (h .held .fixed);
+      wrote = step-wrote (by o (h .draws)) lim room c T (h .kept) (h .held .wrote) (h .held .fits) (sym e);
+      fits = step-fits (by o (h .draws)) lim room (h .kept) c (sym e) (h .held .fits);
     };
-    same = marks.same-step o (h .kept) (h .held .fits .ordered) c ∙ ap (λ (q : LiveBy plain). liveStep o q c) (h .same);
+    same = marks.same-step (by o (h .draws)) (h .kept) (h .held .fits .ordered) c ∙ ap (λ (q : LiveBy plain). liveStep (by o (h .draws)) q c) (h .same)
+        ∙ drawing.same-step o (h .draws) (h .agree) (b .live) room c (sym (e ∙ ap firstNo (asked-is room T b h c)));
   }
   held-step lim room T b c h (suc n) e = h
 
@@ -83,7 +94,7 @@ module _ (o : Opening) where
   same-answer : (b : Book) (T : Tables) (i : Item) → Bears o T b → Admitted i → replyTo T i .answer ≡ expectedOf o b T i
   same-answer b T (own room c) h a =
       ap (λ (r : Reply). r .answer) (reply-is room T b h c)
-      ∙ answer-is T b h c (isNumber (numberIn o room T c))
+      ∙ answer-is room T b h c (numberIn (by o (h .draws)) room T c) (number-is room T b h c)
       ∙ ap (λ (r : Reply). expected o b c (isNumber (r .number))) (sym (reply-is room T b h c))
   same-answer b T (others X c) h a = rw a
   same-answer b T (reopen X y ms) h a = refl
@@ -212,7 +223,7 @@ module _ (o : Opening) where
     pub held-after : (b : Book) (T : Tables) (i : Item) → Bears o T b → Admitted i → Bears o (tablesAfter T i) (bookAfter o b T i)
     held-after b T (own room c) h a =
         subst (λ (q : Opening). Bears o (tablesIn q room T c) (bookStep o b c (isNumber (numberIn q room T c)))) (sym (h .held .fixed .opening))
-        (held-step lim room T b c h (numberIn o room T c) (number-kept room T b h c))
+        (held-step lim room T b c h (numberIn (by o (h .draws)) room T c) (number-kept room T b h c))
     held-after b T (others X c) h a = rw a h
     held-after b T (reopen X y ms) h a = h
 
@@ -248,13 +259,27 @@ module _ (o : Opening) where
 
 -- ---- THE THEOREM
 
-pub open-bears : (x : Settings) (masks : List ℕ) (lent : Tables) → openNumber x masks lent ≡ 0 → Bears (openingOf x (lent .names)) (openTables x masks lent) (opened (openingOf x (lent .names)) masks)
+pub open-bears : (x : Settings) (masks : List ℕ) (lent : Tables) → openNumber x masks lent ≡ 0
+    → Bears (openingOf x (lent .names)) (openTables x masks lent) (opened (openingOf x (lent .names)) masks)
 open-bears x masks lent n =
     let s = openingLive table (x .sizes) masks in
     record {
+      draws = openingAt (openTables x masks lent) .draws;
+      agree = draws-are x (lent .names);
       kept = s;
       held = open-held x masks lent n;
       same = (λ j. record { tills = s .tills; seen = marks.map-replicate listed (x .sizes .tills) [] j; engine = s .engine; rings = s .rings; words = s .words; sequence = s .sequence; waiting = s .waiting; log = s .log });
+    }
+
+opening-held : (x : Settings) (masks : List ℕ) (lent : Tables) (is : List Item) → OpeningHeld x (lent .names) (tablesAtEnd (openTables x masks lent) is)
+opening-held x masks lent is =
+    let four = same-end is (openTables x masks lent) in
+    let n = x .sizes .tills in
+    record {
+      settings = ap (λ (q : Four). settingsAt (q .setup)) four;
+      texts = ap (λ (q : Four). q .names) four;
+      keys = λ from to f t. ap (λ (q : Four). keyOf n (q .keys) from to) four ∙ keys-are x from to f t;
+      costs = λ from to bytes f t. ap (λ (q : Four). costAt x (q .prices) from to bytes) four ∙ costs-are x from to bytes f t;
     }
 
 -- for every accepted opening, whatever tables it was lent, and every list of calls
@@ -268,7 +293,7 @@ demand3 x masks lent n is a =
     record {
       calls = calls-hold o lim is (opened o masks) T h a;
       same-live = ap plainly (end .held .wrote .holds) ∙ end .same;
-      same-opening = end .held .fixed .opening;
+      same-opening = opening-held x masks lent is;
       book = book-holds o (bookAtEnd o (opened o masks) T is) (end-sound o is (opened o masks) T (opened-sound o masks));
     }
 

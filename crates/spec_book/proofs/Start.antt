@@ -26,7 +26,7 @@ use Rattle.spec_network.specs.Live.{upTill, openTills, openingLive, ringsOf}
 use Rattle.spec_network.specs.Questions.{Asked}
 use Rattle.spec_network.specs.Tables.{cell, Tables, live, setupOf, setupWidth, tillForm, idsStart}
 use Rattle.spec_network.specs.Limits.{sizeTests}
-use Rattle.spec_network.specs.Real.{keyWidth, pricedBy, regionAt, openingOf}
+use Rattle.spec_network.specs.Real.{keyWidth, pricedBy, regionAt, openingAt}
 use Rattle.spec_network.specs.Lent.{setupTests, namesTests, keysTests, pricesTests}
 use Rattle.spec_network.specs.Open.{lentTests, limitTests, askedOpening, openNumber, openTables}
 use Rattle.spec_network.proofs.Opened.{length-keys, length-priced, priced-admitted, region-below}
@@ -85,7 +85,7 @@ module _ (x : Settings) (masks : List ℕ) (lent : Tables) (accepted : openNumbe
           (each-all (λ i. linkAdmitted (linkIn (pricedBy x) i)) (below (r * r)) (each-upTo (λ i. linkAdmitted (linkIn (pricedBy x) i) ≡ true) (r * r) (λ i. i) (λ i l. priced-admitted x e i l)))
           (each-all (λ t. ltb (regionAt (x .plan) (pricedBy x) t) r) (below (x .sizes .tills)) (each-upTo (λ t. ltb (regionAt (x .plan) (pricedBy x) t) r ≡ true) (x .sizes .tills) (λ i. i) (λ t l. region-below x e t l)))
 
-  fixed : Fixed (openingOf x (lent .names)) (fourOf opened)
+  fixed : Fixed (openingAt opened) (fourOf opened)
   fixed = record {
     setup = each-every (setupTests opened) (eq-eqb _ _ setup-long, (limits .0, (yes .1 .1 .0, tt)));
     names = each-every (namesTests z opened) (sized .1 .1 .0, (limits .1 .0, tt));
@@ -173,5 +173,5 @@ module _ (x : Settings) (masks : List ℕ) (lent : Tables) (accepted : openNumbe
       let l = every-each (sizeTests x) (limits .0) in
       record { tills = leb-true _ _ (l .0); seen = leb-true _ _ (l .1 .1 .1 .1 .1 .1 .1 .0); waiting = leb-true _ _ (l .1 .1 .1 .1 .1 .0); log = leb-true _ _ (l .1 .1 .1 .1 .1 .1 .1 .1 .0); types = leb-true _ _ (l .1 .0); classes = leb-true _ _ (l .1 .1 .0); shards = leb-true _ _ (l .1 .1 .1 .0) }
 
-  pub open-held : Held (openingOf x (lent .names)) (openTables x masks lent) (openingLive table (x .sizes) masks)
-  open-held = record { fixed = fixed; wrote = record { formed = formed; holds = holds }; fits = opening-fits (openingOf x (lent .names)) masks (yes .1 .1 .1 .0) }
+  pub open-held : Held (openingAt (openTables x masks lent)) (openTables x masks lent) (openingLive table (x .sizes) masks)
+  open-held = record { fixed = fixed; wrote = record { formed = formed; holds = holds }; fits = opening-fits (openingAt opened) masks (yes .1 .1 .1 .0) }

@@ -14,7 +14,9 @@ use Rattle.spec_network.specs.Accept.{Message, messageOf, selected, Drawn, draw
 use Rattle.spec_network.specs.Flush.{due, later, stops, lands}
 use Rattle.spec_network.specs.Calls.{Call, accept, flush, takeDown, bringUp, handlers, block, blockDuring, unblock, install, remove, decide, drain, reading}
 use Rattle.spec_network.specs.Tables.{Tables, live, faultWordsAt}
-use Rattle.spec_network.specs.Writes.{setRules, setRings, netT, wordsT, marksT, waitingT, ruledT, recordAllT, pushT, rememberT, effectT, offeredT, acceptT, clearT, stepT}
+use Rattle.spec_network.specs.Real.{openingAt}
+use Rattle.spec_network.specs.Writes.{isNumber, numberIn, exitT, setRules, setRings, netT, wordsT, marksT, waitingT, ruledT, recordAllT, pushT, rememberT, effectT, offeredT, acceptT, clearT, stepT}
+use Rattle.spec_book.specs.Demand3.{Item, own, others, reopen, tablesAfter, tablesAtEnd}
 use Rattle.spec_book.proofs.Formed.{fourOf}
 
 module _ (z : Sizes) where
@@ -83,3 +85,18 @@ module _ (o : Opening) where
   same-step T (decide x) = same-ruled (o .sizes) T (o .draws .decide x (live (o .sizes) T .engine .rules) (live (o .sizes) T .engine .words))
   same-step T (drain n) = refl
   same-step T (reading r) = refl
+
+-- ---- Every list
+
+same-exit : (p : Opening) (T : Tables) (c : Call) (r : Bool) → fourOf (exitT p r T c) ≡ fourOf T
+same-exit p T c true = refl
+same-exit p T c false = same-step p T c
+
+pub same-after : (T : Tables) (i : Item) → fourOf (tablesAfter T i) ≡ fourOf T
+same-after T (own room c) = same-exit (openingAt T) T c (isNumber (numberIn (openingAt T) room T c))
+same-after T (others X c) = refl
+same-after T (reopen X y ms) = refl
+
+pub same-end : (is : List Item) (T : Tables) → fourOf (tablesAtEnd T is) ≡ fourOf T
+same-end [] T = refl
+same-end (i ∷ is) T = same-end is (tablesAfter T i) ∙ same-after T i

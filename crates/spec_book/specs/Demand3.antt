@@ -1,6 +1,6 @@
 -- Document 01, 'The book': DEMAND 3, one statement on every list of calls after an accepted opening.
 use mathlib.Core.Path.{_≡_}
-use Prim.Native.Nat.{ℕ, zero, suc, _+_}
+use Prim.Native.Nat.{ℕ, zero, suc, _+_, _<_}
 use mathlib.Core.Bool.{Bool, true, false, _&&_}
 use mathlib.Core.List.{List, [], _∷_, _++_, map, reverseAux}
 use lib.Dec.{T}
@@ -19,8 +19,8 @@ use Rattle.spec_network.specs.Accept.{messageOf, selected, Booked, booked, noCo
 use Rattle.spec_network.specs.Flush.{Row, handled, due, loggedAll}
 use Rattle.spec_network.specs.Calls.{Call, Answer, silent, countsIn, rowsIn, deliveredIn, dropsIn, accept, flush, takeDown, bringUp, handlers, block, blockDuring, unblock, install, remove, decide, drain, reading}
 use Rattle.spec_network.specs.Questions.{Room, askedIn, asked, firstNo, answerTo}
-use Rattle.spec_network.specs.Tables.{Tables, sizesAt, live}
-use Rattle.spec_network.specs.Real.{openingOf, openingAt}
+use Rattle.spec_network.specs.Tables.{Tables, sizesAt, settingsAt, live}
+use Rattle.spec_network.specs.Real.{keyOf, costAt, bookKey, bookCost, openingOf, openingAt}
 use Rattle.spec_network.specs.Lent.{question1}
 use Rattle.spec_network.specs.Writes.{Reply, isNumber, outputWith, callTables, callReply, callOutput, roomTables, roomReply, roomOutput}
 use Rattle.spec_network.specs.Open.{askedOpening, openNumber, openTables, openCall}
@@ -198,6 +198,13 @@ pub record BookHolds (o : Opening) (b : Book) : Type 0 where
   -- no two rules have one id, and none an id that is still to come
   pub rule-ids : Ascending 0 (b .live .engine .installed) (b .live .engine .rules)
 
+-- the tables hold the opening: its settings and names, and for every link between its tills the key and the cost that the book has
+pub record OpeningHeld (x : Settings) (names : List ℕ) (T : Tables) : Type 0 where
+  pub settings : settingsAt (T .setup) ≡ x
+  pub texts : T .names ≡ names
+  pub keys : (from to : ℕ) → from < x .sizes .tills → to < x .sizes .tills → keyOf (x .sizes .tills) (T .keys) from to ≡ bookKey x from to
+  pub costs : (from to bytes : ℕ) → from < x .sizes .tills → to < x .sizes .tills → costAt x (T .prices) from to bytes ≡ bookCost x from to bytes
+
 -- ---- DEMAND 3, of an accepted opening and the list of calls that follows it
 
 module _ (x : Settings) (masks : List ℕ) (lent : Tables) where
@@ -216,9 +223,9 @@ module _ (x : Settings) (masks : List ℕ) (lent : Tables) where
 
   pub record Demand3 (is : List Item) : Type 0 where
     pub calls : CallsHold bookOpening openBook (openTables x masks lent) is
-    -- the copies waiting at the list's end are the book's, in every field, each one time; so is all else that the tables hold, the marks as the ids that they list, and the opening's settings
+    -- the copies waiting at the list's end are the book's, in every field, each one time; so is all else that the tables hold, the marks as the ids that they list, and the opening
     pub same-live : plainly (live (x .sizes) (endTables is)) ≡ endBook is .live
-    pub same-opening : openingAt (endTables is) ≡ bookOpening
+    pub same-opening : OpeningHeld x (lent .names) (endTables is)
     pub book : BookHolds bookOpening (endBook is)
 
 -- ---- A later accepted opening begins another list, on whatever tables it was lent

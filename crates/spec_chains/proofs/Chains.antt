@@ -27,6 +27,7 @@ use Rattle.spec_book.specs.Demand3.{Item, own, others, reopen, Admitted, AllAdm
 use Rattle.spec_book.proofs.Fitting.{Limited}
 use Rattle.spec_book.proofs.Each.{all-each, every-each, both}
 use Rattle.spec_book.proofs.Held.{Held}
+use Rattle.spec_book.proofs.Drawing.{by}
 use Rattle.spec_book.proofs.Asking.{all-yes}
 use Rattle.spec_book.proofs.Start.{limited}
 use Rattle.spec_book.proofs.Final.{Bears, number-is, held-after, call-holds, open-bears, demand3}
@@ -47,7 +48,7 @@ pub held-count : (o : Opening) (T : Tables) (s : Live) → Held o T s → cell (
 held-count o T s h = sym (length-rows (waiting.form .width) (waiting.form .read) (cell (T .net) waitingAt) (T .waiting)) ∙ ap (λ (q : Live). length (q .waiting)) (h .wrote .holds)
 
 pub waiting-count : (o : Opening) (T : Tables) (b : Book) → Bears o T b → cell (T .net) waitingAt ≡ length (b .live .waiting)
-waiting-count o T b h = held-count o T (h .kept) (h .held) ∙ ap (λ (q : LiveBy plain). length (q .waiting)) (h .same)
+waiting-count o T b h = held-count (by o (h .draws)) T (h .kept) (h .held) ∙ ap (λ (q : LiveBy plain). length (q .waiting)) (h .same)
 
 pub admitted-placed : (room : Room) (i : Item) → Admitted i → Admitted (placed room i)
 admitted-placed room (own r c) a = tt
@@ -58,7 +59,7 @@ admitted-placed room (reopen X y ms) a = a
 pub item-few : (o : Opening) (T : Tables) (b : Book) → Bears o T b → (free most : ℕ) (i : Item) → Admitted i → length (b .live .waiting) ≤ most → free ≤ most → length (bookAfter o b T (placed (pooled free) i) .live .waiting) ≤ most
 item-few o T b h free most (own r c) a w f =
     subst (λ (q : Opening). length (bookStep o b c (isNumber (numberIn q (pooled free) T c)) .live .waiting) ≤ most) (sym (h .held .fixed .opening))
-    (book-few o free most b c (numberIn o (pooled free) T c) (number-is o (pooled free) T b h c) w f)
+    (book-few o free most b c (numberIn (by o (h .draws)) (pooled free) T c) (number-is o (pooled free) T b h c) w f)
 item-few o T b h free most (others X c) a w f = rw a w
 item-few o T b h free most (reopen X y ms) a w f = w
 

@@ -9,7 +9,7 @@ use lib.Dec.{leb}
 use lib.ListN.{length}
 use borrow.Author.Tests.{le-leb, leb-true}
 use Rattle.table_waiting.specs.Waiting.{onTime}
-use Rattle.spec_network.specs.Opening.{Opening}
+use Rattle.spec_network.specs.Opening.{Opening, Draws}
 use Rattle.spec_network.specs.Marking.{plain}
 use Rattle.spec_network.specs.Live.{Live, LiveBy}
 use Rattle.spec_network.specs.Accept.{Message, messageOf, selected, drawn, Class, deduplicated, partition, loss, fault, sent, classOf, copies, effect, offered, liveAfter}
@@ -25,41 +25,42 @@ use Rattle.spec_book.proofs.Each.{both}
 use Rattle.spec_book.proofs.Asking.{all-yes, apart-in}
 use Rattle.spec_book.proofs.Echoing.{drawn-few}
 use Rattle.spec_book.proofs.Fitting.{length-insertAll, few-copies, length-behind}
+use Rattle.spec_book.proofs.Drawing.{by}
 use Rattle.spec_book.proofs.Final.{Bears}
 use Rattle.spec_chains.specs.Chains.{placed, InsideCall, Inside}
 
 -- ---- (a) No doings of the others get a chain refused inside its share
 
 module _ (o : Opening) (share free : ℕ) (in-limit : share ≤ o .sizes .waitSlots) (in-pool : share ≤ free) where
-  pub same-number : (s : Live) (c : Call) → InsideCall o share s c → firstNo (askedIn o (pooled free) s c) ≡ firstNo (askedIn o alone s c)
-  same-number s (accept e true) h =
+  pub same-number : (d : Draws) (s : Live) (c : Call) → InsideCall o share s c → firstNo (askedIn (by o d) (pooled free) s c) ≡ firstNo (askedIn (by o d) alone s c)
+  same-number d s (accept e true) h =
       let n : ℕ = length (s .waiting) + 3 * length (selected o s (e .scope) (e .from)) in
       let l : leb n (o .sizes .waitSlots) ≡ true = le-leb n (o .sizes .waitSlots) (le-trans h in-limit) in
       let p : leb n free ≡ true = le-leb n free (le-trans h in-pool) in
       rw (l, p)
-  same-number s (accept e false) h = refl
-  same-number s (flush now rows) h = refl
-  same-number s (takeDown t) h = refl
-  same-number s (bringUp t shards) h = refl
-  same-number s (handlers t gossip host) h = refl
-  same-number s (block from to) h = refl
-  same-number s (blockDuring from to start end) h = refl
-  same-number s (unblock from to) h = refl
-  same-number s (install card) h = refl
-  same-number s (remove id) h = refl
-  same-number s (decide x) h = refl
-  same-number s (drain rows) h = refl
-  same-number s (reading r) h = refl
+  same-number d s (accept e false) h = refl
+  same-number d s (flush now rows) h = refl
+  same-number d s (takeDown t) h = refl
+  same-number d s (bringUp t shards) h = refl
+  same-number d s (handlers t gossip host) h = refl
+  same-number d s (block from to) h = refl
+  same-number d s (blockDuring from to start end) h = refl
+  same-number d s (unblock from to) h = refl
+  same-number d s (install card) h = refl
+  same-number d s (remove id) h = refl
+  same-number d s (decide x) h = refl
+  same-number d s (drain rows) h = refl
+  same-number d s (reading r) h = refl
 
-  number-alone : (T : Tables) (c : Call) → InsideCall o share (live (o .sizes) T) c → numberIn o (pooled free) T c ≡ numberIn o alone T c
-  number-alone T c h = ap (λ (n : ℕ). cond (question1 (o .sizes) T c) n 1) (same-number (live (o .sizes) T) c h)
+  number-alone : (d : Draws) (T : Tables) (c : Call) → InsideCall o share (live (o .sizes) T) c → numberIn (by o d) (pooled free) T c ≡ numberIn (by o d) alone T c
+  number-alone d T c h = ap (λ (n : ℕ). cond (question1 (o .sizes) T c) n 1) (same-number d (live (o .sizes) T) c h)
 
   -- replies and tables are those of a network by itself
   pub item-alone : (T : Tables) (b : Book) → Bears o T b → (i : Item) → Inside o share T (placed alone i)
       → (replyTo T (placed (pooled free) i) ≡ replyTo T (placed alone i)) × (tablesAfter T (placed (pooled free) i) ≡ tablesAfter T (placed alone i))
   item-alone T b h (own room c) q =
       let e : numberIn (openingAt T) (pooled free) T c ≡ numberIn (openingAt T) alone T c =
-      subst (λ (p : Opening). numberIn p (pooled free) T c ≡ numberIn p alone T c) (sym (h .held .fixed .opening)) (number-alone T c q) in
+      subst (λ (p : Opening). numberIn p (pooled free) T c ≡ numberIn p alone T c) (sym (h .held .fixed .opening)) (number-alone (h .draws) T c q) in
       (ap (λ (n : ℕ). replied n) e, ap (λ (n : ℕ). exitT (openingAt T) (isNumber n) T c) e)
     where
       replied : ℕ → Reply

@@ -28,6 +28,7 @@ use Rattle.spec_book.specs.Demand3.{Item, own, others, reopen, Admitted, replyT
 use Rattle.spec_book.proofs.Formed.{formed-waiting}
 use Rattle.spec_book.proofs.Sound.{SoundBook, opened-sound}
 use Rattle.spec_book.proofs.Held.{Held}
+use Rattle.spec_book.proofs.Drawing.{by}
 use Rattle.spec_book.proofs.Final.{Bears, reply-is, number-is, answer-is, held-after, call-holds, after-sound, book-holds, open-bears}
 use Rattle.spec_chains.specs.Pool.{sumBelow, othersBelow, takes, Bench, limit, freeFor, mostChains, chainOpening, chainOpened}
 use Rattle.spec_chains.specs.Chains.{placed, put, inBooks, openedBooks, Inside, AllInside, repliesTo}
@@ -98,8 +99,10 @@ held-brought o T s h work e = record {
 
 pub bears-brought : (o : Opening) (T : Tables) (b : Book) → Bears o T b → (work : List ℕ) → length work ≡ o .sizes .waitSlots * waiting.width → Bears o (setWaiting T (over waiting.form (b .live .waiting) work)) b
 bears-brought o T b h work e = record {
+  draws = h .draws;
+  agree = h .agree;
   kept = h .kept;
-  held = subst (λ (q : LiveBy plain). Held o (setWaiting T (over waiting.form (q .waiting) work)) (h .kept)) (h .same) (held-brought o T (h .kept) (h .held) work e);
+  held = subst (λ (q : LiveBy plain). Held (by o (h .draws)) (setWaiting T (over waiting.form (q .waiting) work)) (h .kept)) (h .same) (held-brought (by o (h .draws)) T (h .kept) (h .held) work e);
   same = h .same;
 }
 
@@ -338,10 +341,10 @@ by-book : (o : Opening) (room : Room) (T : Tables) (b : Book) → Bears o T b �
 by-book o room T b h c =
     reply-is o room T b h c
     ∙ ap both (number-is o room T b h c)
-    ∙ ap made (answer-is o T b h c (isNumber (firstNo (askedIn o room (b .live) c))))
+    ∙ ap made (answer-is o room T b h c (firstNo (askedIn o room (b .live) c)) refl)
   where
     both : ℕ → Reply
-    both k = record { number = k; answer = answerT o (isNumber k) T c }
+    both k = record { number = k; answer = answerT (by o (h .draws)) (isNumber k) T c }
 
     made : Answer → Reply
     made a = record { number = firstNo (askedIn o room (b .live) c); answer = a }

@@ -18,18 +18,19 @@ use Rattle.spec_network.specs.Accept.{Entry}
 use Rattle.spec_network.specs.Calls.{Call, accept, flush}
 use Rattle.spec_network.specs.Questions.{firstNo}
 use Rattle.spec_network.specs.Tables.{cell, Tables, sizesAt}
-use Rattle.spec_network.specs.Real.{openingOf, openingAt}
+use Rattle.spec_network.specs.Real.{openingOf}
 use Rattle.spec_network.specs.Lent.{everyOf, setupTests, lentTests}
-use Rattle.spec_network.specs.Writes.{isNumber, numberIn, exitT}
+use Rattle.spec_network.specs.Writes.{isNumber}
 use Rattle.spec_network.specs.Open.{openNumber, openTables}
 use Rattle.spec_book.specs.Book.{Book, opened}
 use Rattle.spec_book.specs.Demand3.{Item, own, others, reopen, Admitted, AllAdmitted, tablesAfter, tablesAtEnd, bookAfter, bookAtEnd, CallHolds, CallsHold}
 use Rattle.spec_book.proofs.Each.{both, join, each-all, each-every, all-each, each-set}
 use Rattle.spec_book.proofs.Formed.{fourOf}
-use Rattle.spec_book.proofs.Unwritten.{same-step}
+use Rattle.spec_book.proofs.Unwritten.{same-end}
 use Rattle.spec_book.proofs.Held.{Held, yes1}
 use Rattle.spec_book.proofs.Asking.{numbersApart, first-no}
 use Rattle.spec_book.proofs.Start.{limited}
+use Rattle.spec_book.proofs.Drawing.{by}
 use Rattle.spec_book.proofs.Final.{Bears, open-bears, end-held, demand3}
 use Rattle.spec_names.specs.Keeping.{NameCall, keep, return, giveUp, names, stored, restored, needWords, roomy, keeps, openShelf, shelfTests, nineHeld, nineTests, nameTests, nameQuestion1, askedName, numberBy, tablesIf, shelfIf, memoryIf, memoryOf, nameNumber, nameRefused}
 use Rattle.spec_names.specs.Named.{Act, call, named, strangers, orElse, isSome, Side, sideIf, sideAfter, sideAtEnd, Told, nothingTold, toldName, toldAfter, toldAtEnd, AdmittedName, AdmittedAct, AdmittedActs, OnlyNoName, bookOf, ActHolds, ActsHold, openSide, NamedDemand3}
@@ -48,21 +49,6 @@ admitted-more (k ∷ is) i h a = (h .0, admitted-more is i (h .1) a)
 last-call : (o : Opening) (is : List Item) (b : Book) (T : Tables) (i : Item) → CallsHold o b T (is ++ (i ∷ [])) → CallHolds o (bookAtEnd o b T is) (tablesAtEnd T is) i
 last-call o [] b T i h = h .0
 last-call o (k ∷ is) b T i h = last-call o is (bookAfter o b T k) (tablesAfter T k) i (h .1)
-
--- ---- No call writes the opening's four tables
-
-same-exit : (p : Opening) (T : Tables) (c : Call) (r : Bool) → fourOf (exitT p r T c) ≡ fourOf T
-same-exit p T c true = refl
-same-exit p T c false = same-step p T c
-
-same-after : (T : Tables) (i : Item) → fourOf (tablesAfter T i) ≡ fourOf T
-same-after T (own room c) = same-exit (openingAt T) T c (isNumber (numberIn (openingAt T) room T c))
-same-after T (others X c) = refl
-same-after T (reopen X y ms) = refl
-
-same-end : (is : List Item) (T : Tables) → fourOf (tablesAtEnd T is) ≡ fourOf T
-same-end [] T = refl
-same-end (i ∷ is) T = same-end is (tablesAfter T i) ∙ same-after T i
 
 -- ---- Question 1 of tables that hold a book
 
@@ -219,10 +205,10 @@ module _ (x : Settings) (masks : List ℕ) (lent : Tables) (accepted : openNumbe
   same-asked t p (giveUp k) h = rw (kept-is (keeps (p .shelf) k) (t .kept k) (p .left k) (h .kept k))
 
   number-by : (t : Told) (p : Side) (a : NameCall) → Agree t p → numberBy z (p .tables) (p .shelf) a ≡ firstNo (askedName z (p .tables) (keeps (p .shelf)) a)
-  number-by t p a h = let w = own-held t p h in rw (name-yes1 o (p .tables) (w .kept) (w .held) (p .shelf) (h .long) (h .low) a)
+  number-by t p a h = let w = own-held t p h in rw (name-yes1 (by o (w .draws)) (p .tables) (w .kept) (w .held) (p .shelf) (h .long) (h .low) a)
 
   by-sizes : (t : Told) (p : Side) → Agree t p → sizesAt (p .tables .setup) ≡ z
-  by-sizes t p h = let w = own-held t p h in sizes-are o (p .tables) (w .kept) (w .held)
+  by-sizes t p h = let w = own-held t p h in sizes-are (by o (w .draws)) (p .tables) (w .kept) (w .held)
 
   admitted-by : (p : Side) (a : NameCall) → AdmittedName o p a → nameNumber (p .tables) (p .shelf) a ≡ 0 → AdmittedBy p a
   admitted-by p (keep k m) q e = tt

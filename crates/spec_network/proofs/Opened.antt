@@ -1,9 +1,9 @@
--- Laws of what the opening works out: link keys, and the prices of a plan.
+-- Laws of what the opening works out: link keys, and the prices of a plan; and with them the draws that the tables give are the book's.
 use mathlib.Core.Path.{_≡_, refl, sym, ap, _∙_}
 use Prim.Native.Nat.{ℕ, zero, suc, _+_, _-_, _*_, _/_, _%_, _^_, _≤_, _<_}
 use native.Mathlib.Omega.{arith}
 use native.Mathlib.Nat.{mul-le-mul-right, suc-mul, mod-lt, add-mul-div-right, add-mul-mod-self-right, div-eq-of-lt, mod-eq-of-lt, zero-add, div-lt-iff-lt-mul, div-add-mod'}
-use mathlib.Core.Bool.{Bool, true, false, cond}
+use mathlib.Core.Bool.{Bool, true, false, cond, not}
 use mathlib.Core.List.{List, [], _∷_, _++_}
 use lib.Dec.{eqb, leb, ltb}
 use lib.ListN.{length, getD, take, drop, replicate, length-append, length-replicate, List·getD-append}
@@ -15,12 +15,18 @@ use Rattle.hash_digest.specs.Blake3.{hash, tree, pick}
 use Rattle.table_rows.specs.Rows.{flat}
 use Rattle.table_rows.specs.Lists.{upTo}
 use Rattle.table_rows.proofs.Lists.{length-upTo, getD-upTo}
-use Rattle.link_geography.specs.Geography.{atLeastOne, linkWidth, linkIn, linkAt, linkAdmitted, planLink, regionOf, pricesOf}
+use Rattle.link_geography.specs.Geography.{atLeastOne, linkWidth, linkIn, linkAt, linkAdmitted, planLink, regionOf, pricesOf, pickCost, linkCost, costOf, planCost}
+use Rattle.link_geography.specs.declared.Link.{Link}
+use Rattle.link_geography.specs.declared.Cost.{Cost}
 use Rattle.rand_streams.specs.Link.{linkKey}
+use Rattle.link_latency.specs.Latency.{latencyAt, latencyWords}
+use Rattle.rand_draw.specs.Draw.{whole32At, words32At}
 use Rattle.link_geography.proofs.Prices.{length-prices, prices-are, plan-admitted}
-use Rattle.spec_network.specs.Opening.{Plan, Settings}
+use Rattle.link_geography.proofs.Prices as plan
+use Rattle.spec_network.specs.Opening.{Plan, Settings, Draw, Draws}
+use Rattle.spec_network.specs.Limits.{rateOf}
 use Rattle.spec_network.specs.Tables.{cell}
-use Rattle.spec_network.specs.Real.{keyWidth, keysOf, keyOf, pairCells, pricesWidth, pricedBy, regionAt}
+use Rattle.spec_network.specs.Real.{keyWidth, keysOf, keyOf, pairCells, pricesWidth, pricedBy, regionAt, costAt, bookKey, bookCost, chance, drawsOf}
 
 -- ---- A digest has 8 words
 
@@ -155,3 +161,57 @@ module _ (x : Settings) (planned : eqb (x .plan .planned) 0 ≡ false) where
   pub region-below : (t : ℕ) → t < x .sizes .tills → ltb (regionAt (x .plan) (pricedBy x) t) regions ≡ true
   unfolding regionOf
   region-below t h = lt-ltb (regionAt (x .plan) (pricedBy x) t) regions (rw (regions-are t h) (mod-lt _ some-region))
+
+-- the cost of a link is the plan's
+pub costs-are : (x : Settings) (from to bytes : ℕ) → from < x .sizes .tills → to < x .sizes .tills → costAt x (pricedBy x) from to bytes ≡ bookCost x from to bytes
+unfolding costOf planCost
+costs-are x from to bytes f t = go (eqb (x .plan .planned) 0) refl
+  where
+    sits-in : ℕ → ℕ
+    sits-in k = regionOf (x .plan .seed) (x .plan .regions) k
+
+    by : Link → Bool → Cost
+    by l b = pickCost (not b) (linkCost l bytes) (record { base = record { ns = x .config .latency }; transmission = record { ns = 0 } })
+
+    go : (b : Bool) → eqb (x .plan .planned) 0 ≡ b
+        → by (linkAt (pricedBy x) (x .plan .regions) (regionAt (x .plan) (pricedBy x) from) (regionAt (x .plan) (pricedBy x) to)) b ≡ by (planLink (x .plan .seed) (x .plan .regions) (sits-in from) (sits-in to)) b
+    go true e = refl
+    go false e =
+        ap (λ (l : Link). linkCost l bytes)
+        ((λ j. linkAt (pricedBy x) (x .plan .regions) (regions-are x e from f j) (regions-are x e to t j))
+        ∙ prices-of x e (sits-in from) (sits-in to) (plan.region-below (x .plan .seed) (x .plan .regions) from) (plan.region-below (x .plan .seed) (x .plan .regions) to))
+
+-- ---- Draws that agree on every link between tills below n
+
+pub record SameDraws (n : ℕ) (d e : Draws) : Type 0 where
+  pub loss : (from to : ℕ) → from < n → to < n → d .loss from to ≡ e .loss from to
+  pub duplicate : (from to : ℕ) → from < n → to < n → d .duplicate from to ≡ e .duplicate from to
+  pub replay : (from to : ℕ) → from < n → to < n → d .replay from to ≡ e .replay from to
+  pub echoing : d .echoing ≡ e .echoing
+  pub latency : (from to : ℕ) → from < n → to < n → d .latency from to ≡ e .latency from to
+  pub index : (from to : ℕ) → from < n → to < n → d .index from to ≡ e .index from to
+  pub decide : d .decide ≡ e .decide
+  pub id : d .id ≡ e .id
+
+-- the tables' draws and the book's: keys and costs of links between the opening's tills are the same
+pub draws-are : (x : Settings) (names : List ℕ) → SameDraws (x .sizes .tills) (drawsOf x names (keyOf (x .sizes .tills) (keysOf x)) (costAt x (pricedBy x))) (drawsOf x names (bookKey x) (bookCost x))
+unfolding drawsOf
+draws-are x names = record {
+  loss = λ from to f t. ap (λ (k : List ℕ). chance k (x .config .loss)) (keys-are x from to f t);
+  duplicate = λ from to f t. ap (λ (k : List ℕ). chance k (x .config .duplicate)) (keys-are x from to f t);
+  replay = λ from to f t. ap (λ (k : List ℕ). chance k (x .config .replay)) (keys-are x from to f t);
+  echoing = refl;
+  latency = λ from to f t. (λ j bytes words. delayed (keys-are x from to f t j) (costs-are x from to bytes f t j) words);
+  index = λ from to f t. (λ j n words. indexed (keys-are x from to f t j) n words);
+  decide = refl;
+  id = refl;
+}
+  where
+    delayed : List ℕ → Cost → ℕ → Draw ℕ
+    delayed key k words = record {
+      value = latencyAt key words (k .base .ns) (rateOf (x .config .jitter)) (rateOf (x .config .spike)) (k .transmission .ns);
+      words = words + latencyWords key words (k .base .ns) (rateOf (x .config .jitter)) (rateOf (x .config .spike));
+    }
+
+    indexed : List ℕ → ℕ → ℕ → Draw ℕ
+    indexed key n words = record { value = whole32At key words n; words = words + words32At key words n }

@@ -12,7 +12,7 @@ use Rattle.rand_draw.specs.Draw.{whole32At, words32At}
 use Rattle.rand_draw.specs.Fraction.{hitsAt, hitWords}
 use Rattle.link_latency.specs.Latency.{latencyAt, latencyWords}
 use Rattle.rand_streams.specs.Link.{linkKey}
-use Rattle.link_geography.specs.Geography.{atLeastOne, linkWidth, regionOf, pricesOf, costOf}
+use Rattle.link_geography.specs.Geography.{atLeastOne, linkWidth, regionOf, pricesOf, costOf, planCost}
 use Rattle.link_geography.specs.declared.Cost.{Cost}
 use Rattle.fault_decide.specs.Decide.{decideOf}
 use Rattle.table_rows.specs.Lists.{upTo}
@@ -20,24 +20,31 @@ use Rattle.spec_network.specs.Opening.{Plan, Settings, Draw, Draws, Open
 use Rattle.spec_network.specs.Limits.{rateOf}
 use Rattle.spec_network.specs.Tables.{Tables, cell, sizesAt, settingsAt, nameAt, shardAt, textAt}
 
--- ---- Link keys
+-- ---- A link's key and cost, as the book has them
+
+-- the digest of seed, "link" and the two tills
+abbrev pub bookKey : Settings → (from to : ℕ) → List ℕ
+bookKey x from to = linkKey (x .seed) from to
+
+-- base and time on the wire, by the region plan; without one the set latency, and 0
+abbrev pub bookCost : Settings → (from to bytes : ℕ) → Cost
+bookCost x from to bytes = let p = x .plan in planCost (not (eqb (p .planned) 0)) (p .seed) (p .regions) from to (x .config .latency) bytes
+
+-- ---- The same in the tables: the key of each ordered pair of tills
 
 -- a stream's key has 8 words
 abbrev pub keyWidth : ℕ
 keyWidth = 8
 
--- the key of each ordered pair of tills
 unfoldable pub keysOf : Settings → List ℕ
 keysOf x = let n = x .sizes .tills in flat (λ i. linkKey (x .seed) (i / n) (i % n)) (upTo (n * n) (λ i. i))
-
--- the fault stream's key as the settings have it: of each word the low 32 bits
-unfoldable pub faultKeyOf : List ℕ → List ℕ
-faultKeyOf key = upTo keyWidth (λ i. cell key i % 2 ^ 32)
 
 abbrev pub keyOf : (tills : ℕ) → List ℕ → (from to : ℕ) → List ℕ
 keyOf tills keys from to = take keyWidth (drop ((from * tills + to) * keyWidth) keys)
 
--- ---- Prices
+-- the fault stream's key as the settings have it: of each word the low 32 bits
+unfoldable pub faultKeyOf : List ℕ → List ℕ
+faultKeyOf key = upTo keyWidth (λ i. cell key i % 2 ^ 32)
 
 -- with a plan, base and rate of each pair of regions, then the region of each till; without one, nothing
 abbrev pub pairCells : Plan → ℕ
@@ -56,7 +63,6 @@ pricedBy x =
 abbrev pub regionAt : Plan → List ℕ → ℕ → ℕ
 regionAt p prices t = cell prices (pairCells p + t)
 
--- base and time on the wire: without a region plan the set latency, and 0
 abbrev pub costAt : Settings → List ℕ → (from to bytes : ℕ) → Cost
 costAt x prices from to bytes = let p = x .plan in costOf (not (eqb (p .planned) 0)) prices (p .regions) (regionAt p prices from) (regionAt p prices to) (x .config .latency) bytes
 
@@ -77,9 +83,9 @@ idOf names kind scope wire =
 unfoldable pub chance : (key : List ℕ) (rate words : ℕ) → Draw Bool
 chance key rate words = record { value = hitsAt key words (rateOf rate); words = words + hitWords (rateOf rate) }
 
-unfoldable pub drawsOf : Settings → (names keys prices : List ℕ) → Draws
-drawsOf x names keys prices =
-    let key = keyOf (x .sizes .tills) keys in
+-- of settings and names, by the key and the cost of each link
+unfoldable pub drawsOf : Settings → (names : List ℕ) → (key : (from to : ℕ) → List ℕ) → (cost : (from to bytes : ℕ) → Cost) → Draws
+drawsOf x names key cost =
     let c = x .config in
     record {
       loss = λ from to words. chance (key from to) (c .loss) words;
@@ -87,7 +93,7 @@ drawsOf x names keys prices =
       replay = λ from to words. chance (key from to) (c .replay) words;
       echoing = lt zero64 (rateOf (c .duplicate)) || lt zero64 (rateOf (c .replay));
       latency = λ from to bytes words.
-          let k = costAt x prices from to bytes in
+          let k = cost from to bytes in
           record {
             value = latencyAt (key from to) words (k .base .ns) (rateOf (c .jitter)) (rateOf (c .spike)) (k .transmission .ns);
             words = words + latencyWords (key from to) words (k .base .ns) (rateOf (c .jitter)) (rateOf (c .spike));
@@ -100,7 +106,7 @@ drawsOf x names keys prices =
 -- ---- What the calls go by: as the book has it, from the opening's settings and names; and as the tables hold it
 
 abbrev pub openingOf : Settings → (names : List ℕ) → Opening
-openingOf x names = record { sizes = x .sizes; draws = drawsOf x names (keysOf x) (pricedBy x) }
+openingOf x names = record { sizes = x .sizes; draws = drawsOf x names (bookKey x) (bookCost x) }
 
 abbrev pub openingAt : Tables → Opening
-openingAt T = record { sizes = sizesAt (T .setup); draws = drawsOf (settingsAt (T .setup)) (T .names) (T .keys) (T .prices) }
+openingAt T = let x = settingsAt (T .setup) in record { sizes = x .sizes; draws = drawsOf x (T .names) (keyOf (x .sizes .tills) (T .keys)) (costAt x (T .prices)) }
