@@ -20,6 +20,7 @@ use Rattle.spec_network.specs.Opening.{Opening, link}
 use Rattle.spec_network.specs.Live.{Live, Carried, idsAt}
 use Rattle.spec_network.specs.Tables.{cell, Tables, live, sizesAt, settingsAt, rulesAt}
 use Rattle.spec_network.specs.Real.{drawsOf, faultKeyOf, openingAt}
+use Rattle.spec_network.specs.Layout.{table}
 use Rattle.spec_network.specs.Accept.{Message, Drawn, drawn, context, carriedOf, Class, deduplicated, partition, loss, fault, sent, copies, remembered, effect}
 use Rattle.spec_book.proofs.Echoing.{drawn-few}
 use Rattle.spec_book.proofs.Fitting.{few-copies, length-insertAll}
@@ -85,7 +86,7 @@ module _ (o : Opening) (m : Message) (s : Live) (t : ℕ) where
   other-link : (u n : ℕ) → (u ≡ t → ⊥) → getD (set (s .words) (link (m .from) t) n) (link (m .from) u) 0 ≡ getD (s .words) (link (m .from) u) 0
   other-link u n h = getD-set-other (s .words) (link (m .from) t) (link (m .from) u) n 0 (λ e. h (omega arith))
 
-  ring-near : (W : ℕ) → m .wire ≤ W → ((r k : ℕ) → getD (getD (s .rings) r []) k none .wire ≤ W) → (r k : ℕ) → getD (getD (remembered o m (s .rings)) r []) k none .wire ≤ W
+  ring-near : (W : ℕ) → m .wire ≤ W → ((r k : ℕ) → getD (getD (s .rings) r []) k none .wire ≤ W) → (r k : ℕ) → getD (getD (remembered o m s) r []) k none .wire ≤ W
   ring-near W w h r k = go (o .draws .echoing)
     where
       at : ℕ
@@ -109,7 +110,7 @@ module _ (o : Opening) (m : Message) (s : Live) (t : ℕ) where
         words = λ u h. other-link u _ h;
         seen = λ u h. getD-set-other (s .seen) t u _ [] h;
         sequence = omega arith;
-        waiting = omega (arith, length-insertAll (copies o m s d t) (s .waiting));
+        waiting = omega (arith, length-insertAll table (copies o m s d t) (s .waiting));
         near = ring-near;
       }
 

@@ -7,7 +7,7 @@ use lib.Dec.{eqb, leb}
 use lib.ListN.{length}
 use borrow.Author.Tests.{eq-eqb, eqb-false, leb-true}
 use Rattle.spec_network.specs.Opening.{Settings, Opening}
-use Rattle.spec_network.specs.Marking.{Marking}
+use Rattle.spec_network.specs.Layout.{Layout}
 use Rattle.spec_network.specs.Live.{LiveBy}
 use Rattle.spec_network.specs.Calls.{Call, Reading, isBlocked, transit, fired, isDown, nextTime, tallyOf, waitingCopies, marksOf, accept, flush, takeDown, bringUp, handlers, block, blockDuring, unblock, install, remove, decide, drain, reading}
 use Rattle.spec_network.specs.Questions.{Asked, Room, alone, pooled, firstNo, answerTo, askRoom, askedIn, asked, askedReading}
@@ -78,7 +78,7 @@ apart-reading o (tallyOf class) = refl
 apart-reading o (waitingCopies rows) = refl
 apart-reading o (marksOf t places) = refl
 
-pub apart-in : (o : Opening) (room : Room) {k : Marking} (s : LiveBy k) (c : Call) → numbersApart (askedIn o room s c) ≡ true
+pub apart-in : (o : Opening) (room : Room) {k : Layout} (s : LiveBy k) (c : Call) → numbersApart (askedIn o room s c) ≡ true
 apart-in o alone s (accept e true) = refl
 apart-in o (pooled free) s (accept e true) = refl
 apart-in o room s (accept e false) = refl
@@ -95,11 +95,11 @@ apart-in o room s (decide x) = refl
 apart-in o room s (drain rows) = refl
 apart-in o room s (reading r) = apart-reading o r
 
-pub apart : (o : Opening) {k : Marking} (s : LiveBy k) (c : Call) → numbersApart (asked o s c) ≡ true
+pub apart : (o : Opening) {k : Layout} (s : LiveBy k) (c : Call) → numbersApart (asked o s c) ≡ true
 apart o s c = apart-in o alone s c
 
 -- wherever the slots come from, there is room in the network's own limit
-pub room-fits : (o : Opening) (room : Room) {k : Marking} (s : LiveBy k) (e : Entry) → askRoom o s e room .yes ≡ true → length (s .waiting) + 3 * length (selected o s (e .scope) (e .from)) ≤ o .sizes .waitSlots
+pub room-fits : (o : Opening) (room : Room) {k : Layout} (s : LiveBy k) (e : Entry) → askRoom o s e room .yes ≡ true → length (s .waiting) + 3 * length (selected o s (e .scope) (e .from)) ≤ o .sizes .waitSlots
 room-fits o alone s e h = leb-true _ _ h
 room-fits o (pooled free) s e h = leb-true _ _ (both (leb (length (s .waiting) + 3 * length (selected o s (e .scope) (e .from))) (o .sizes .waitSlots)) (leb (length (s .waiting) + 3 * length (selected o s (e .scope) (e .from))) free) h .0)
 

@@ -16,20 +16,18 @@ use Rattle.spec_book.specs.Demand3.{Item, own, others, reopen, AllAdmitt
 use Rattle.spec_book.specs.Cells.{Fit, CellsFit, CallFits, ItemFits, ItemsFit}
 use Rattle.spec_book.proofs.Each.{every-each}
 use Rattle.spec_book.proofs.Asking.{all-yes, apart-opening}
-use Rattle.spec_book.proofs.Fitting.{Limited}
 use Rattle.spec_book.proofs.Drawing.{by}
 use Rattle.spec_book.proofs.Formed.{Four, bare}
 use Rattle.spec_book.proofs.Unwritten.{same-after}
-use Rattle.spec_book.proofs.Start.{limited}
 use Rattle.spec_book.proofs.Bounds.{DrawsFit, draws-fit}
 use Rattle.spec_book.proofs.Cells.{step-cells}
 use Rattle.spec_book.proofs.CellsOpen.{open-cells}
 use Rattle.spec_book.proofs.Final.{Bears, number-kept, held-after, open-bears}
 
-module _ (o : Opening) (lim : Limited (o .sizes)) where
+module _ (o : Opening) where
   module _ (room : Room) (T : Tables) (b : Book) (c : Call) (h : Bears o T b) (g : DrawsFit (by o (h .draws))) where
     call-cells : CallFits c → CellsFit T → (n : ℕ) → n ≡ firstNo (askedIn (by o (h .draws)) room (h .kept) c) → CellsFit (exitT (by o (h .draws)) (isNumber n) T c)
-    call-cells f k zero e = step-cells (by o (h .draws)) lim g room c T (h .kept) (h .held .wrote) (h .held .fits) (sym e) f k
+    call-cells f k zero e = step-cells (by o (h .draws)) (h .limits) g room c T (h .kept) (h .held .wrote) (h .held .fits) (sym e) f k
     call-cells f k (suc n) e = k
 
   item-cells : (b : Book) (T : Tables) (i : Item) → Bears o T b → DrawsFit (openingAt T) → ItemFits i → CellsFit T → CellsFit (tablesAfter T i)
@@ -42,7 +40,7 @@ module _ (o : Opening) (lim : Limited (o .sizes)) where
   items-cells : (is : List Item) (b : Book) (T : Tables) → Bears o T b → DrawsFit (openingAt T) → AllAdmitted is → ItemsFit is → CellsFit T → CellsFit (tablesAtEnd T is)
   items-cells [] b T h g a f k = k
   items-cells (i ∷ is) b T h g a f k =
-      items-cells is (bookAfter o b T i) (tablesAfter T i) (held-after o lim b T i h (a .0)) (subst (λ (q : Four). DrawsFit (openingAt (bare q))) (sym (same-after T i)) g) (a .1) (f .1) (item-cells b T i h g (f .0) k)
+      items-cells is (bookAfter o b T i) (tablesAfter T i) (held-after o b T i h (a .0)) (subst (λ (q : Four). DrawsFit (openingAt (bare q))) (sym (same-after T i)) g) (a .1) (f .1) (item-cells b T i h g (f .0) k)
 
 -- for every accepted opening on cells that fit, by settings of 64 bits, and every list of calls
 pub cells : (x : Settings) (masks : List ℕ) (lent : Tables) → openNumber x masks lent ≡ 0 → Fit 64 (setupOf x) → CellsFit lent
@@ -51,4 +49,4 @@ cells x masks lent h e f is a q =
     let o = openingOf x (lent .names) in
     let y : Each (λ (p : Asked). p .yes ≡ true) (askedOpening x masks lent) = all-yes (askedOpening x masks lent) (apart-opening x masks lent) h in
     let texts = every-each (limitTests x masks lent) (y .1 .0) .1 .0 in
-    items-cells o (limited x masks lent h) is (opened o masks) (openTables x masks lent) (open-bears x masks lent h) (draws-fit x (lent .names) (y .1 .1 .0) texts) a q (open-cells x masks lent h e f)
+    items-cells o is (opened o masks) (openTables x masks lent) (open-bears x masks lent h) (draws-fit x (lent .names) (y .1 .1 .0) texts) a q (open-cells x masks lent h e f)

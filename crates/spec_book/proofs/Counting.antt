@@ -10,12 +10,12 @@ use borrow.Author.Tests.{ltb-false, leb-true, leb-false, eqb-true, eqb-false}
 use Rattle.spec_book.specs.Book.{Event, scheduled, landed, dropped, scheduledIn, landedIn, droppedIn, scheduling, flushEvents}
 use Rattle.spec_book.specs.History.{hasSequence, given}
 use Rattle.table_rows.specs.Lists.{front, behind}
-use Rattle.table_waiting.specs.Waiting.{passes, insertCopy}
+use Rattle.table_waiting.specs.Waiting.{before, ordered}
 use Rattle.table_waiting.specs.declared.Copy.{Copy}
 use Rattle.spec_network.specs.Accept.{insertAll}
 use Rattle.spec_network.specs.Flush.{stops}
 use Rattle.spec_network.specs.Lists.{bit, count}
-use Rattle.spec_network.specs.Marking.{plain}
+use Rattle.spec_network.specs.Layout.{plain}
 use Rattle.spec_network.specs.Live.{LiveBy, numbered}
 
 -- one more sequence is given
@@ -42,18 +42,18 @@ module _ {A : Type 0} where
       go true h = omega arith
       go false h = omega arith
 
-pub count-insert : (p : Copy → Bool) (c : Copy) (w : List Copy) → count p (insertCopy c w) ≡ bit (p c) + count p w
+pub count-insert : (p : Copy → Bool) (c : Copy) (w : List Copy) → count p (ordered c w) ≡ bit (p c) + count p w
 count-insert p c [] = refl
-count-insert p c (x ∷ xs) = go (passes c (x ∷ xs)) (count-insert p c xs)
+count-insert p c (x ∷ xs) = go (before c x) (count-insert p c xs)
   where
-    go : (b : Bool) → count p (insertCopy c xs) ≡ bit (p c) + count p xs
-        → count p (cond b (x ∷ insertCopy c xs) (c ∷ x ∷ xs)) ≡ bit (p c) + (bit (p x) + count p xs)
-    go true h = omega arith
-    go false h = refl
+    go : (b : Bool) → count p (ordered c xs) ≡ bit (p c) + count p xs
+        → count p (cond b (c ∷ x ∷ xs) (x ∷ ordered c xs)) ≡ bit (p c) + (bit (p x) + count p xs)
+    go true h = refl
+    go false h = omega arith
 
-pub count-insertAll : (p : Copy → Bool) (cs w : List Copy) → count p (insertAll cs w) ≡ count p cs + count p w
+pub count-insertAll : (p : Copy → Bool) (cs w : List Copy) → count p (insertAll plain cs w) ≡ count p cs + count p w
 count-insertAll p [] w = omega arith
-count-insertAll p (c ∷ cs) w = omega (arith, count-insertAll p cs (insertCopy c w), count-insert p c w)
+count-insertAll p (c ∷ cs) w = omega (arith, count-insertAll p cs (ordered c w), count-insert p c w)
 
 -- ---- Events
 

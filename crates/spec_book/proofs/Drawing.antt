@@ -9,7 +9,7 @@ use borrow.Author.Tests.{ltb-true}
 use Rattle.table_rows.specs.Rows.{allOf}
 use Rattle.spec_network.specs.Lists.{bit}
 use Rattle.spec_network.specs.Opening.{Opening, Draw, Draws, link}
-use Rattle.spec_network.specs.Marking.{Marking, slotsOf}
+use Rattle.spec_network.specs.Layout.{Layout, slotsOf}
 use Rattle.spec_network.specs.Live.{Carried, LiveBy, withEngine, marked, stopped, idsAt}
 use Rattle.spec_network.specs.Accept.{Entry, Message, messageOf, selected, Echoes, Drawn, carriedOf, ringFor, isEmpty, echo, timed, replayed, echoed, echoesOf, context, drawn, ruled, Class, deduplicated, partition, loss, fault, sent, firstFit, classOf, effect, offered, liveAfter, Booked, booked, tally}
 use Rattle.spec_network.specs.Calls.{Call, number, counted, liveStep, answerOf, accept, flush, takeDown, bringUp, handlers, block, blockDuring, unblock, install, remove, decide, drain, reading}
@@ -53,18 +53,18 @@ module _ (o : Opening) (d : Draws) (same : SameDraws (o .sizes .tills) d (o .dra
           let e = same-echoed ring words j in
           cond (same .echoing j) (same-timed (e .words) (e .value) j) (record { copies = []; words = words }))
 
-      same-drawn : {k : Marking} (s : LiveBy k) → drawn (by o d) m t s ≡ drawn o m t s
+      same-drawn : {k : Layout} (s : LiveBy k) → drawn (by o d) m t s ≡ drawn o m t s
       unfolding drawn
       same-drawn s = (λ j.
           let l = same .loss (m .from) t from to j (getD (s .words) (link (m .from) t) 0) in
           let a = same .latency (m .from) t from to j (m .wire) (l .words) in
           record { loss = l; latency = a; verdict = same .decide j (context o m t) (s .engine .rules) (s .engine .words); echoes = same-echoes (ringFor s m) (a .words) j })
 
-      same-class : {k : Marking} (s : LiveBy k) → classOf (by o d) m s t ≡ classOf o m s t
+      same-class : {k : Layout} (s : LiveBy k) → classOf (by o d) m s t ≡ classOf o m s t
       same-class s = ap (λ (x : Drawn). firstFit (marked s t (m .id)) (stopped s (m .from) t (m .now)) (x .loss .value) (x .verdict .drops)) (same-drawn s)
 
       -- beside what was drawn, an effect asks of the draws only whether the ring takes the message
-      same-effect : {k : Marking} (s : LiveBy k) (x : Drawn) (c : Class) → effect (by o d) m c s x t ≡ effect o m c s x t
+      same-effect : {k : Layout} (s : LiveBy k) (x : Drawn) (c : Class) → effect (by o d) m c s x t ≡ effect o m c s x t
       same-effect s x deduplicated = refl
       same-effect s x partition = refl
       same-effect s x loss = refl
@@ -80,15 +80,15 @@ module _ (o : Opening) (d : Draws) (same : SameDraws (o .sizes .tills) d (o .dra
         id = d .id;
       })) m sent s x t)
 
-      same-offer : {k : Marking} (s : LiveBy k) → offered (by o d) m s t ≡ offered o m s t
+      same-offer : {k : Layout} (s : LiveBy k) → offered (by o d) m s t ≡ offered o m s t
       unfolding offered
       same-offer s = same-effect s (drawn (by o d) m t s) (classOf (by o d) m s t) ∙ (λ j. effect o m (same-class s j) s (same-drawn s j) t)
 
-    same-after : (ts : List ℕ) → Below (o .sizes .tills) ts → {k : Marking} (s : LiveBy k) → liveAfter (by o d) m s ts ≡ liveAfter o m s ts
+    same-after : (ts : List ℕ) → Below (o .sizes .tills) ts → {k : Layout} (s : LiveBy k) → liveAfter (by o d) m s ts ≡ liveAfter o m s ts
     same-after [] b s = refl
     same-after (t ∷ ts) b {k} s = same-after ts (b .1) (offered (by o d) m s t) ∙ ap (λ (q : LiveBy k). liveAfter o m q ts) (same-offer t (b .0) s)
 
-    same-booked : (ts : List ℕ) → Below (o .sizes .tills) ts → {k : Marking} (s : LiveBy k) → booked (by o d) m s ts ≡ booked o m s ts
+    same-booked : (ts : List ℕ) → Below (o .sizes .tills) ts → {k : Layout} (s : LiveBy k) → booked (by o d) m s ts ≡ booked o m s ts
     same-booked [] b s = refl
     same-booked (t ∷ ts) b {k} s =
         let rest : booked (by o d) m (offered (by o d) m s t) ts ≡ booked o m (offered o m s t) ts = same-booked ts (b .1) (offered (by o d) m s t) ∙ ap (λ (q : LiveBy k). booked o m q ts) (same-offer t (b .0) s) in
@@ -99,7 +99,7 @@ module _ (o : Opening) (d : Draws) (same : SameDraws (o .sizes .tills) d (o .dra
 
   -- ---- EVERY CALL
 
-  module _ {k : Marking} (s : LiveBy k) where
+  module _ {k : Layout} (s : LiveBy k) where
     same-ten : (e : Entry) → ask10 (by o d) s e .yes ≡ ask10 o s e .yes
     same-ten e = (λ j. allOf (λ (t : ℕ). marked s t (same .id j (e .kind) (e .scope) (e .wire)) || ltb (slotsOf k (idsAt s t)) (o .sizes .seenSlots)) (selected o s (e .scope) (e .from)))
 

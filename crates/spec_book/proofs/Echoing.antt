@@ -8,7 +8,7 @@ use lib.ListN.{length, getD, length-append}
 use Rattle.table_rows.specs.Lists.{Each}
 use Rattle.table_waiting.specs.declared.Copy.{Copy}
 use Rattle.spec_network.specs.Opening.{Opening, Draw}
-use Rattle.spec_network.specs.Marking.{Marking}
+use Rattle.spec_network.specs.Layout.{Layout}
 use Rattle.spec_network.specs.Live.{Carried, LiveBy}
 use Rattle.spec_network.specs.Accept.{Message, Echoes, drawn, timed, isEmpty, replayed, echoed, echoesOf, echo, carriedOf, ringFor}
 use Rattle.spec_book.proofs.Each.{each-append, each-at}
@@ -42,7 +42,7 @@ module _ (o : Opening) (m : Message) (t : ℕ) where
       go true x h = h
       go false x h = omega arith
 
-  pub drawn-few : {k : Marking} (s : LiveBy k) → length (drawn o m t s .echoes .copies) ≤ 2
+  pub drawn-few : {k : Layout} (s : LiveBy k) → length (drawn o m t s .echoes .copies) ≤ 2
   unfolding drawn
   drawn-few s = echoes-few (ringFor s m) _
 
@@ -77,7 +77,7 @@ module _ (o : Opening) (m : Message) (t : ℕ) where
         go true x h = h
         go false x h = tt
 
-    pub drawn-each : {k : Marking} (s : LiveBy k) → Each Q (ringFor s m) → Each P (drawn o m t s .echoes .copies)
+    pub drawn-each : {k : Layout} (s : LiveBy k) → Each Q (ringFor s m) → Each P (drawn o m t s .echoes .copies)
     unfolding drawn
     drawn-each s e = echoes-each (ringFor s m) _ e
 
@@ -86,5 +86,5 @@ module _ (o : Opening) (m : Message) (t : ℕ) where
   every (c ∷ l) = (tt, every l)
 
   -- echoes carry no id
-  pub drawn-echoes : {k : Marking} (s : LiveBy k) → Each Echo (drawn o m t s .echoes .copies)
+  pub drawn-echoes : {k : Layout} (s : LiveBy k) → Each Echo (drawn o m t s .echoes .copies)
   drawn-echoes s = drawn-each Echo (λ (c : Carried). Unit {0}) (λ c l h. refl) tt s (every (ringFor s m))

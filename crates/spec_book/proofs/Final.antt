@@ -5,12 +5,13 @@ use native.Mathlib.Omega.{arith}
 use mathlib.Core.Bool.{Bool, true, false, cond, _&&_, false≢true}
 use mathlib.Core.List.{List, [], _∷_, reverseAux}
 use lib.ListN.{length}
+use Rattle.table_waiting.specs.Waiting.{Sorted}
 use Rattle.table_waiting.proofs.Order.{front-all}
 use Rattle.table_marks.specs.Marks.{listed}
 use Rattle.spec_network.specs.Lists.{count}
 use Rattle.spec_network.specs.Opening.{Settings, Opening, Draws}
-use Rattle.spec_network.specs.Marking.{plain, table}
-use Rattle.spec_network.specs.Live.{Live, LiveBy, plainly, openingLive}
+use Rattle.spec_network.specs.Layout.{plain, table}
+use Rattle.spec_network.specs.Live.{Live, LiveBy, plainly, openingLive, ringsOf}
 use Rattle.spec_network.specs.Accept.{messageOf, selected, booked, noCounts, tally, total}
 use Rattle.spec_network.specs.Flush.{handled}
 use Rattle.spec_network.specs.Calls.{Call, Answer, liveStep, answerOf, countsIn, rowsIn, deliveredIn, dropsIn, accept, flush, takeDown, bringUp, handlers, block, blockDuring, unblock, install, remove, decide, drain, reading}
@@ -26,7 +27,8 @@ use Rattle.spec_book.specs.History.{hasSequence}
 use Rattle.spec_book.specs.Demand3.{Item, own, others, reopen, Admitted, AllAdmitted, replyTo, tablesAfter, tablesAtEnd, refused, Kept, copiesOf, bookAfter, expectedOf, bookAtEnd, OnlyNo, NumberIs, SumOf, isDrain, logFrom, LogOf, OutputOf, CallHolds, CallsHold, BookHolds, OpeningHeld, Demand3, Run, Accepted, EveryList}
 use Rattle.spec_book.proofs.Marks.{two-originals}
 use Rattle.spec_book.proofs.Sound.{SoundBook, book-sound, opened-sound}
-use Rattle.spec_book.proofs.Plain as marks
+use Rattle.spec_book.proofs.Plain as layout
+use Rattle.spec_book.proofs.Plain.{InOrder}
 use Rattle.spec_book.proofs.Drawing as drawing
 use Rattle.spec_book.proofs.Drawing.{by}
 use Rattle.spec_book.proofs.Sums.{booked-tills, booked-total}
@@ -40,13 +42,23 @@ use Rattle.spec_book.proofs.Unwritten.{same-step, same-end}
 use Rattle.spec_book.proofs.Held.{Held, yes1}
 use Rattle.spec_book.proofs.Start.{limited, open-held}
 
--- the tables, whose draws agree with the book's, hold a live part, and it is the book's once its marks are plain
+-- the tables, whose draws agree with the book's, hold a live part, and it is the book's once its marks and rings are plain
 pub record Bears (o : Opening) (T : Tables) (b : Book) : Type 0 where
   pub draws : Draws
   pub agree : SameDraws (o .sizes .tills) draws (o .draws)
   pub kept : Live
   pub held : Held (by o draws) T kept
   pub same : plainly kept ≡ b .live
+  pub sound : SoundBook o b
+  pub limits : Limited (o .sizes)
+
+-- what is in order of the live part that the tables hold
+in-order : (o : Opening) (T : Tables) (b : Book) (h : Bears o T b) → InOrder (o .sizes) (h .kept)
+in-order o T b h = record {
+  marks = h .held .fits .ordered;
+  queue = subst Sorted (sym (ap (λ (q : LiveBy plain). q .waiting) (h .same))) (h .sound .order);
+  rings = h .held .fits .rings .many;
+}
 
 module _ (o : Opening) where
   -- ---- One call: the contracts speak of the book's opening
@@ -58,7 +70,7 @@ module _ (o : Opening) where
     -- the questions of the tables are those of the book
     pub asked-is : askedIn (by o (h .draws)) room (h .kept) c ≡ askedIn o room (b .live) c
     asked-is =
-        marks.same-asked (by o (h .draws)) (h .kept) (h .held .fits .ordered) room c ∙ ap (λ (q : LiveBy plain). askedIn (by o (h .draws)) room q c) (h .same)
+        layout.same-asked (by o (h .draws)) (h .kept) (in-order o T b h) room c ∙ ap (λ (q : LiveBy plain). askedIn (by o (h .draws)) room q c) (h .same)
         ∙ drawing.same-asked o (h .draws) (h .agree) (b .live) room c
 
     pub number-kept : numberIn (by o (h .draws)) room T c ≡ firstNo (askedIn (by o (h .draws)) room (h .kept) c)
@@ -70,24 +82,26 @@ module _ (o : Opening) where
   pub answer-is : (room : Room) (T : Tables) (b : Book) (h : Bears o T b) (c : Call) (n : ℕ) → n ≡ firstNo (askedIn o room (b .live) c) → answerT (by o (h .draws)) (isNumber n) T c ≡ expected o b c (isNumber n)
   answer-is room T b h c (suc n) e = refl
   answer-is room T b h c zero e =
-      ap (λ (s : Live). answerOf (by o (h .draws)) s c) (h .held .wrote .holds) ∙ marks.same-answer (by o (h .draws)) (h .kept) (h .held .fits .ordered) c ∙ ap (λ (q : LiveBy plain). answerOf (by o (h .draws)) q c) (h .same)
+      ap (λ (s : Live). answerOf (by o (h .draws)) s c) (h .held .wrote .holds) ∙ layout.same-answer (by o (h .draws)) (h .limits) (h .kept) (in-order o T b h) room c (ap firstNo (asked-is room T b h c) ∙ sym e) ∙ ap (λ (q : LiveBy plain). answerOf (by o (h .draws)) q c) (h .same)
       ∙ drawing.same-answer o (h .draws) (h .agree) (b .live) room c (sym e)
 
-  held-step : Limited (o .sizes) → (room : Room) (T : Tables) (b : Book) (c : Call) (h : Bears o T b) → (n : ℕ) → n ≡ firstNo (askedIn (by o (h .draws)) room (h .kept) c)
+  held-step : (room : Room) (T : Tables) (b : Book) (c : Call) (h : Bears o T b) → (n : ℕ) → n ≡ firstNo (askedIn (by o (h .draws)) room (h .kept) c)
       → Bears o (exitT (by o (h .draws)) (isNumber n) T c) (bookStep o b c (isNumber n))
-  held-step lim room T b c h zero e = record {
+  held-step room T b c h zero e = record {
     draws = h .draws;
     agree = h .agree;
     kept = liveStep (by o (h .draws)) (h .kept) c;
     held = record {
       fixed = subst (Fixed (by o (h .draws))) (sym (same-step (by o (h .draws)) T c)) (h .held .fixed);
-      wrote = step-wrote (by o (h .draws)) lim room c T (h .kept) (h .held .wrote) (h .held .fits) (sym e);
-      fits = step-fits (by o (h .draws)) lim room (h .kept) c (sym e) (h .held .fits);
+      wrote = step-wrote (by o (h .draws)) (h .limits) room c T (h .kept) (h .held .wrote) (h .held .fits) (sym e);
+      fits = step-fits (by o (h .draws)) (h .limits) room (h .kept) c (sym e) (h .held .fits);
     };
-    same = marks.same-step (by o (h .draws)) (h .kept) (h .held .fits .ordered) c ∙ ap (λ (q : LiveBy plain). liveStep (by o (h .draws)) q c) (h .same)
+    same = layout.same-step (by o (h .draws)) (h .limits) (h .kept) (in-order o T b h) room c (sym e) ∙ ap (λ (q : LiveBy plain). liveStep (by o (h .draws)) q c) (h .same)
         ∙ drawing.same-step o (h .draws) (h .agree) (b .live) room c (sym (e ∙ ap firstNo (asked-is room T b h c)));
+    sound = book-sound o b c false (h .sound);
+    limits = h .limits;
   }
-  held-step lim room T b c h (suc n) e = h
+  held-step room T b c h (suc n) e = h
 
   -- ---- What holds of each call
 
@@ -219,30 +233,25 @@ module _ (o : Opening) where
 
   -- ---- Every list
 
-  module _ (lim : Limited (o .sizes)) where
-    pub held-after : (b : Book) (T : Tables) (i : Item) → Bears o T b → Admitted i → Bears o (tablesAfter T i) (bookAfter o b T i)
-    held-after b T (own room c) h a =
-        subst (λ (q : Opening). Bears o (tablesIn q room T c) (bookStep o b c (isNumber (numberIn q room T c)))) (sym (h .held .fixed .opening))
-        (held-step lim room T b c h (numberIn (by o (h .draws)) room T c) (number-kept room T b h c))
-    held-after b T (others X c) h a = rw a h
-    held-after b T (reopen X y ms) h a = h
+  pub held-after : (b : Book) (T : Tables) (i : Item) → Bears o T b → Admitted i → Bears o (tablesAfter T i) (bookAfter o b T i)
+  held-after b T (own room c) h a =
+      subst (λ (q : Opening). Bears o (tablesIn q room T c) (bookStep o b c (isNumber (numberIn q room T c)))) (sym (h .held .fixed .opening))
+      (held-step room T b c h (numberIn (by o (h .draws)) room T c) (number-kept room T b h c))
+  held-after b T (others X c) h a = rw a h
+  held-after b T (reopen X y ms) h a = h
 
-    calls-hold : (is : List Item) (b : Book) (T : Tables) → Bears o T b → AllAdmitted is → CallsHold o b T is
-    calls-hold [] b T h a = tt
-    calls-hold (i ∷ is) b T h a = (call-holds b T i h (a .0), calls-hold is (bookAfter o b T i) (tablesAfter T i) (held-after b T i h (a .0)) (a .1))
+  calls-hold : (is : List Item) (b : Book) (T : Tables) → Bears o T b → AllAdmitted is → CallsHold o b T is
+  calls-hold [] b T h a = tt
+  calls-hold (i ∷ is) b T h a = (call-holds b T i h (a .0), calls-hold is (bookAfter o b T i) (tablesAfter T i) (held-after b T i h (a .0)) (a .1))
 
-    pub end-held : (is : List Item) (b : Book) (T : Tables) → Bears o T b → AllAdmitted is → Bears o (tablesAtEnd T is) (bookAtEnd o b T is)
-    end-held [] b T h a = h
-    end-held (i ∷ is) b T h a = end-held is (bookAfter o b T i) (tablesAfter T i) (held-after b T i h (a .0)) (a .1)
+  pub end-held : (is : List Item) (b : Book) (T : Tables) → Bears o T b → AllAdmitted is → Bears o (tablesAtEnd T is) (bookAtEnd o b T is)
+  end-held [] b T h a = h
+  end-held (i ∷ is) b T h a = end-held is (bookAfter o b T i) (tablesAfter T i) (held-after b T i h (a .0)) (a .1)
 
   pub after-sound : (b : Book) (T : Tables) (i : Item) → SoundBook o b → SoundBook o (bookAfter o b T i)
   after-sound b T (own room c) h = book-sound o b c (refused T (own room c)) h
   after-sound b T (others X c) h = book-sound o b c (refused T (others X c)) h
   after-sound b T (reopen X y ms) h = h
-
-  end-sound : (is : List Item) (b : Book) (T : Tables) → SoundBook o b → SoundBook o (bookAtEnd o b T is)
-  end-sound [] b T h = h
-  end-sound (i ∷ is) b T h = end-sound is (bookAfter o b T i) (tablesAfter T i) (after-sound b T i h)
 
   pub book-holds : (b : Book) → SoundBook o b → BookHolds o b
   book-holds b k = record {
@@ -268,7 +277,18 @@ open-bears x masks lent n =
       agree = draws-are x (lent .names);
       kept = s;
       held = open-held x masks lent n;
-      same = (λ j. record { tills = s .tills; seen = marks.map-replicate listed (x .sizes .tills) [] j; engine = s .engine; rings = s .rings; words = s .words; sequence = s .sequence; waiting = s .waiting; log = s .log });
+      same = (λ j. record {
+        tills = s .tills;
+        seen = layout.map-replicate listed (x .sizes .tills) [] j;
+        engine = s .engine;
+        rings = λ kind scope. layout.no-rings (ringsOf (x .sizes)) kind scope j;
+        words = s .words;
+        sequence = s .sequence;
+        waiting = s .waiting;
+        log = s .log;
+      });
+      sound = opened-sound (openingOf x (lent .names)) masks;
+      limits = limited x masks lent n;
     }
 
 opening-held : (x : Settings) (masks : List ℕ) (lent : Tables) (is : List Item) → OpeningHeld x (lent .names) (tablesAtEnd (openTables x masks lent) is)
@@ -286,15 +306,14 @@ opening-held x masks lent is =
 pub demand3 : (x : Settings) (masks : List ℕ) (lent : Tables) → openNumber x masks lent ≡ 0 → (is : List Item) → AllAdmitted is → Demand3 x masks lent is
 demand3 x masks lent n is a =
     let o = openingOf x (lent .names) in
-    let lim = limited x masks lent n in
     let T = openTables x masks lent in
     let h = open-bears x masks lent n in
-    let end = end-held o lim is (opened o masks) T h a in
+    let end = end-held o is (opened o masks) T h a in
     record {
-      calls = calls-hold o lim is (opened o masks) T h a;
+      calls = calls-hold o is (opened o masks) T h a;
       same-live = ap plainly (end .held .wrote .holds) ∙ end .same;
       same-opening = opening-held x masks lent is;
-      book = book-holds o (bookAtEnd o (opened o masks) T is) (end-sound o is (opened o masks) T (opened-sound o masks));
+      book = book-holds o (bookAtEnd o (opened o masks) T is) (end .sound);
     }
 
 -- and for list after list, each begun by an accepted opening

@@ -14,7 +14,7 @@ use Rattle.table_rows.specs.Lists.{Each, behind}
 use Rattle.table_ring.specs.Ring.{push}
 use Rattle.table_rows.proofs.Lists.{each-map}
 use Rattle.table_delivery.specs.declared.Delivery.{Delivery}
-use Rattle.table_waiting.specs.Waiting.{insertCopy}
+use Rattle.table_waiting.specs.Waiting.{before, ordered, insertCopy}
 use Rattle.table_waiting.specs.declared.Copy.{Copy}
 use Rattle.table_waiting.proofs.Order.{length-insert, each-insert}
 use Rattle.table_marks.specs.Marks.{placed, Ordered}
@@ -26,7 +26,7 @@ use Rattle.fault_rules.specs.Rules.{ruleSlots, fireAt}
 use Rattle.fault_blocks.specs.Blocks.{blockSlots}
 use Rattle.fault_blocks.specs.declared.BlockWindow.{BlockWindow}
 use Rattle.table_rings.specs.Rings.{slots, numberOf}
-use Rattle.spec_network.specs.Marking.{Marking, table}
+use Rattle.spec_network.specs.Layout.{Layout, plain, table, withCopy}
 use Rattle.spec_network.specs.Live.{numbered, Carried, Till, Engine, Live, LiveBy, ringsOf, idsAt, marked, stopped}
 use Rattle.table_log.specs.Log as log
 use Rattle.table_log.specs.Log.{Log}
@@ -69,11 +69,23 @@ module _ {A : Type 0} where
       go true e = omega (arith, length-append l (x ∷ []), ltb-true (length l) n e)
       go false e = omega (arith, drop-one l x, h)
 
-pub length-insertAll : (cs w : List Copy) → length (insertAll cs w) ≡ length cs + length w
-length-insertAll [] w = omega arith
-length-insertAll (c ∷ cs) w = omega (arith, length-insertAll cs (insertCopy c w), length-insert c w)
+length-ordered : (c : Copy) (w : List Copy) → length (ordered c w) ≡ suc (length w)
+length-ordered c [] = refl
+length-ordered c (x ∷ w) = go (before c x) (length-ordered c w)
+  where
+    go : (b : Bool) → length (ordered c w) ≡ suc (length w) → length (cond b (c ∷ x ∷ w) (x ∷ ordered c w)) ≡ suc (suc (length w))
+    go true h = refl
+    go false h = ap suc h
 
-each-insertAll : (P : Copy → Type 0) (cs w : List Copy) → Each P cs → Each P w → Each P (insertAll cs w)
+length-copy : (k : Layout) (c : Copy) (w : List Copy) → length (withCopy k c w) ≡ suc (length w)
+length-copy plain c w = length-ordered c w
+length-copy table c w = length-insert c w
+
+pub length-insertAll : (k : Layout) (cs w : List Copy) → length (insertAll k cs w) ≡ length cs + length w
+length-insertAll k [] w = omega arith
+length-insertAll k (c ∷ cs) w = omega (arith, length-insertAll k cs (withCopy k c w), length-copy k c w)
+
+each-insertAll : (P : Copy → Type 0) (cs w : List Copy) → Each P cs → Each P w → Each P (insertAll table cs w)
 each-insertAll P [] w e h = h
 each-insertAll P (c ∷ cs) w e h = each-insertAll P cs (insertCopy c w) (e .1) (each-insert P c w (e .0) h)
 
@@ -155,7 +167,7 @@ ruled-fits z e v f = record { blocks = f .blocks; rules = rw (length-ruled v (e 
 -- ---- One recipient
 
 module _ (o : Opening) (m : Message) where
-  pub few-copies : {k : Marking} (s : LiveBy k) (d : Drawn) (t : ℕ) → length (d .echoes .copies) ≤ 2 → length (copies o m s d t) ≤ 3
+  pub few-copies : {k : Layout} (s : LiveBy k) (d : Drawn) (t : ℕ) → length (d .echoes .copies) ≤ 2 → length (copies o m s d t) ≤ 3
   few-copies s d t h = omega (arith, length-numbered (s .sequence) (original m t (d .latency .value) ∷ d .echoes .copies))
 
   abbrev pub NearCopy : Copy → Type 0
@@ -196,9 +208,12 @@ module _ (o : Opening) (m : Message) where
   pub room : (s : Live) (t : ℕ) → Ready s t → marked s t (m .id) ≡ false → length (idsAt s t) < o .sizes .seenSlots
   room s t r f = ltb-true _ _ (rw f at r)
 
-  remembered-fits : NearMessage (o .sizes) m → (r : List (List Carried)) → RingsFit (o .sizes) r → RingsFit (o .sizes) (remembered o m r)
-  remembered-fits k r f = go (o .draws .echoing)
+  remembered-fits : NearMessage (o .sizes) m → (s : Live) → RingsFit (o .sizes) (s .rings) → RingsFit (o .sizes) (remembered o m s)
+  remembered-fits k s f = go (o .draws .echoing)
     where
+      r : List (List Carried)
+      r = s .rings
+
       at : ℕ
       at = numberOf (m .kind) (m .scope)
 
@@ -227,10 +242,10 @@ module _ (o : Opening) (m : Message) where
       seen = each-set (Small (o .sizes .seenSlots)) (s .seen) t (placed (m .id) (idsAt s t)) (f .seen) (omega (arith, room s t r (h refl), length-placed (m .id) (idsAt s t)));
       ordered = each-set Ordered (s .seen) t (placed (m .id) (idsAt s t)) (f .ordered) (ordered-placed (m .id) (idsAt s t) (h refl) (each-at Ordered (s .seen) t [] (f .ordered) none-ordered));
       engine = ruled-fits (o .sizes) (s .engine) (d .verdict) (f .engine);
-      rings = remembered-fits k (s .rings) (f .rings);
+      rings = remembered-fits k s (f .rings);
       words = length-set (s .words) _ _ ∙ f .words;
       queue = record {
-        few = omega (arith, length-insertAll (copies o m s d t) (s .waiting), few-copies s d t (g .few));
+        few = omega (arith, length-insertAll table (copies o m s d t) (s .waiting), few-copies s d t (g .few));
         near = each-insertAll (λ (c : Copy). nearCopy (o .sizes) c ≡ true) (copies o m s d t) (s .waiting)
             (near-numbered (s .sequence) (original m t (d .latency .value) ∷ d .echoes .copies) (near-original k t (d .latency .value) b, g .near)) (f .queue .near);
       };
@@ -242,7 +257,7 @@ module _ (o : Opening) (m : Message) where
     effect-length partition = omega arith
     effect-length loss = omega arith
     effect-length fault = omega arith
-    effect-length sent = omega (arith, length-insertAll (copies o m s d t) (s .waiting), few-copies s d t (g .few))
+    effect-length sent = omega (arith, length-insertAll table (copies o m s d t) (s .waiting), few-copies s d t (g .few))
 
     pub effect-ready : (c : Class) → (c ≡ sent → marked s t (m .id) ≡ false) → t < o .sizes .tills → (u : ℕ) → Ready s u → Ready (effect o m c s d t) u
     effect-ready deduplicated h b u r = r

@@ -20,7 +20,7 @@ use Rattle.spec_network.specs.Accept.{mark}
 use Rattle.spec_book.proofs.Each.{each-at, each-set}
 use Rattle.spec_network.specs.Flush.{unmark, clearing, stops}
 use Rattle.spec_network.specs.Lists.{some-of}
-use Rattle.spec_network.specs.Marking.{plain, table, inserted, without}
+use Rattle.spec_network.specs.Layout.{plain, table, inserted, without}
 use Rattle.spec_network.specs.Live.{isOriginal, Live, LiveBy, numbered}
 
 -- an original is scheduled only where none of its id stands for its till

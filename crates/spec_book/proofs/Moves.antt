@@ -9,7 +9,7 @@ use Rattle.table_rows.specs.Rows.{pick}
 use Rattle.table_waiting.specs.declared.Copy.{Copy}
 use Rattle.spec_network.specs.Lists.{bit, count}
 use Rattle.spec_network.specs.Opening.{Opening}
-use Rattle.spec_network.specs.Marking.{plain}
+use Rattle.spec_network.specs.Layout.{plain}
 use Rattle.spec_network.specs.Live.{LiveBy}
 use Rattle.spec_network.specs.Accept.{Message, messageOf, selected, Drawn, drawn, Class, deduplicated, partition, loss, fault, sent, classOf, copies, effect, offered, liveAfter, noCounts}
 use Rattle.spec_network.specs.Flush.{rowOf, due, stops, lands, dropsOf, handled, loggedAll}

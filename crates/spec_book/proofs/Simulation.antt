@@ -26,7 +26,7 @@ use Rattle.fault_blocks.specs.Blocks as blocks
 use Rattle.fault_blocks.specs.Blocks.{blockSlots, always, during}
 use Rattle.fault_blocks.specs.declared.BlockWindow.{BlockWindow}
 use Rattle.spec_network.specs.Opening.{Sizes, Opening, link}
-use Rattle.spec_network.specs.Marking.{table}
+use Rattle.spec_network.specs.Layout.{table}
 use Rattle.spec_network.specs.Live.{Till, downTill, upTill, Live, withTills, withSeen, withEngine, withRings, withWaiting, withLog, withBlocks, isOriginal, idsAt, marked, stopped, tillAt, ringsOf}
 use Rattle.spec_network.specs.Accept.{Message, messageOf, selected, Drawn, drawn, carriedOf, Class, deduplicated, partition, loss, fault, sent, classOf, copies, insertAll, ruled, remembered, wordsMoved, effect, offered, liveAfter}
 use Rattle.spec_network.specs.Flush.{due, later, stops, lands, unmark, clearing, loggedAll, flushed}
@@ -52,7 +52,7 @@ module _ (o : Opening) where
   -- ---- One recipient
 
   module _ (m : Message) (k : NearMessage (o .sizes) m) where
-    remember-wrote : (T : Tables) → Formed (o .sizes) T → Wrote (o .sizes) (rememberT o m T) (withRings (live (o .sizes) T) (remembered o m (live (o .sizes) T .rings)))
+    remember-wrote : (T : Tables) → Formed (o .sizes) T → Wrote (o .sizes) (rememberT o m T) (withRings (live (o .sizes) T) (remembered o m (live (o .sizes) T)))
     remember-wrote T f = go (o .draws .echoing)
       where
         go : (b : Bool) → Wrote (o .sizes) (cond b (setRings T (rings.pushed (ringsOf (o .sizes)) (T .rings) (rings.numberOf (m .kind) (m .scope)) (carriedOf m))) T)
@@ -90,8 +90,8 @@ module _ (o : Opening) where
         record {
           formed = x₄ .formed;
           holds = x₄ .holds
-              ∙ ap (λ (q : Live). withRings q (remembered o m (q .rings)))
-              (x₃ .holds ∙ ap (λ (q : Live). withWaiting q (length cs + q .sequence) (insertAll cs (q .waiting)))
+              ∙ ap (λ (q : Live). withRings q (remembered o m q))
+              (x₃ .holds ∙ ap (λ (q : Live). withWaiting q (length cs + q .sequence) (insertAll table cs (q .waiting)))
               (x₂ .holds ∙ ap (λ (q : Live). withSeen q (set (q .seen) t ids)) (x₁ .holds)));
         }
 

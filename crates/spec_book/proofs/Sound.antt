@@ -8,9 +8,9 @@ use lib.ListN.{length, getD, replicate, length-set, length-replicate}
 use borrow.Author.Tests.{lt-ltb, lt-leb}
 use Rattle.table_rows.specs.Rows.{pick, keep}
 use Rattle.table_rows.specs.Lists.{Each, front, behind}
-use Rattle.table_waiting.specs.Waiting.{insertCopy, onTime, Sorted}
+use Rattle.table_waiting.specs.Waiting.{ordered, onTime, Sorted}
 use Rattle.table_waiting.specs.declared.Copy.{Copy}
-use Rattle.table_waiting.proofs.Order.{sorted-insert, sorted-drop}
+use Rattle.table_waiting.proofs.Order.{sorted-insert, insert-ordered, sorted-drop}
 use Rattle.table_rows.proofs.Lists.{drop-front}
 use Rattle.table_marks.specs.Marks.{member, Rises}
 use Rattle.fault_rule.specs.declared.DropSpec.{DropSpec}
@@ -21,7 +21,7 @@ use Rattle.fault_rules.proofs.Ids.{install-ascends, remove-ascends, fire-ascend
 use Rattle.fault_decide.specs.Decide.{Decision, rulesAfter}
 use Rattle.spec_network.specs.Lists.{bit, count, below}
 use Rattle.spec_network.specs.Opening.{Opening}
-use Rattle.spec_network.specs.Marking.{Marking, plain, Marks, inserted}
+use Rattle.spec_network.specs.Layout.{Layout, plain, Marks, inserted}
 use Rattle.spec_network.specs.Live.{LiveBy, isOriginal, marked, idsAt, stopped}
 use Rattle.spec_network.specs.Accept.{Message, messageOf, selected, Drawn, drawn, original, Class, deduplicated, partition, loss, fault, sent, firstFit, classOf, copies, effect, offered, liveAfter, insertAll}
 use Rattle.spec_network.specs.Flush.{due, stops, unmark, clearing}
@@ -47,9 +47,9 @@ pub record Sound (tills : ℕ) (waiting : List Copy) (sequence : ℕ) (seen : Li
 abbrev pub SoundLive : Opening → LiveBy plain → List Event → Type 0
 SoundLive o s past = Sound (o .sizes .tills) (s .waiting) (s .sequence) (s .seen) (s .engine .installed) (s .engine .rules) past
 
-sorted-insertAll : (cs w : List Copy) → Sorted w → Sorted (insertAll cs w)
+sorted-insertAll : (cs w : List Copy) → Sorted w → Sorted (insertAll plain cs w)
 sorted-insertAll [] w h = h
-sorted-insertAll (c ∷ cs) w h = sorted-insertAll cs (insertCopy c w) (sorted-insert c w h)
+sorted-insertAll (c ∷ cs) w h = sorted-insertAll cs (ordered c w) (subst Sorted (insert-ordered c w h) (sorted-insert c w h))
 
 sorted-behind : (q : Copy → Bool) (w : List Copy) → Sorted w → Sorted (behind q w)
 sorted-behind q w h = subst Sorted (drop-front q w) (sorted-drop (length (front q w)) w h)
@@ -111,7 +111,7 @@ keep-below n q (t ∷ ts) h = go (q t) (keep-below n q ts (h .1))
     go true r = (h .0, r)
     go false r = r
 
-pub selected-below : (o : Opening) {k : Marking} (s : LiveBy k) (scope from : ℕ) → Below (o .sizes .tills) (selected o s scope from)
+pub selected-below : (o : Opening) {k : Layout} (s : LiveBy k) (scope from : ℕ) → Below (o .sizes .tills) (selected o s scope from)
 selected-below o s scope from = keep-below (o .sizes .tills) _ (below (o .sizes .tills)) (each-upTo (λ t. t < o .sizes .tills) (o .sizes .tills) (λ i. i) (λ j h. h))
 
 module _ (o : Opening) (m : Message) where
@@ -125,7 +125,7 @@ module _ (o : Opening) (m : Message) where
 
 -- ---- Every call
 
-pub length-clearing : {k : Marking} (s : LiveBy k) (cs : List Copy) (seen : List (Marks k)) → length (clearing s cs seen) ≡ length seen
+pub length-clearing : {k : Layout} (s : LiveBy k) (cs : List Copy) (seen : List (Marks k)) → length (clearing s cs seen) ≡ length seen
 length-clearing s [] seen = refl
 length-clearing {k} s (c ∷ cs) seen = length-clearing s cs _ ∙ go (stops s c && isOriginal c)
   where

@@ -21,7 +21,7 @@ use Rattle.table_log.proofs.Draining.{drained-log, drained-sound}
 use Rattle.link_geography.specs.Geography.{atLeastOne, linkIn, linkAdmitted}
 use Rattle.spec_network.specs.Lists.{every, below}
 use Rattle.spec_network.specs.Opening.{Sizes, Settings, links}
-use Rattle.spec_network.specs.Marking.{table}
+use Rattle.spec_network.specs.Layout.{table}
 use Rattle.spec_network.specs.Live.{upTill, openTills, openingLive, ringsOf}
 use Rattle.spec_network.specs.Questions.{Asked}
 use Rattle.spec_network.specs.Tables.{cell, Tables, live, setupOf, setupWidth, tillForm, idsStart}

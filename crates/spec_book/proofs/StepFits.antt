@@ -25,7 +25,7 @@ use Rattle.fault_rules.specs.Rules.{ruleSlots, mostRules, without}
 use Rattle.fault_blocks.specs.Blocks.{blockSlots, always, during}
 use Rattle.fault_blocks.specs.declared.BlockWindow.{BlockWindow}
 use Rattle.table_rings.specs.Rings.{slots}
-use Rattle.spec_network.specs.Marking.{table}
+use Rattle.spec_network.specs.Layout.{table}
 use Rattle.spec_network.specs.Live.{Carried, Till, downTill, upTill, Engine, Live, openingLive, isOriginal, ringsOf, tillAt, withTills, withEngine, withBlocks}
 use Rattle.spec_network.specs.Accept.{Entry, messageOf, selected}
 use Rattle.spec_network.specs.Flush.{due, stops, lands, unmark, clearing, loggedAll}
@@ -114,7 +114,7 @@ module _ (o : Opening) where
     near = each-append (λ (x : BlockWindow). nearBlock (o .sizes) x ≡ true) (e .blocks) (b ∷ []) (f .near) (n, tt);
   }
 
-  scope-below : (x n : ℕ) → n ≤ 16 → (eqb x global || ltb x n) ≡ true → x ≤ 16
+  pub scope-below : (x n : ℕ) → n ≤ 16 → (eqb x global || ltb x n) ≡ true → x ≤ 16
   scope-below x n l h = go (eqb x global) (ltb x n) refl refl h
     where
       go : (a b : Bool) → eqb x global ≡ a → ltb x n ≡ b → (a || b) ≡ true → x ≤ 16

@@ -5,7 +5,7 @@ use native.Mathlib.Omega.{arith}
 use mathlib.Core.List.{List, [], _∷_, map}
 use lib.ListN.{length}
 use Rattle.spec_network.specs.Accept.{Message, Class, sent, deduplicated, partition, loss, fault, Counts, add, total, Booked, booked, tally, offered}
-use Rattle.spec_network.specs.Marking.{plain}
+use Rattle.spec_network.specs.Layout.{plain}
 use Rattle.spec_network.specs.Live.{LiveBy}
 use Rattle.spec_network.specs.Opening.{Opening}
 

@@ -39,6 +39,7 @@ use Rattle.fault_blocks.specs.Blocks.{blockSlots, blockWidth, blocksOf, blockNu
 use Rattle.fault_blocks.specs.declared.BlockWindow.{BlockWindow}
 use Rattle.fault_blocks.proofs.Held.{blocks-added, blocks-unblocked}
 use Rattle.spec_network.specs.Opening.{Sizes}
+use Rattle.spec_network.specs.Layout.{table}
 use Rattle.spec_network.specs.Live.{Carried, Till, Live, withTills, withSeen, withEngine, withRings, withWords, withWaiting, withLog, withBlocks, withRules, ringsOf}
 use Rattle.spec_network.specs.Accept.{insertAll, ruled}
 use Rattle.spec_network.specs.Calls.{ruleAdded, ruleRemoved}
@@ -265,7 +266,7 @@ module _ (z : Sizes) (T : Tables) (f : Formed z T) where
 
 -- the copies one after the other
 pub push-wrote : (z : Sizes) (cs : List Copy) (T : Tables) → Formed z T → cell (T .net) waitingAt + length cs ≤ z .waitSlots
-    → Wrote z (pushT z T cs) (withWaiting (live z T) (length cs + live z T .sequence) (insertAll cs (live z T .waiting)))
+    → Wrote z (pushT z T cs) (withWaiting (live z T) (length cs + live z T .sequence) (insertAll table cs (live z T .waiting)))
 push-wrote z [] T f l = let e : 0 + cell (T .net) sequenceAt ≡ cell (T .net) sequenceAt = omega arith in rw e (record { formed = f; holds = refl })
 push-wrote z (c ∷ cs) T f l =
     let w = live z T .waiting in
@@ -282,5 +283,5 @@ push-wrote z (c ∷ cs) T f l =
     let e : length cs + suc n ≡ suc (length cs) + n = omega arith in
     record {
       formed = rest .formed;
-      holds = rest .holds ∙ ap (λ (s : Live). withWaiting s (length cs + s .sequence) (insertAll cs (s .waiting))) one ∙ ap (λ (k : ℕ). withWaiting (live z T) k (insertAll cs (insertCopy c w))) e;
+      holds = rest .holds ∙ ap (λ (s : Live). withWaiting s (length cs + s .sequence) (insertAll table cs (s .waiting))) one ∙ ap (λ (k : ℕ). withWaiting (live z T) k (insertAll table cs (insertCopy c w))) e;
     }

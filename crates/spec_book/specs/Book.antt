@@ -4,7 +4,7 @@ use mathlib.Core.Bool.{Bool, true, false, cond}
 use mathlib.Core.List.{List, [], _∷_}
 use Rattle.spec_network.specs.Opening.{Opening}
 use Rattle.table_waiting.specs.declared.Copy.{Copy}
-use Rattle.spec_network.specs.Marking.{plain}
+use Rattle.spec_network.specs.Layout.{plain}
 use Rattle.spec_network.specs.Live.{LiveBy, openingLive}
 use Rattle.spec_network.specs.Accept.{Message, messageOf, selected, Drawn, drawn, Class, deduplicated, partition, loss, fault, sent, classOf, copies, offered}
 use Rattle.spec_network.specs.Flush.{due, stops}

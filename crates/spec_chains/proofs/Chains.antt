@@ -14,7 +14,7 @@ use Rattle.table_rows.proofs.Rows.{length-rows}
 use Rattle.table_waiting.specs.Waiting as waiting
 use Rattle.spec_network.specs.Lists.{every, below, within}
 use Rattle.spec_network.specs.Opening.{Opening}
-use Rattle.spec_network.specs.Marking.{plain}
+use Rattle.spec_network.specs.Layout.{plain}
 use Rattle.spec_network.specs.Live.{Live, LiveBy}
 use Rattle.spec_network.specs.Questions.{Asked, Room, alone, pooled}
 use Rattle.spec_network.specs.Tables.{cell, Tables, live, waitingAt}
@@ -24,12 +24,10 @@ use Rattle.spec_network.specs.Open.{lentTests, limitTests, openNumber, openTabl
 use Rattle.spec_network.specs.Writes.{isNumber, numberIn}
 use Rattle.spec_book.specs.Book.{Book, bookStep}
 use Rattle.spec_book.specs.Demand3.{Item, own, others, reopen, Admitted, AllAdmitted, replyTo, tablesAfter, tablesAtEnd, bookAfter, CallHolds}
-use Rattle.spec_book.proofs.Fitting.{Limited}
 use Rattle.spec_book.proofs.Each.{all-each, every-each, both}
 use Rattle.spec_book.proofs.Held.{Held}
 use Rattle.spec_book.proofs.Drawing.{by}
 use Rattle.spec_book.proofs.Asking.{all-yes}
-use Rattle.spec_book.proofs.Start.{limited}
 use Rattle.spec_book.proofs.Final.{Bears, number-is, held-after, call-holds, open-bears, demand3}
 use Rattle.spec_chains.specs.Pool.{sumBelow, othersBelow, takes, Bench, limit, freeFor, mostChains, poolTests, askedBench, benchNumber, chainOpening, chainOpened}
 use Rattle.spec_chains.specs.Chains.{Act, placed, counted, inBooks, roomFor, itemOf, tablesNext, booksNext, tablesLast, booksLast, listOf, ownList, repliesOf, AdmittedActs, ActHolds, ActsHold, openedBooks, BenchHolds, Inside, AllInside, repliesTo}
@@ -74,9 +72,6 @@ module _ (B : Bench) (ok : Opened B) where
     pub held : (i : ℕ) → i < k → Bears (chainOpening B i) (T i) (b i)
     pub sum : sumBelow k (λ j. takes (B .share j) (inBooks b j)) ≤ B .slots
 
-  pub lim : (i : ℕ) → i < k → Limited (B .settings i .sizes)
-  lim i l = limited (B .settings i) (B .masks i) (B .lent i) (ok .chain i l)
-
   -- the room that the tables tell is the one that the books tell
   same-free : (T : ℕ → Tables) (b : ℕ → Book) → Inv T b → (i : ℕ) → freeFor B (counted T) i ≡ freeFor B (inBooks b) i
   same-free T b v i =
@@ -102,7 +97,7 @@ module _ (B : Bench) (ok : Opened B) where
     it = itemOf B T a
 
     held-own : Bears o (tablesAfter (T i) it) (bookAfter o (b i) (T i) it)
-    held-own = held-after o (lim i l) (b i) (T i) it (v .held i l) (admitted-placed (roomFor B T a) (a .item) p)
+    held-own = held-after o (b i) (T i) it (v .held i l) (admitted-placed (roomFor B T a) (a .item) p)
 
     held-next : (j : ℕ) → j < k → Bears (chainOpening B j) (tablesNext B T a j) (booksNext B b T a j)
     held-next j m = go (eqb j i) refl

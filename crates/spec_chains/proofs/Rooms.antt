@@ -10,7 +10,7 @@ use lib.ListN.{length}
 use borrow.Author.Tests.{le-leb, leb-true}
 use Rattle.table_waiting.specs.Waiting.{onTime}
 use Rattle.spec_network.specs.Opening.{Opening, Draws}
-use Rattle.spec_network.specs.Marking.{plain}
+use Rattle.spec_network.specs.Layout.{plain}
 use Rattle.spec_network.specs.Live.{Live, LiveBy}
 use Rattle.spec_network.specs.Accept.{Message, messageOf, selected, drawn, Class, deduplicated, partition, loss, fault, sent, classOf, copies, effect, offered, liveAfter}
 use Rattle.spec_network.specs.Calls.{Call, liveStep, accept, flush, takeDown, bringUp, handlers, block, blockDuring, unblock, install, remove, decide, drain, reading}
@@ -76,7 +76,7 @@ module _ (o : Opening) where
   effect-few m s t partition = omega arith
   effect-few m s t loss = omega arith
   effect-few m s t fault = omega arith
-  effect-few m s t sent = omega (arith, length-insertAll (copies o m s (drawn o m t s) t) (s .waiting), few-copies o m s (drawn o m t s) t (drawn-few o m t s))
+  effect-few m s t sent = omega (arith, length-insertAll plain (copies o m s (drawn o m t s) t) (s .waiting), few-copies o m s (drawn o m t s) t (drawn-few o m t s))
 
   accept-few : (m : Message) (ts : List ℕ) (s : LiveBy plain) → length (liveAfter o m s ts .waiting) ≤ length (s .waiting) + 3 * length ts
   unfolding offered

@@ -17,7 +17,7 @@ use Rattle.table_waiting.specs.Waiting as waiting
 use Rattle.table_waiting.specs.declared.Copy.{Copy}
 use Rattle.table_waiting.proofs.Reading.{exact}
 use Rattle.spec_network.specs.Opening.{Opening}
-use Rattle.spec_network.specs.Marking.{plain}
+use Rattle.spec_network.specs.Layout.{plain}
 use Rattle.spec_network.specs.Live.{Live, LiveBy, plainly}
 use Rattle.spec_network.specs.Questions.{Room, alone, pooled, firstNo, askedIn}
 use Rattle.spec_network.specs.Calls.{Call, Answer}
@@ -35,7 +35,7 @@ use Rattle.spec_chains.specs.Chains.{placed, put, inBooks, openedBooks, 
 use Rattle.spec_chains.specs.Slots.{ledgerWidth, shareAt, countAt, counts, freeIn, ofChain, openLedger, ownMoves, poolReplies, joined, copiesIn, Stand, Move, poolOf, brought, itemHere, worked, standNext, booksAlong, standLast, booksThen, AdmittedMoves, MoveHolds, MovesHold, openStand, PoolHolds}
 use Rattle.spec_chains.proofs.Sums.{one-and-others, others-same, others-each, sum-each}
 use Rattle.spec_chains.proofs.Rooms.{item-alone}
-use Rattle.spec_chains.proofs.Chains.{Opened, admitted-placed, item-few, held-count, waiting-count, lim, shares-sum}
+use Rattle.spec_chains.proofs.Chains.{Opened, admitted-placed, item-few, held-count, waiting-count, shares-sum}
 
 -- ---- The rows of the chains, one behind the other
 
@@ -104,6 +104,8 @@ bears-brought o T b h work e = record {
   kept = h .kept;
   held = subst (λ (q : LiveBy plain). Held (by o (h .draws)) (setWaiting T (over waiting.form (q .waiting) work)) (h .kept)) (h .same) (held-brought (by o (h .draws)) T (h .kept) (h .held) work e);
   same = h .same;
+  sound = h .sound;
+  limits = h .limits;
 }
 
 -- ---- The bench
@@ -172,7 +174,7 @@ module _ (B : Bench) (ok : Opened B) where
     admitted = admitted-placed (pooled (freeIn (S .ledger) i)) (m .item) p
 
     held-own : Bears o (worked B S m) b′
-    held-own = held-after o (lim B ok i l) (b i) T it here admitted
+    held-own = held-after o (b i) T it here admitted
 
     abbrev new : List Copy
     new = rowsOf waiting.form (worked B S m .waiting) (cell (worked B S m .net) waitingAt)
@@ -383,7 +385,7 @@ module _ (B : Bench) (ok : Opened B) (i : ℕ) (l : i < B .chains) where
           let book : booksAlong B b S m i ≡ bookAfter o (b i) W (placed (pooled free) (m .item)) =
           ap (λ (c : Bool). cond c (bookAfter (chainOpening B (m .chain)) (b (m .chain)) (brought S (m .chain) (m .work)) (itemHere B S m)) (b i)) e
           ∙ ap (λ (k : ℕ). bookAfter (chainOpening B k) (b k) (brought S k (m .work)) (placed (pooled (freeIn (S .ledger) k)) (m .item))) p ∙ x .1 in
-          let after = held-after o (lim B ok i l) (b i) W (placed (pooled free) (m .item)) g (admitted-placed (pooled free) (m .item) (q .1)) in
+          let after = held-after o (b i) W (placed (pooled free) (m .item)) g (admitted-placed (pooled free) (m .item) (q .1)) in
           let d : Bears o (tablesAfter W (placed alone (m .item))) (booksAlong B b S m i) =
           rw book (subst (λ (U : Tables). Bears o U (bookAfter o (b i) W (placed (pooled free) (m .item)))) (y .1) after) in
           (λ j. reply j ∷ r (tablesAfter W (placed alone (m .item))) d (h .1) j)

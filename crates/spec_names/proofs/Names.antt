@@ -29,7 +29,6 @@ use Rattle.spec_book.proofs.Formed.{fourOf}
 use Rattle.spec_book.proofs.Unwritten.{same-end}
 use Rattle.spec_book.proofs.Held.{Held, yes1}
 use Rattle.spec_book.proofs.Asking.{numbersApart, first-no}
-use Rattle.spec_book.proofs.Start.{limited}
 use Rattle.spec_book.proofs.Drawing.{by}
 use Rattle.spec_book.proofs.Final.{Bears, open-bears, end-held, demand3}
 use Rattle.spec_names.specs.Keeping.{NameCall, keep, return, giveUp, names, stored, restored, needWords, roomy, keeps, openShelf, shelfTests, nineHeld, nineTests, nameTests, nameQuestion1, askedName, numberBy, tablesIf, shelfIf, memoryIf, memoryOf, nameNumber, nameRefused}
@@ -121,7 +120,7 @@ module _ (x : Settings) (masks : List ℕ) (lent : Tables) (accepted : openNumbe
   T₀ = openTables x masks lent
 
   held : (l : List Item) → AllAdmitted l → Bears o (tablesAtEnd T₀ l) (bookAtEnd o (opened o masks) T₀ l)
-  held l a = end-held o (limited x masks lent accepted) l (opened o masks) T₀ (open-bears x masks lent accepted) a
+  held l a = end-held o l (opened o masks) T₀ (open-bears x masks lent accepted) a
 
   -- a name that keeps: the memory that its keeping left begins with the tables of the list that the book has for it
   abbrev Paired : Bool → Option (List Item) → List ℕ → Type 0

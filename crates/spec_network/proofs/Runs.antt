@@ -5,7 +5,7 @@ use Prim.Native.Nat.{ℕ, suc, _+_, _*_, _%_}
 use mathlib.Core.Bool.{Bool, true, false, cond, not}
 use mathlib.Core.List.{List, [], _∷_, _++_, map}
 use lib.Dec.{eqb, ltb}
-use lib.ListN.{length, replicate}
+use lib.ListN.{length, drop, replicate}
 use Rattle.table_waiting.specs.declared.Copy.{Copy}
 use Rattle.fault_rules.specs.declared.FaultRule.{FaultRule}
 use Rattle.fault_rule.specs.declared.Message.{Message}
@@ -16,11 +16,11 @@ use Rattle.spec_network.specs.Accept.{Entry, Counts}
 use Rattle.spec_network.specs.Flush.{Row}
 use Rattle.table_log.specs.Log.{emptyLog}
 use Rattle.spec_network.specs.Questions.{asked, firstNo}
-use Rattle.spec_network.specs.Marking as marking
-use Rattle.spec_network.specs.Live.{Live, withWaiting, openingLive}
+use Rattle.spec_network.specs.Layout as layout
+use Rattle.spec_network.specs.Live.{Carried, Live, withWaiting, openingLive}
 use Rattle.spec_network.specs.Calls.{Call, counted, number, tallied, isBlocked, transit, nextTime, tallyOf, countsIn, rowsIn, deliveredIn, dropsIn, accept, flush, takeDown, bringUp, handlers, block, blockDuring, unblock, install, remove, decide, drain, reading}
 use Rattle.spec_network.specs.Tables.{Tables, live, cell}
-use Rattle.spec_network.specs.Writes.{Reply, tablesBy, replyBy}
+use Rattle.spec_network.specs.Writes.{Reply, outputWith, tablesBy, replyBy}
 use Rattle.spec_network.specs.Open.{lengthsOf, openNumber, openTables}
 use Rattle.link_latency.specs.Admitted as admitted
 use lib.Ieee as ieee
@@ -259,7 +259,7 @@ abbrev big : ℕ → Opening
 big tills = record { sizes = record { tills = tills; types = 2; classes = 3; shards = 0; seenSlots = 2; waitSlots = 4096; logSlots = 0 }; draws = toy 0 0 0 }
 
 abbrev crowded : ℕ → Live
-crowded tills = withWaiting (openingLive marking.table (big tills .sizes) (replicate tills 0)) 4090
+crowded tills = withWaiting (openingLive layout.table (big tills .sizes) (replicate tills 0)) 4090
     (replicate 4090 (record { delivery = record { from = 0; to = 1; kind = 0; class = 0; sent = 0; time = 0; scope = global; wire = 0 }; sequence = 0; original = 1; id = 0; tag = 0 }))
 
 pub record Crowd : Type 0 where
@@ -273,13 +273,42 @@ pub record Rates : Type 0 where
   pub at-minus-zero : (key : List ℕ) (words : ℕ) → real.chance key 0x8000000000000000 words ≡ record { value = false; words = words + 0 }
   pub above-zero : (key : List ℕ) (words : ℕ) → real.chance key 0x3fe0000000000000 words .words ≡ words + 2
 
--- ---- The book's marks are plain
+-- ---- A flush's output: a row of 14 words for each copy that lands, its till second, its handlers last
+
+abbrev written : List ℕ
+written = outputWith (reply (handlers 2 2 0 ∷ hello ∷ []) flying .answer) (replicate 30 9)
+
+pub record Outputs : Type 0 where
+  pub tills : (cell written 1 ≡ 1) × (cell written 15 ≡ 2)
+  pub handlers : (cell written 12 ≡ 0) × (cell written 26 ≡ 1)
+  -- what lies behind the rows stays
+  pub behind : drop 28 written ≡ 9 ∷ 9 ∷ []
+
+-- ---- The book's marks, waiting copies and rings are plain
+
+abbrev at : ℕ → ℕ → Copy
+at time sequence = record { delivery = record { from = 0; to = 1; kind = 0; class = 0; sent = 0; time = time; scope = global; wire = 0 }; sequence = sequence; original = 1; id = 0; tag = 0 }
+
+abbrev carried : ℕ → Carried
+carried tag = record { class = 0; wire = 0; tag = tag }
+
+-- the ring of type 1 and shard 0 anew, among rings that have one message each
+abbrev anew : layout.Rings layout.plain
+anew = layout.withRing layout.plain (λ kind scope. carried 5 ∷ []) 1 0 (carried 7 ∷ [])
+
+pub record Plain : Type 0 where
+  -- by time, and behind those of one time by sequence
+  pub in-time : layout.withCopy layout.plain (at 5 4) (at 4 1 ∷ at 5 3 ∷ at 6 2 ∷ []) ≡ at 4 1 ∷ at 5 3 ∷ at 5 4 ∷ at 6 2 ∷ []
+  pub in-sequence : layout.withCopy layout.plain (at 5 2) (at 5 1 ∷ at 5 3 ∷ []) ≡ at 5 1 ∷ at 5 2 ∷ at 5 3 ∷ []
+  pub own-ring : layout.ringOf layout.plain anew 1 0 ≡ carried 7 ∷ []
+  pub other-scope : layout.ringOf layout.plain anew 1 global ≡ carried 5 ∷ []
+  pub other-type : layout.ringOf layout.plain anew 0 0 ≡ carried 5 ∷ []
 
 pub record Marks : Type 0 where
-  pub more : marking.withMark marking.plain 5 (3 ∷ 7 ∷ []) ≡ 3 ∷ 5 ∷ 7 ∷ []
-  pub less : marking.withoutMark marking.plain 5 (3 ∷ 5 ∷ 7 ∷ []) ≡ 3 ∷ 7 ∷ []
-  pub there : marking.stands marking.plain 5 (3 ∷ 5 ∷ 7 ∷ []) ≡ true
-  pub gone : marking.stands marking.plain 5 (3 ∷ 7 ∷ []) ≡ false
+  pub more : layout.withMark layout.plain 5 (3 ∷ 7 ∷ []) ≡ 3 ∷ 5 ∷ 7 ∷ []
+  pub less : layout.withoutMark layout.plain 5 (3 ∷ 5 ∷ 7 ∷ []) ≡ 3 ∷ 7 ∷ []
+  pub there : layout.stands layout.plain 5 (3 ∷ 5 ∷ 7 ∷ []) ≡ true
+  pub gone : layout.stands layout.plain 5 (3 ∷ 7 ∷ []) ≡ false
 
 pub record Runs : Type 0 where
   pub rates : Rates
@@ -289,6 +318,8 @@ pub record Runs : Type 0 where
   pub echoes : Echoes
   pub flushes : Flushes
   pub crowd : Crowd
+  pub outputs : Outputs
+  pub plainly : Plain
   pub marks : Marks
 
 pub runs : Runs
@@ -301,5 +332,7 @@ runs = record {
   echoes = record { kinds = refl; sequences = refl; ids = refl; first-words = refl; second-words = refl; ring = refl; in-transit = refl; log-of-one = refl; forced-out = refl; drained-short = refl; drained-empty = refl };
   flushes = record { lands = refl; delivered = refl; dropped = refl; mark-gone = refl; sent-again = refl; window-ends = refl; down-in-flight = refl; up-again = refl; unhandled = refl; sender-gone = refl; two-wait = refl; second-unmarked = refl; host-shard = refl; host-global = refl; not-due = refl; next = refl; unblock-all = refl; is-blocked = refl; end-open = refl };
   crowd = record { two-fit = refl; three-do-not = refl };
+  outputs = record { tills = (refl, refl); handlers = (refl, refl); behind = refl };
+  plainly = record { in-time = refl; in-sequence = refl; own-ring = refl; other-scope = refl; other-type = refl };
   marks = record { more = refl; less = refl; there = refl; gone = refl };
 }

@@ -6,13 +6,12 @@ use lib.Dec.{eqb}
 use lib.ListN.{length, getD, set}
 use Rattle.table_rows.specs.Rows.{keep}
 use Rattle.table_waiting.specs.declared.Copy.{Copy}
-use Rattle.table_waiting.specs.Waiting.{insertCopy}
 use Rattle.fault_decide.specs.Decide.{Decision, rulesAfter}
 use Rattle.table_ring.specs.Ring.{push}
 use Rattle.spec_network.specs.Lists.{bit, below, bitAt}
-use Rattle.table_rings.specs.Rings.{slots, numberOf}
+use Rattle.table_rings.specs.Rings.{slots}
 use Rattle.spec_network.specs.Opening.{Draw, Opening, link, global}
-use Rattle.spec_network.specs.Marking.{Marking, Marks, noMarks, withMark}
+use Rattle.spec_network.specs.Layout.{Layout, Marks, Rings, noMarks, withMark, withCopy, ringOf, withRing}
 use Rattle.spec_network.specs.Live.{numbered, Carried, Context, Engine, LiveBy, withRules, withSeen, withEngine, withRings, withWords, withWaiting, marked, tillAt, stopped}
 
 -- an outbox entry as the caller lends it; the tag stands for its payload
@@ -42,11 +41,11 @@ messageOf o e = record { from = e .from; now = e .now; kind = e .kind; class = e
 -- ---- Recipients
 
 -- all tills for a global entry, else those whose mask holds its shard
-abbrev pub receives : {k : Marking} → LiveBy k → ℕ → ℕ → Bool
+abbrev pub receives : {k : Layout} → LiveBy k → ℕ → ℕ → Bool
 receives s scope t = eqb scope global || bitAt (tillAt s t .shards) scope
 
 -- selected means recipients other than the sender; in host order
-abbrev pub selected : {k : Marking} → Opening → LiveBy k → ℕ → ℕ → List ℕ
+abbrev pub selected : {k : Layout} → Opening → LiveBy k → ℕ → ℕ → List ℕ
 selected o s scope from = keep (λ t. receives s scope t && not (eqb t from)) (below (o .sizes .tills))
 
 -- ---- The draws for one recipient, in their order
@@ -65,8 +64,8 @@ pub record Drawn : Type 0 where
 abbrev pub carriedOf : Message → Carried
 carriedOf m = record { class = m .class; wire = m .wire; tag = m .tag }
 
-abbrev pub ringFor : {k : Marking} → LiveBy k → Message → List Carried
-ringFor s m = getD (s .rings) (numberOf (m .kind) (m .scope)) []
+abbrev pub ringFor : {k : Layout} → LiveBy k → Message → List Carried
+ringFor {k} s m = ringOf k (s .rings) (m .kind) (m .scope)
 
 abbrev pub isEmpty : {A : Type 0} → List A → Bool
 isEmpty [] = true
@@ -128,7 +127,7 @@ module _ (o : Opening) (m : Message) (t : ℕ) where
   context = record { kind = m .kind; from = m .from; to = t; tier = 0; now = m .now }
 
   -- loss draw, latency, fault rules, echoes
-  unfoldable pub drawn : {k : Marking} → LiveBy k → Drawn
+  unfoldable pub drawn : {k : Layout} → LiveBy k → Drawn
   drawn s =
       let l = o .draws .loss (m .from) t (getD (s .words) (link (m .from) t) 0) in
       let d = o .draws .latency (m .from) t (m .wire) (l .words) in
@@ -153,32 +152,32 @@ firstFit false false true f = loss
 firstFit false false false true = fault
 firstFit false false false false = sent
 
-abbrev pub insertAll : List Copy → List Copy → List Copy
-insertAll [] w = w
-insertAll (c ∷ cs) w = insertAll cs (insertCopy c w)
+abbrev pub insertAll : Layout → List Copy → List Copy → List Copy
+insertAll k [] w = w
+insertAll k (c ∷ cs) w = insertAll k cs (withCopy k c w)
 
-abbrev pub mark : (k : Marking) → ℕ → ℕ → List (Marks k) → List (Marks k)
+abbrev pub mark : (k : Layout) → ℕ → ℕ → List (Marks k) → List (Marks k)
 mark k t i seen = set seen t (withMark k i (getD seen t (noMarks k)))
 
 module _ (o : Opening) (m : Message) where
-  abbrev pub classOf : {k : Marking} → LiveBy k → ℕ → Class
+  abbrev pub classOf : {k : Layout} → LiveBy k → ℕ → Class
   classOf s t =
       let d = drawn o m t s in
       firstFit (marked s t (m .id)) (stopped s (m .from) t (m .now)) (d .loss .value) (d .verdict .drops)
 
   -- the copies of a sent recipient: the original, then its echoes; each takes the next sequence
-  abbrev pub copies : {k : Marking} → LiveBy k → Drawn → ℕ → List Copy
+  abbrev pub copies : {k : Layout} → LiveBy k → Drawn → ℕ → List Copy
   copies s d t = numbered (s .sequence) (original m t (d .latency .value) ∷ d .echoes .copies)
 
-  abbrev pub wordsMoved : {k : Marking} → LiveBy k → ℕ → ℕ → LiveBy k
+  abbrev pub wordsMoved : {k : Layout} → LiveBy k → ℕ → ℕ → LiveBy k
   wordsMoved s t n = withWords s (set (s .words) (link (m .from) t) n)
 
   -- the ring takes the message, and gives up its oldest first
-  abbrev pub remembered : List (List Carried) → List (List Carried)
-  remembered l = let r = numberOf (m .kind) (m .scope) in cond (o .draws .echoing) (set l r (push slots (getD l r []) (carriedOf m))) l
+  abbrev pub remembered : {k : Layout} → LiveBy k → Rings k
+  remembered {k} s = cond (o .draws .echoing) (withRing k (s .rings) (m .kind) (m .scope) (push slots (ringFor s m) (carriedOf m))) (s .rings)
 
   -- sent sets the mark and puts the copies into waiting; then the ring takes the message
-  abbrev pub effect : {k : Marking} → Class → LiveBy k → Drawn → ℕ → LiveBy k
+  abbrev pub effect : {k : Layout} → Class → LiveBy k → Drawn → ℕ → LiveBy k
   effect deduplicated s d t = s
   effect partition s d t = s
   effect loss s d t = wordsMoved s t (d .loss .words)
@@ -187,14 +186,14 @@ module _ (o : Opening) (m : Message) where
       let cs = copies s d t in
       let s₁ = withEngine (wordsMoved s t (d .echoes .words)) (ruled (s .engine) (d .verdict)) in
       let s₂ = withSeen s₁ (mark k t (m .id) (s .seen)) in
-      let s₃ = withWaiting s₂ (length cs + s .sequence) (insertAll cs (s .waiting)) in
-      withRings s₃ (remembered (s .rings))
+      let s₃ = withWaiting s₂ (length cs + s .sequence) (insertAll k cs (s .waiting)) in
+      withRings s₃ (remembered s)
 
-  unfoldable pub offered : {k : Marking} → LiveBy k → ℕ → LiveBy k
+  unfoldable pub offered : {k : Layout} → LiveBy k → ℕ → LiveBy k
   offered s t = effect (classOf s t) s (drawn o m t s) t
 
   -- the selected in host order, each on what the one before left
-  abbrev pub liveAfter : {k : Marking} → LiveBy k → List ℕ → LiveBy k
+  abbrev pub liveAfter : {k : Layout} → LiveBy k → List ℕ → LiveBy k
   liveAfter s [] = s
   liveAfter s (t ∷ ts) = liveAfter (offered s t) ts
 
@@ -206,7 +205,7 @@ pub record Booked : Type 0 where
   pub class : Class
 
 module _ (o : Opening) (m : Message) where
-  abbrev pub booked : {k : Marking} → LiveBy k → List ℕ → List Booked
+  abbrev pub booked : {k : Layout} → LiveBy k → List ℕ → List Booked
   booked s [] = []
   booked s (t ∷ ts) = record { till = t; class = classOf o m s t } ∷ booked (offered o m s t) ts
 

@@ -11,25 +11,25 @@ use Rattle.table_rows.specs.Lists.{front, behind}
 use Rattle.spec_network.specs.Lists.{bit, count, bitAt}
 use Rattle.table_log.specs.Log.{Log, logged}
 use Rattle.spec_network.specs.Opening.{Opening, global}
-use Rattle.spec_network.specs.Marking.{Marking, Marks, noMarks, withoutMark}
+use Rattle.spec_network.specs.Layout.{Layout, Marks, noMarks, withoutMark}
 use Rattle.spec_network.specs.Live.{LiveBy, isOriginal, tillAt, stopped, withSeen, withWaiting, withLog}
 
 -- the waiting copies with a time at or before now: a front part, since they stand by time, then sequence
-abbrev pub due : {k : Marking} → ℕ → LiveBy k → List Copy
+abbrev pub due : {k : Layout} → ℕ → LiveBy k → List Copy
 due now s = front (onTime now) s.waiting
 
-abbrev pub later : {k : Marking} → ℕ → LiveBy k → List Copy
+abbrev pub later : {k : Layout} → ℕ → LiveBy k → List Copy
 later now s = behind (onTime now) s.waiting
 
 -- blocks at the copy's delivery time, down tills as they are now
-abbrev pub stops : {k : Marking} → LiveBy k → Copy → Bool
+abbrev pub stops : {k : Layout} → LiveBy k → Copy → Bool
 stops s c = stopped s (c .delivery .from) (c .delivery .to) (c .delivery .time)
 
-abbrev pub unmark : (k : Marking) → ℕ → ℕ → List (Marks k) → List (Marks k)
+abbrev pub unmark : (k : Layout) → ℕ → ℕ → List (Marks k) → List (Marks k)
 unmark k t i seen = set seen t (withoutMark k i (getD seen t (noMarks k)))
 
 -- a flush drop clears an original's mark
-abbrev pub clearing : {k : Marking} → LiveBy k → List Copy → List (Marks k) → List (Marks k)
+abbrev pub clearing : {k : Layout} → LiveBy k → List Copy → List (Marks k) → List (Marks k)
 clearing s [] seen = seen
 clearing {k} s (c ∷ cs) seen = clearing s cs (cond (stops s c && isOriginal c) (unmark k (c .delivery .to) (c .id) seen) seen)
 
@@ -42,7 +42,7 @@ pub record Row : Type 0 where
   pub host : ℕ
 
 -- a host handler takes global entries only
-abbrev pub rowOf : {k : Marking} → LiveBy k → Copy → Row
+abbrev pub rowOf : {k : Layout} → LiveBy k → Copy → Row
 rowOf s c = record {
   copy = c;
   gossip = bit (bitAt (tillAt s (c .delivery .to) .gossip) (c .delivery .kind));
@@ -52,13 +52,13 @@ rowOf s c = record {
 abbrev pub handled : Row → Bool
 handled r = not (eqb (r .gossip + r .host) 0)
 
-abbrev pub lands : {k : Marking} → LiveBy k → List Copy → List Copy
+abbrev pub lands : {k : Layout} → LiveBy k → List Copy → List Copy
 lands s cs = keep (λ c. not (stops s c)) cs
 
-abbrev pub rowsOf : {k : Marking} → LiveBy k → List Copy → List Row
+abbrev pub rowsOf : {k : Layout} → LiveBy k → List Copy → List Row
 rowsOf s cs = map (rowOf s) (lands s cs)
 
-abbrev pub dropsOf : {k : Marking} → LiveBy k → List Copy → ℕ
+abbrev pub dropsOf : {k : Layout} → LiveBy k → List Copy → ℕ
 dropsOf s cs = count (stops s) cs
 
 -- ---- The log
@@ -68,7 +68,7 @@ abbrev pub loggedAll : ℕ → Log → List Copy → Log
 loggedAll places l [] = l
 loggedAll places l (c ∷ cs) = loggedAll places (logged places l (c .delivery)) cs
 
-abbrev pub flushed : {k : Marking} → Opening → ℕ → LiveBy k → LiveBy k
+abbrev pub flushed : {k : Layout} → Opening → ℕ → LiveBy k → LiveBy k
 flushed o now s =
     let s₁ = withSeen s (clearing s (due now s) s.seen) in
     let s₂ = withWaiting s₁ s.sequence (later now s) in

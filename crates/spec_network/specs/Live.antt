@@ -15,7 +15,7 @@ use Rattle.table_rows.specs.Lists.{upTo}
 use Rattle.spec_network.specs.Lists.{count}
 use Rattle.table_rings.specs.Rings.{scopes}
 use Rattle.spec_network.specs.Opening.{Sizes, links}
-use Rattle.spec_network.specs.Marking.{Marking, plain, table, Marks, noMarks, stands, idsIn}
+use Rattle.spec_network.specs.Layout.{Layout, plain, table, Marks, Rings, noMarks, stands, idsIn, noRings, ringsIn}
 
 -- ---- Copies
 
@@ -72,11 +72,11 @@ withRules e x installed words = record { blocks = e .blocks; rules = x; installe
 
 -- ---- The live part
 
-pub record LiveBy (k : Marking) : Type 0 where
+pub record LiveBy (k : Layout) : Type 0 where
   pub tills : List Till
   pub seen : List (Marks k)  -- the marks of each till
   pub engine : Engine
-  pub rings : List (List Carried)  -- oldest first
+  pub rings : Rings k
   pub words : List ℕ  -- the word count of each link
   pub sequence : ℕ  -- the last one given
   pub waiting : List Copy  -- by time, then sequence
@@ -86,53 +86,53 @@ pub record LiveBy (k : Marking) : Type 0 where
 abbrev pub Live : Type 0
 Live = LiveBy table
 
-abbrev pub withTills : {k : Marking} → LiveBy k → List Till → LiveBy k
+abbrev pub withTills : {k : Layout} → LiveBy k → List Till → LiveBy k
 withTills s x = record { tills = x; seen = s .seen; engine = s .engine; rings = s .rings; words = s .words; sequence = s .sequence; waiting = s .waiting; log = s .log }
 
-abbrev pub withSeen : {k : Marking} → LiveBy k → List (Marks k) → LiveBy k
+abbrev pub withSeen : {k : Layout} → LiveBy k → List (Marks k) → LiveBy k
 withSeen s x = record { tills = s .tills; seen = x; engine = s .engine; rings = s .rings; words = s .words; sequence = s .sequence; waiting = s .waiting; log = s .log }
 
-abbrev pub withEngine : {k : Marking} → LiveBy k → Engine → LiveBy k
+abbrev pub withEngine : {k : Layout} → LiveBy k → Engine → LiveBy k
 withEngine s x = record { tills = s .tills; seen = s .seen; engine = x; rings = s .rings; words = s .words; sequence = s .sequence; waiting = s .waiting; log = s .log }
 
-abbrev pub withRings : {k : Marking} → LiveBy k → List (List Carried) → LiveBy k
+abbrev pub withRings : {k : Layout} → LiveBy k → Rings k → LiveBy k
 withRings s x = record { tills = s .tills; seen = s .seen; engine = s .engine; rings = x; words = s .words; sequence = s .sequence; waiting = s .waiting; log = s .log }
 
-abbrev pub withWords : {k : Marking} → LiveBy k → List ℕ → LiveBy k
+abbrev pub withWords : {k : Layout} → LiveBy k → List ℕ → LiveBy k
 withWords s x = record { tills = s .tills; seen = s .seen; engine = s .engine; rings = s .rings; words = x; sequence = s .sequence; waiting = s .waiting; log = s .log }
 
-abbrev pub withWaiting : {k : Marking} → LiveBy k → ℕ → List Copy → LiveBy k
+abbrev pub withWaiting : {k : Layout} → LiveBy k → ℕ → List Copy → LiveBy k
 withWaiting s n x = record { tills = s .tills; seen = s .seen; engine = s .engine; rings = s .rings; words = s .words; sequence = n; waiting = x; log = s .log }
 
-abbrev pub withLog : {k : Marking} → LiveBy k → Log → LiveBy k
+abbrev pub withLog : {k : Layout} → LiveBy k → Log → LiveBy k
 withLog s x = record { tills = s .tills; seen = s .seen; engine = s .engine; rings = s .rings; words = s .words; sequence = s .sequence; waiting = s .waiting; log = x }
 
--- ---- What the book holds of it: the marks plain
+-- ---- What the book holds of it: marks and rings plain
 
 abbrev pub plainly : Live → LiveBy plain
-plainly s = record { tills = s .tills; seen = map (idsIn table) (s .seen); engine = s .engine; rings = s .rings; words = s .words; sequence = s .sequence; waiting = s .waiting; log = s .log }
+plainly s = record { tills = s .tills; seen = map (idsIn table) (s .seen); engine = s .engine; rings = ringsIn (s .rings); words = s .words; sequence = s .sequence; waiting = s .waiting; log = s .log }
 
 -- ---- Readings
 
-abbrev pub idsAt : {k : Marking} → LiveBy k → ℕ → Marks k
+abbrev pub idsAt : {k : Layout} → LiveBy k → ℕ → Marks k
 idsAt {k} s t = getD s.seen t (noMarks k)
 
 -- does the mark (till, id) stand
-abbrev pub marked : {k : Marking} → LiveBy k → ℕ → ℕ → Bool
+abbrev pub marked : {k : Layout} → LiveBy k → ℕ → ℕ → Bool
 marked {k} s t i = stands k i (idsAt s t)
 
-abbrev pub tillAt : {k : Marking} → LiveBy k → ℕ → Till
+abbrev pub tillAt : {k : Layout} → LiveBy k → ℕ → Till
 tillAt s t = getD s.tills t downTill
 
-abbrev pub isUp : {k : Marking} → LiveBy k → ℕ → Bool
+abbrev pub isUp : {k : Layout} → LiveBy k → ℕ → Bool
 isUp s t = not (eqb (tillAt s t .up) 0)
 
 -- stopped by a block at that time, or by an end that is down now
-abbrev pub stopped : {k : Marking} → LiveBy k → ℕ → ℕ → ℕ → Bool
+abbrev pub stopped : {k : Layout} → LiveBy k → ℕ → ℕ → ℕ → Bool
 stopped s from to at = not (isUp s from) || not (isUp s to) || blocked from to at (s .engine .blocks)
 
 -- in transit to a till is the number of copies waiting for it
-abbrev pub inTransit : {k : Marking} → LiveBy k → ℕ → ℕ
+abbrev pub inTransit : {k : Layout} → LiveBy k → ℕ → ℕ
 inTransit s t = count (λ (c : Copy). eqb (c .delivery .to) t) s.waiting
 
 -- a ring for each type and scope
@@ -144,12 +144,12 @@ ringsOf z = z .types * scopes
 abbrev pub openTills : List ℕ → ℕ → List Till
 openTills masks n = upTo n (λ t. upTill (getD masks t 0))
 
-abbrev pub openingLive : (k : Marking) → Sizes → List ℕ → LiveBy k
+abbrev pub openingLive : (k : Layout) → Sizes → List ℕ → LiveBy k
 openingLive k z masks = record {
   tills = openTills masks (z .tills);
   seen = replicate (z .tills) (noMarks k);
   engine = record { blocks = []; rules = []; installed = 0; words = 0 };
-  rings = replicate (ringsOf z) [];
+  rings = noRings k (ringsOf z);
   words = replicate links 0;
   sequence = 0;
   waiting = [];

@@ -10,7 +10,7 @@ use Rattle.fault_rules.specs.Rules.{ruleSlots, mostRules}
 use Rattle.fault_blocks.specs.Blocks.{blockSlots}
 use Rattle.spec_network.specs.Lists.{within}
 use Rattle.spec_network.specs.Opening.{Opening, link, global, longestWire, latestNow, mostWords, lastNumber}
-use Rattle.spec_network.specs.Marking.{Marking, slotsOf}
+use Rattle.spec_network.specs.Layout.{Layout, slotsOf}
 use Rattle.spec_network.specs.Live.{LiveBy, marked, idsAt}
 use Rattle.spec_network.specs.Accept.{Entry, messageOf, selected}
 use Rattle.spec_network.specs.Flush.{due}
@@ -60,7 +60,7 @@ module _ (o : Opening) where
   abbrev pub fresh : ℕ → Bool
   fresh words = ltb words mostWords
 
-  module _ {k : Marking} (s : LiveBy k) (e : Entry) where
+  module _ {k : Layout} (s : LiveBy k) (e : Entry) where
     abbrev pub chosen : List ℕ
     chosen = selected o s (e .scope) (e .from)
 
@@ -85,10 +85,10 @@ module _ (o : Opening) where
     askRoom (pooled free) = ask 23 (leb (length (s .waiting) + 3 * length chosen) (o .sizes .waitSlots) && leb (length (s .waiting) + 3 * length chosen) free)
 
   -- 12: is a block place free? is a rule place free, and were fewer than 4,294,967,295 rules ever installed?
-  abbrev pub ask12block : {k : Marking} → LiveBy k → Asked
+  abbrev pub ask12block : {k : Layout} → LiveBy k → Asked
   ask12block s = ask 12 (ltb (length (s .engine .blocks)) blockSlots)
 
-  abbrev pub ask12rule : {k : Marking} → LiveBy k → Asked
+  abbrev pub ask12rule : {k : Layout} → LiveBy k → Asked
   ask12rule s = ask 12 (ltb (length (s .engine .rules)) ruleSlots && ltb (s .engine .installed) mostRules)
 
   -- an output that is shorter than the opening's size is answered 1
@@ -102,7 +102,7 @@ module _ (o : Opening) where
   askedReading (waitingCopies rows) = ask 1 (leb (o .sizes .waitSlots) rows) ∷ []
   askedReading (marksOf t places) = ask 1 (leb (o .sizes .seenSlots) places) ∷ ask4 t ∷ []
 
-  abbrev pub askedIn : {k : Marking} → Room → LiveBy k → Call → List Asked
+  abbrev pub askedIn : {k : Layout} → Room → LiveBy k → Call → List Asked
   askedIn room s (accept e true) = ask4 (e .from) ∷ ask5 e ∷ ask6 e ∷ ask7 (e .now) ∷ ask8 s e ∷ ask9 s e ∷ ask10 s e ∷ askRoom s e room ∷ []
   -- a payload marked as not opening is answered after question 7
   askedIn room s (accept e false) = ask4 (e .from) ∷ ask5 e ∷ ask6 e ∷ ask7 (e .now) ∷ []
@@ -120,5 +120,5 @@ module _ (o : Opening) where
   askedIn room s (reading r) = askedReading r
 
   -- a network with waiting slots of its own
-  abbrev pub asked : {k : Marking} → LiveBy k → Call → List Asked
+  abbrev pub asked : {k : Layout} → LiveBy k → Call → List Asked
   asked s c = askedIn alone s c

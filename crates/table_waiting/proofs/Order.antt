@@ -14,7 +14,7 @@ use Rattle.table_rows.proofs.Lists.{each-map}
 use Rattle.table_rows.proofs.Rows.{length-rows}
 use Rattle.table_rows.proofs.Table.{rows-over}
 use Rattle.table_waiting.specs.declared.Copy.{Copy}
-use Rattle.table_waiting.specs.Waiting.{width, read, form, copies, before, passes, insertCopy, onTime, Sorted}
+use Rattle.table_waiting.specs.Waiting.{width, read, form, copies, before, ordered, passes, insertCopy, onTime, Sorted}
 use Rattle.table_waiting.proofs.Reading.{exact}
 
 -- the order as facts on numbers
@@ -165,11 +165,7 @@ kept-insert q c (x ∷ w) = go (passes c (x ∷ w)) (kept-insert q c w)
         ∙ ap (λ (n : ℕ). cond (q c) 1 0 + n) (sym (size (q x) x (keep q w)))
     go false h = size (q c) c (keep q (x ∷ w)) ∙ front-one (q c) (length (keep q (x ∷ w)))
 
--- on copies in order the insertion is the usual one: before the first that c is before
-abbrev pub ordered : Copy → List Copy → List Copy
-ordered c [] = c ∷ []
-ordered c (x ∷ w) = cond (before c x) (c ∷ x ∷ w) (x ∷ ordered c w)
-
+-- on copies in order the insertion is the plain one
 pub insert-ordered : (c : Copy) (w : List Copy) → Sorted w → insertCopy c w ≡ ordered c w
 insert-ordered c [] h = refl
 insert-ordered c (x ∷ w) h = go (before c x) refl (passes c w) refl (insert-ordered c w (h .1))

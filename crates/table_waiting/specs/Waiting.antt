@@ -31,6 +31,11 @@ copies ws n = rowsOf form ws n
 unfoldable pub before : Copy → Copy → Bool
 before a b = ltb (a .delivery .time) (b .delivery .time) || (eqb (a .delivery .time) (b .delivery .time) && ltb (a .sequence) (b .sequence))
 
+-- plain insertion: c before the first copy that it is before
+abbrev pub ordered : Copy → List Copy → List Copy
+ordered c [] = c ∷ []
+ordered c (r ∷ rs) = cond (before c r) (c ∷ r ∷ rs) (r ∷ ordered c rs)
+
 -- some copy stands that c is not before
 abbrev pub passes : Copy → List Copy → Bool
 passes c [] = false
