@@ -58,8 +58,9 @@ struct GossipAccepted { uint64_t number, sent, deduplicated, partition, loss, fa
 struct GossipFlushed { uint64_t number, rows, delivered, dropped; };
 struct GossipMarks { uint64_t number, count; };
 struct GossipCopied { uint64_t number, copies; };
-/* forced: records given up since the last drain */
-struct GossipDrained { uint64_t number, records, forced; };
+struct GossipTally { uint64_t deliveries, bytes; };
+/* forced: records given up since the last drain; tallies: of each class, since then */
+struct GossipDrained { uint64_t number, records, forced; struct GossipTally tallies[8]; };
 struct GossipTallied { uint64_t number, deliveries, bytes; };
 /* the digest as 8 little-endian words */
 struct GossipHashed { uint32_t number; uint32_t words[8]; };
@@ -152,7 +153,7 @@ struct GossipValue gossip_next_time(const uint64_t *setup, size_t setup_n, const
 struct GossipCopied gossip_waiting(const uint64_t *setup, size_t setup_n, const uint64_t *net, size_t net_n,
     const uint64_t *waiting, size_t waiting_n, uint64_t *out, size_t out_n);
 
-/* Question 1. Records, oldest first, to the front of out, which has room for the log's capacity; the log is then empty. */
+/* Question 1. Records, oldest first, to the front of out, which has room for the log's capacity; log and tallies are then empty. */
 struct GossipDrained gossip_drain(const uint64_t *setup, size_t setup_n, uint64_t *log, size_t log_n, uint64_t *out,
     size_t out_n);
 

@@ -95,10 +95,18 @@ pub struct Flushed {
 
 #[repr(C)]
 #[derive(Clone, Copy, Debug)]
+pub struct Tally {
+    pub deliveries: u64,
+    pub bytes: u64,
+}
+
+#[repr(C)]
+#[derive(Clone, Copy, Debug)]
 pub struct Drained {
     pub number: u64,
     pub records: u64,
     pub forced: u64,
+    pub tallies: [Tally; 8],
 }
 
 #[repr(C)]

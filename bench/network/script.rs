@@ -129,11 +129,11 @@ fn flush(n: &mut Network, now: u64, rows: usize, o: &mut String) {
 }
 
 fn drain(n: &mut Network, o: &mut String) {
-    let tallies: Vec<String> = (0..8).map(|c| n.tally(c)).map(|t| format!("{}:{}", t.deliveries, t.bytes)).collect();
     let d = n.drain();
     if d.number != 0 {
         return done(o, "drain", d.number);
     }
+    let tallies: Vec<String> = d.tallies.iter().map(|t| format!("{}:{}", t.deliveries, t.bytes)).collect();
     let _ = writeln!(o, "drain records={} dropped={} tallies={}", d.records, d.forced, tallies.join(","));
     for r in n.out[..d.records as usize * RECORD].chunks(RECORD) {
         let _ = writeln!(o, "record {} {} {} {} {} {} {} {}", r[0], r[1], r[2], r[3], r[4], r[5], scope(r[6]), r[7]);

@@ -1,23 +1,23 @@
 -- The ways through drain and tally_of: the ladders of their questions, what a passed one says, and the calls by the network's definitions. Assumes nothing.
 use mathlib.Core.Path.{_≡_, refl, sym, ap, _∙_}
 use mathlib.Core.Bool.{Bool, true, false, cond}
-use mathlib.Core.List.{List, _++_}
+use mathlib.Core.List.{List, _++_, append-nil}
 use Prim.Native.Nat.{ℕ, _*_, _/_, _≤_, _<_}
 use native.Mathlib.Nat.{div-mul-le-self, mul-le-mul-right}
 use native.Mathlib.Omega.{arith}
 use lib.Dec.{leb, ltb}
-use lib.ListN.{length, getD, drop}
+use lib.ListN.{length, getD, take, drop, length-drop}
 use borrow.Author.Tests.{leb-true, le-leb, lt-leb, lt-ltb, le-ltb}
 use Rattle.table_rows.specs.Rows.{flat}
 use Rattle.table_rows.specs.Table.{over}
-use Rattle.table_rows.proofs.Table.{length-words}
+use Rattle.table_rows.proofs.Table.{length-words, flat-rows}
 use Rattle.table_ring.specs.Ring.{most, countAt, firstAt, slotAt}
 use Rattle.table_ring.proofs.Laws.{length-from}
 use Rattle.table_delivery.specs.Delivery as delivery
 use Rattle.table_delivery.proofs.Laws as delivery-laws
 use Rattle.table_log.specs.declared.Tally.{Tally}
-use Rattle.table_log.specs.Log.{recordsAt, forcedAt, sizeOf, recordsOf, soundLog, clearedAt, tallyAt}
-use Rattle.table_log.proofs.Writing.{log-sound}
+use Rattle.table_log.specs.Log.{classes, tallyWidth, forcedAt, talliesAt, recordsAt, sizeOf, tallyForm, recordsOf, talliesOf, soundLog, clearedAt, tallyAt}
+use Rattle.table_log.proofs.Writing.{log-sound, tally-exact}
 use Rattle.spec_network.specs.Calls.{tallied}
 use Rattle.spec_network.specs.Tables.{Tables, sizesAt, setupWidth}
 use Rattle.spec_network.specs.Writes.{Reply, outputOf, callReply}
@@ -28,7 +28,7 @@ use Rattle.ask_rows.proofs.Passed.{PassedLog, log-says}
 use Rattle.call_reply.proofs.Laws as reply
 use Rattle.call_log.specs.declared.Drained.{Drained}
 use Rattle.call_log.specs.declared.Tallied.{Tallied}
-use Rattle.call_log.specs.Call.{lend, drainedOf, talliedOf, drainCall, DoesDrain, tallyCall, DoesTally, logLent, drainNumber, tallyNumber, noDrain, noTallies}
+use Rattle.call_log.specs.Call.{lend, drainedOf, talliedOf, drainCall, DoesDrain, tallyCall, DoesTally, logLent, drainNumber, tallyNumber, noDrain, noTallies, tallyCells, noCells}
 
 -- ---- The ladders
 
@@ -90,6 +90,15 @@ module _ (s l : List ℕ) where
   unfolding tallyNumber
   tally-held class r p q = holds (two (logLent s l) (ltb class (sizesAt s .classes)) 5 r (λ z. omega arith) p q .0)
 
+-- ---- The tallies
+
+-- the cells before the records are the tallies, class by class
+pub cells-held : (l now : List ℕ) → recordsAt ≤ length l → now ≡ take (classes * tallyWidth) (drop talliesAt l) ++ drop (classes * tallyWidth) noCells → now ≡ tallyCells (talliesOf l)
+unfolding tallyCells
+cells-held l now h e =
+    let long : classes * tallyWidth ≤ length (drop talliesAt l) = simp length-drop (omega arith) in
+    e ∙ append-nil (take (classes * tallyWidth) (drop talliesAt l)) ∙ sym (flat-rows tallyForm tally-exact classes (drop talliesAt l) long)
+
 -- ---- The drain
 
 module _ (s l out : List ℕ) where
@@ -130,16 +139,16 @@ module _ (s l out : List ℕ) where
       many : length (recordsOf (sizesAt s .logSlots) l) ≡ countAt 0 l
       many = length-from (slotAt delivery.form (sizesAt s .logSlots) 0 recordsAt l) (sizesAt s .logSlots) (firstAt 0 l) 0 (countAt 0 l)
 
-      pub drain-done : (k f : ℕ) (l′ out′ : List ℕ) → f ≡ getD l forcedAt 0 → k ≡ cond (soundLog (sizesAt s .logSlots) l) (countAt 0 l) 0
+      pub drain-done : (k f : ℕ) (ts l′ out′ : List ℕ) → f ≡ getD l forcedAt 0 → ts ≡ tallyCells (talliesOf l) → k ≡ cond (soundLog (sizesAt s .logSlots) l) (countAt 0 l) 0
           → out′ ≡ cond (soundLog (sizesAt s .logSlots) l) (over delivery.form (recordsOf (sizesAt s .logSlots) l) out) out → l′ ≡ cond (soundLog (sizesAt s .logSlots) l) (clearedAt l) l
-          → DoesDrain s l l′ out out′ (record { number = 0; records = k; forced = f })
+          → DoesDrain s l l′ out out′ (record { number = 0; records = k; forced = f; tallies = ts })
       unfolding DoesDrain
-      drain-done k f l′ out′ ef ek eo el = λ T.
+      drain-done k f ts l′ out′ ef et ek eo el = λ T.
           let same = sym h ∙ q ∙ drain-number T in
           let told = reply.answered (lend T s l) (drainCall out) 0 same refl in
           let n : k ≡ length (recordsOf (sizesAt s .logSlots) l) = ek ∙ ap (λ (b : Bool). cond b (countAt 0 l) 0) sound ∙ sym many in
           let c : l′ ≡ clearedAt l = el ∙ ap (λ (b : Bool). cond b (clearedAt l) l) sound in (
-            (λ j. record { number = 0; records = n j; forced = ef j }) ∙ sym (ap drainedOf told),
+            (λ j. record { number = 0; records = n j; forced = ef j; tallies = et j }) ∙ sym (ap drainedOf told),
             reply.steps (lend T s l) (drainCall out) 0 same refl ∙ ap (lend T s) (sym c),
             eo ∙ ap (λ (b : Bool). cond b (over delivery.form (recordsOf (sizesAt s .logSlots) l) out) out) sound ∙ copied ∙ sym (ap (λ (a : Reply). outputOf (a .answer) ++ drop (length (outputOf (a .answer))) out) told),
           )

@@ -2,12 +2,13 @@
 use mathlib.Core.Path.{_≡_}
 use mathlib.Core.Bool.{Bool, true, cond, _&&_}
 use mathlib.Core.List.{List}
-use Prim.Native.Nat.{ℕ, _/_}
+use Prim.Native.Nat.{ℕ, _*_, _/_}
 use lib.Dec.{leb, ltb}
-use lib.ListN.{length}
+use lib.ListN.{length, replicate}
+use Rattle.table_rows.specs.Rows.{flat}
 use Rattle.table_delivery.specs.Delivery as delivery
 use Rattle.table_log.specs.declared.Tally.{Tally}
-use Rattle.table_log.specs.Log.{noTally}
+use Rattle.table_log.specs.Log.{noTally, tallyForm, classes, tallyWidth}
 use Rattle.spec_network.specs.Calls.{Call, drain, reading, tallyOf, Answer, silent, counted, moved, number, tallied, drained, copies, ids}
 use Rattle.spec_network.specs.Tables.{Tables, sizesAt}
 use Rattle.spec_network.specs.Writes.{Reply, callTables, callReply, callOutput}
@@ -41,6 +42,23 @@ forcedIn (tallied t) = 0
 forcedIn (copies cs) = 0
 forcedIn (ids is) = 0
 
+-- deliveries and bytes of each class, class by class
+unfoldable pub tallyCells : List Tally → List ℕ
+tallyCells ts = flat (tallyForm .words) ts
+
+abbrev pub noCells : List ℕ
+noCells = replicate (classes * tallyWidth) 0
+
+abbrev pub cellsIn : Answer → List ℕ
+cellsIn (drained l) = tallyCells (l .tallies)
+cellsIn silent = noCells
+cellsIn (counted n) = noCells
+cellsIn (moved rows delivered drops) = noCells
+cellsIn (number found value) = noCells
+cellsIn (tallied t) = noCells
+cellsIn (copies cs) = noCells
+cellsIn (ids is) = noCells
+
 abbrev pub tallyIn : Answer → Tally
 tallyIn (tallied t) = t
 tallyIn silent = noTally
@@ -52,7 +70,7 @@ tallyIn (copies cs) = noTally
 tallyIn (ids is) = noTally
 
 abbrev pub drainedOf : Reply → Drained
-drainedOf q = record { number = q .number; records = recordsIn (q .answer); forced = forcedIn (q .answer) }
+drainedOf q = record { number = q .number; records = recordsIn (q .answer); forced = forcedIn (q .answer); tallies = cellsIn (q .answer) }
 
 abbrev pub talliedOf : Reply → Tallied
 talliedOf q = record { number = q .number; deliveries = tallyIn (q .answer) .deliveries; bytes = tallyIn (q .answer) .bytes }
@@ -88,7 +106,7 @@ unfoldable pub tallyNumber : (setup log : List ℕ) (class : ℕ) → ℕ
 tallyNumber s l class = cond (logLent s l) (cond (ltb class (sizesAt s .classes)) 0 5) 1
 
 abbrev pub noDrain : ℕ → Drained
-noDrain n = record { number = n; records = 0; forced = 0 }
+noDrain n = record { number = n; records = 0; forced = 0; tallies = noCells }
 
 abbrev pub noTallies : ℕ → Tallied
 noTallies n = record { number = n; deliveries = 0; bytes = 0 }

@@ -1,13 +1,24 @@
 // The log's calls on the network's tables: drain, and the tally of a class.
 ghost use mathlib.Core.Path.{_≡_};
-ghost use Rattle.call_log.specs.Call.{DoesDrain, DoesTally, logLent, drainNumber, tallyNumber, noDrain, noTallies};
+ghost use Prim.Native.Nat.{_≤_};
+ghost use lib.ListN.{length};
+ghost use Rattle.table_log.specs.Log.{recordsAt, talliesOf};
+ghost use Rattle.call_log.specs.Call.{DoesDrain, DoesTally, logLent, drainNumber, tallyNumber, noDrain, noTallies, tallyCells};
 
-// The number of the question that refused the call, or 0; how many records were copied out, and how many the capacity had forced out.
+// Deliveries and bytes of each of the eight classes.
+pub const TALLY_CELLS: usize = 16;
+
+// Where they stand in the log: before the records.
+const TALLIES: usize = table_log::RECORDS - TALLY_CELLS;
+
+// The number of the question that refused the call, or 0; how many records were copied out, how many the capacity had forced out, and
+// the tallies: deliveries and bytes of class 0, of class 1, and so on.
 #[repr(C)]
 pub struct Drained {
     pub number: u64,
     pub records: u64,
     pub forced: u64,
+    pub tallies: [u64; TALLY_CELLS],
 }
 
 // Deliveries and bytes of a class.
@@ -61,7 +72,18 @@ fn refused(number: u64) -> Drained
         number,
         records: 0,
         forced: 0,
+        tallies: [0; TALLY_CELLS],
     }
+}
+
+// Deliveries and bytes of each class, as the log holds them.
+fn tallies(log: &[u64]) -> [u64; TALLY_CELLS]
+    requires { ⌜ recordsAt ≤ length (now log) ⌝ }
+    ensures { λ r. ⌜ r ≡ tallyCells (talliesOf (now (log .entry))) ⌝ }
+{
+    let mut v = [0u64; TALLY_CELLS];
+    ask_tables::copy_front(log, TALLIES, TALLY_CELLS, &mut v);
+    v
 }
 
 fn untold(number: u64) -> Tallied
@@ -74,7 +96,7 @@ fn untold(number: u64) -> Tallied
     }
 }
 
-// The records, oldest first, to the front of out; then the log is empty.
+// The records, oldest first, to the front of out, and the tallies; then the log is empty.
 pub fn drain(setup: &[u64], log: &mut [u64], out: &mut [u64]) -> Drained
     ensures { λ r. ⌜ DoesDrain (now (setup .entry)) (now (log .entry)) (now (log .exit)) (now (out .entry)) (now (out .exit)) r ⌝ }
 {
@@ -83,11 +105,13 @@ pub fn drain(setup: &[u64], log: &mut [u64], out: &mut [u64]) -> Drained
         return refused(number);
     }
     let forced = table_log::forced(log);
+    let tallies = tallies(log);
     let records = table_log::drain(log, setup[ask_tables::LOG_SLOTS] as usize, out);
     Drained {
         number: 0,
         records,
         forced,
+        tallies,
     }
 }
 

@@ -145,20 +145,8 @@ pub fn flush(
     )
 }
 
-// Deliveries and bytes of the eight classes.
-fn tallies(setup: &[u64], log: &[u64]) -> [u64; 16] {
-    let mut v = [0u64; 16];
-    let mut i: usize = 0;
-    while i < 8 {
-        let t = call_log::tally_of(setup, log, i as u64);
-        v[2 * i] = t.deliveries;
-        v[2 * i + 1] = t.bytes;
-        i += 1;
-    }
-    v
-}
-
-fn tally(text: &mut [u8], used: usize, v: [u64; 16], i: usize) -> usize {
+// Deliveries and bytes of a class, after a comma where another stands before it.
+fn tally(text: &mut [u8], used: usize, v: [u64; call_log::TALLY_CELLS], i: usize) -> usize {
     if 8 <= i {
         return used;
     }
@@ -172,7 +160,8 @@ fn tally(text: &mut [u8], used: usize, v: [u64; 16], i: usize) -> usize {
     sim_answers::labelled(text, b, b":", bytes)
 }
 
-fn tally_list(text: &mut [u8], used: usize, v: [u64; 16]) -> usize {
+// Deliveries and bytes of every class.
+fn tally_list(text: &mut [u8], used: usize, v: [u64; call_log::TALLY_CELLS]) -> usize {
     let mut u = used;
     let mut i: usize = 0;
     while i < 8 {
@@ -182,10 +171,12 @@ fn tally_list(text: &mut [u8], used: usize, v: [u64; 16]) -> usize {
     u
 }
 
-fn drained(text: &mut [u8], used: usize, d: Drained, v: [u64; 16], out: &[u64]) -> Outcome {
+// What a drain answered: its counts, the tallies, the records.
+fn drained(text: &mut [u8], used: usize, d: Drained, out: &[u64]) -> Outcome {
     let a = sim_answers::labelled(text, used, b"drain records=", d.records);
     let b = sim_answers::labelled(text, a, b" dropped=", d.forced);
     let c = sim_answers::say(text, b, b" tallies=");
+    let v = d.tallies;
     let e = tally_list(text, c, v);
     let f = sim_answers::say(text, e, b"\n");
     let g = sim_answers::records(text, f, out, d.records as usize);
@@ -204,10 +195,9 @@ pub fn drain(
     text: &mut [u8],
     used: usize,
 ) -> Outcome {
-    let v = tallies(setup, log);
     let d = call_log::drain(setup, log, out);
     if d.number != 0 {
         return done(text, used, b"drain", d.number);
     }
-    drained(text, used, d, v, out)
+    drained(text, used, d, out)
 }
