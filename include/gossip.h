@@ -49,7 +49,7 @@ struct GossipNetworkSizes { uint64_t tills, types, classes, shards, seen, waitin
 /* planned 0: no regions */
 struct GossipRegionPlan { uint64_t planned, regions, seed; };
 /* elements of each table */
-struct GossipTableSizes { uint64_t setup, net, names, tills, words, keys, prices, seen, waiting, rings, rules, blocks, log; };
+struct GossipTableSizes { uint64_t number, setup, net, names, tills, words, keys, prices, seen, waiting, rings, rules, blocks, log; };
 struct GossipDone { uint64_t number; };
 /* found 0: there is none */
 struct GossipValue { uint64_t number, found, value; };
@@ -65,7 +65,7 @@ struct GossipTallied { uint64_t number, deliveries, bytes; };
 /* the digest as 8 little-endian words */
 struct GossipHashed { uint32_t number; uint32_t words[8]; };
 
-/* The length of each table for an opening; zeros where its sizes are beyond the limits. */
+/* Question 2, of the sizes and the regions. The length of each table for an opening. */
 struct GossipTableSizes gossip_table_sizes(struct GossipNetworkSizes sizes, struct GossipRegionPlan plan);
 
 /* Questions 1, 2, 3, 5. Key: the fault stream's 32 bytes; masks: hosted shards of each till. Writes setup, net, tills, words, keys, prices, seen, rings, log. */

@@ -36,6 +36,7 @@ pub struct RegionPlan {
 #[repr(C)]
 #[derive(Clone, Copy, Debug)]
 pub struct TableSizes {
+    pub number: u64,
     pub setup: u64,
     pub net: u64,
     pub names: u64,
@@ -221,6 +222,9 @@ impl Network {
             log: o.log,
         };
         let n = unsafe { gossip_table_sizes(sizes, o.plan) };
+        if n.number != 0 {
+            return Err(n.number);
+        }
         let vec = |len: u64| vec![0x5555_5555_5555_5555u64; len as usize];
         let mut names = vec![0u8; n.names as usize];
         for (i, text) in o.types.iter().enumerate() {

@@ -38,12 +38,13 @@ module _ (p : RegionPlan) (tills : ℕ) where
       ∙ sym (ap (λ (b : Bool). cond b 0 (linkWidth * (atLeastOne (p .regions) * atLeastOne (p .regions)) + tills)) (ne-eqb (p .planned) 0 h))
 
 module _ (z : NetworkSizes) (p : RegionPlan) where
-  pub refused : every (sizeTests (sized z p)) ≡ false → noSizes ≡ tableSizes (sized z p)
+  pub refused : (r : TableSizes) → r ≡ noSizes → every (sizeTests (sized z p)) ≡ false → r ≡ tableSizes (sized z p)
   unfolding tableSizes
-  refused h = sym (ap (λ (b : Bool). cond b (asSizes (lengthsOf (sized z p))) noSizes) h)
+  refused r e h = e ∙ sym (ap (λ (b : Bool). cond b (asSizes (lengthsOf (sized z p))) noSizes) h)
 
   abbrev worked : ℕ → ℕ → TableSizes
   worked prices rings = record {
+    number = 0;
     setup = setupWidth;
     net = netWidth;
     names = namesWidth;

@@ -12,7 +12,7 @@ use Rattle.spec_network.specs.Tables.{Tables}
 use Rattle.spec_network.specs.Limits.{sizeTests, rangeTests}
 use Rattle.spec_network.specs.Real.{keyWidth}
 use Rattle.spec_network.specs.Open.{Lengths, lengthsOf, openNumber}
-use Rattle.ask_opening.specs.declared.TableSizes.{TableSizes}
+use Rattle.ask_opening.specs.declared.TableLengths.{TableLengths}
 use Rattle.ask_opening.specs.Asked.{tableTests, givenTests, limitTests, numberOf}
 use Rattle.ask_opening.proofs.Ladder.{all-pass, passed-parts}
 use Rattle.ask_tables.proofs.Ladder.{under}
@@ -43,7 +43,7 @@ limited x h =
     }
 
 -- tables of the opening's lengths
-pub record Held (m : Lengths) (n : TableSizes) : Type 0 where
+pub record Held (m : Lengths) (n : TableLengths) : Type 0 where
   pub setup : n .setup ≡ m .setup
   pub net : n .net ≡ m .net
   pub names : n .names ≡ m .names
@@ -58,7 +58,7 @@ pub record Held (m : Lengths) (n : TableSizes) : Type 0 where
   pub blocks : n .blocks ≡ m .blocks
   pub log : n .log ≡ m .log
 
-pub held : (m : Lengths) (n : TableSizes) → every (tableTests m n) ≡ true → Held m n
+pub held : (m : Lengths) (n : TableLengths) → every (tableTests m n) ≡ true → Held m n
 held m n h =
     let e = all-pass (tableTests m n) h in
     record {
@@ -78,14 +78,14 @@ held m n h =
     }
 
 -- an opening that no question refuses
-pub record Passed (x : Settings) (n : TableSizes) (masks : List ℕ) : Type 0 where
+pub record Passed (x : Settings) (n : TableLengths) (masks : List ℕ) : Type 0 where
   pub tables : Held (lengthsOf x) n
   pub key : length (x .faultKey) ≡ keyWidth
   pub given : length masks ≡ x .sizes .tills
   pub sizes : Limited x
   pub rates : every (rangeTests (x .config)) ≡ true
 
-pub passed : (x : Settings) (n : TableSizes) (masks names : List ℕ) → numberOf x n masks names ≡ 0 → Passed x n masks
+pub passed : (x : Settings) (n : TableLengths) (masks names : List ℕ) → numberOf x n masks names ≡ 0 → Passed x n masks
 unfolding numberOf
 passed x n masks names h =
     let a = under _ _ 0 h in
@@ -97,7 +97,7 @@ passed x n masks names h =
     record { tables = held (lengthsOf x) n (l .0); key = eqb-true _ _ (g .0); given = eqb-true _ _ (g .1 .0); sizes = limited x (z .0); rates = c .0 }
 
 -- the lengths that tables have
-abbrev pub lengthsIn : Tables → TableSizes
+abbrev pub lengthsIn : Tables → TableLengths
 lengthsIn T = record {
   setup = length (T .setup);
   net = length (T .net);

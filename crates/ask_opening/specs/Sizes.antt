@@ -1,4 +1,4 @@
--- Document 01, question 1 (the opening's sizes): how long the tables of an opening are, for a caller that lends them: zeros where the sizes are not within limits.
+-- Document 01, questions 1 and 2 (the opening's sizes): how long the tables of an opening are, for a caller that lends them. Sizes beyond the limits answer 2, and zeros.
 use mathlib.Core.Bool.{cond}
 use Rattle.spec_network.specs.Lists.{every}
 use Rattle.spec_network.specs.Opening.{Settings}
@@ -8,6 +8,7 @@ use Rattle.ask_opening.specs.declared.TableSizes.{TableSizes}
 
 abbrev pub asSizes : Lengths → TableSizes
 asSizes m = record {
+  number = 0;
   setup = m .setup;
   net = m .net;
   names = m .names;
@@ -24,7 +25,7 @@ asSizes m = record {
 }
 
 abbrev pub noSizes : TableSizes
-noSizes = record { setup = 0; net = 0; names = 0; tills = 0; words = 0; keys = 0; prices = 0; seen = 0; waiting = 0; rings = 0; rules = 0; blocks = 0; log = 0 }
+noSizes = record { number = 2; setup = 0; net = 0; names = 0; tills = 0; words = 0; keys = 0; prices = 0; seen = 0; waiting = 0; rings = 0; rules = 0; blocks = 0; log = 0 }
 
 unfoldable pub tableSizes : Settings → TableSizes
 tableSizes x = cond (every (sizeTests x)) (asSizes (lengthsOf x)) noSizes

@@ -6,7 +6,7 @@ ghost use Rattle.ask_opening.specs.Given.{sized, keyWords};
 ghost use Rattle.ask_opening.specs.Asked.{frontTests, backTests, tableTests, givenTests, fitsPrices};
 use crate::NetworkSizes;
 use crate::RegionPlan;
-use crate::TableSizes;
+use crate::TableLengths;
 use ask_opening_parts::is_sum;
 
 // Bytes of the fault stream's key.
@@ -35,7 +35,7 @@ fn prices_fit(n: u64, plan: RegionPlan, tills: u64) -> bool
 }
 
 // The lengths of the tables from `setup` to `prices`.
-fn front_fit(sizes: NetworkSizes, plan: RegionPlan, n: TableSizes) -> bool
+fn front_fit(sizes: NetworkSizes, plan: RegionPlan, n: TableLengths) -> bool
     ensures { λ r. ⌜ r ≡ every (frontTests (lengthsOf (sized sizes plan)) n) ⌝ }
 {
     if n.setup != ask_tables::SETUP_WIDTH as u64 {
@@ -60,7 +60,7 @@ fn front_fit(sizes: NetworkSizes, plan: RegionPlan, n: TableSizes) -> bool
 }
 
 // And from `seen` to `log`.
-fn back_fit(sizes: NetworkSizes, plan: RegionPlan, n: TableSizes) -> bool
+fn back_fit(sizes: NetworkSizes, plan: RegionPlan, n: TableLengths) -> bool
     ensures { λ r. ⌜ r ≡ every (backTests (lengthsOf (sized sizes plan)) n) ⌝ }
 {
     if !is_sum(n.seen, sizes.tills, 1, sizes.tills, sizes.seen) {
@@ -88,7 +88,7 @@ fn back_fit(sizes: NetworkSizes, plan: RegionPlan, n: TableSizes) -> bool
 }
 
 // The tables' lengths.
-pub fn tables_fit(sizes: NetworkSizes, plan: RegionPlan, n: TableSizes) -> bool
+pub fn tables_fit(sizes: NetworkSizes, plan: RegionPlan, n: TableLengths) -> bool
     ensures { λ r. ⌜ r ≡ every (tableTests (lengthsOf (sized sizes plan)) n) ⌝ }
 {
     if !front_fit(sizes, plan, n) {

@@ -45,9 +45,27 @@ pub struct RegionPlan {
     pub seed: u64,
 }
 
-// How many elements each lent table has.
+// How many elements each table has that is lent.
+pub struct TableLengths {
+    pub setup: u64,
+    pub net: u64,
+    pub names: u64,
+    pub tills: u64,
+    pub words: u64,
+    pub keys: u64,
+    pub prices: u64,
+    pub seen: u64,
+    pub waiting: u64,
+    pub rings: u64,
+    pub rules: u64,
+    pub blocks: u64,
+    pub log: u64,
+}
+
+// The number of the question that refused the sizes, or 0; how many elements each table has that an opening wants lent.
 #[repr(C)]
 pub struct TableSizes {
+    pub number: u64,
     pub setup: u64,
     pub net: u64,
     pub names: u64,
@@ -111,7 +129,7 @@ pub fn refusal(
     config: NetworkConfig,
     sizes: NetworkSizes,
     plan: RegionPlan,
-    lengths: TableSizes,
+    lengths: TableLengths,
     key: &[u8],
     masks: &[u64],
     names: &[u8],

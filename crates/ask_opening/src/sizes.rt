@@ -1,11 +1,11 @@
-// The lengths of an opening's tables, for a caller that lends them.
+// The lengths of an opening's tables, for a caller that lends them, with question 2 of the sizes.
 ghost use mathlib.Core.Path.{_≡_};
 ghost use Prim.Native.Nat.{_≤_};
 ghost use Rattle.link_geography.specs.Geography.{mostRegions};
 ghost use Rattle.spec_network.specs.Opening.{mostTills};
 ghost use Rattle.spec_network.specs.Real.{pricesWidth};
 ghost use Rattle.ask_opening.specs.Given.{sized, planOf};
-ghost use Rattle.ask_opening.specs.Sizes.{tableSizes};
+ghost use Rattle.ask_opening.specs.Sizes.{tableSizes, noSizes};
 use crate::NetworkSizes;
 use crate::RegionPlan;
 use crate::TableSizes;
@@ -26,29 +26,38 @@ fn prices_length(plan: RegionPlan, tills: u64) -> u64
     ask_rows::LINK_WIDTH as u64 * (plan.regions * plan.regions) + tills
 }
 
-// Zeros where the sizes are not within limits.
+// Sizes beyond the limits: number 2, and no table has an element.
+fn beyond() -> TableSizes
+    ensures { λ r. ⌜ r ≡ noSizes ⌝ }
+{
+    TableSizes {
+        number: 2,
+        setup: 0,
+        net: 0,
+        names: 0,
+        tills: 0,
+        words: 0,
+        keys: 0,
+        prices: 0,
+        seen: 0,
+        waiting: 0,
+        rings: 0,
+        rules: 0,
+        blocks: 0,
+        log: 0,
+    }
+}
+
+// How long the tables of an opening are.
 pub fn table_sizes(sizes: NetworkSizes, plan: RegionPlan) -> TableSizes
     ensures { λ r. ⌜ r ≡ tableSizes (sized sizes plan) ⌝ }
 {
     if !limits::sizes_admitted(sizes, plan) {
-        return TableSizes {
-            setup: 0,
-            net: 0,
-            names: 0,
-            tills: 0,
-            words: 0,
-            keys: 0,
-            prices: 0,
-            seen: 0,
-            waiting: 0,
-            rings: 0,
-            rules: 0,
-            blocks: 0,
-            log: 0,
-        };
+        return beyond();
     }
     let tills = sizes.tills;
     TableSizes {
+        number: 0,
         setup: ask_tables::SETUP_WIDTH as u64,
         net: ask_tables::NET_WIDTH as u64,
         names: ask_rows::NAMES_WIDTH as u64,

@@ -14,7 +14,7 @@ use Rattle.spec_network.specs.Open.{openNumber, openExit}
 use Rattle.ask_opening.specs.declared.NetworkConfig.{NetworkConfig}
 use Rattle.ask_opening.specs.declared.NetworkSizes.{NetworkSizes}
 use Rattle.ask_opening.specs.declared.RegionPlan.{RegionPlan}
-use Rattle.ask_opening.specs.declared.TableSizes.{TableSizes}
+use Rattle.ask_opening.specs.declared.TableLengths.{TableLengths}
 use Rattle.ask_opening.specs.Given.{settingsOf, keyWords, keyBytes}
 use Rattle.ask_opening.specs.Asked.{numberOf}
 use Rattle.ask_opening.proofs.Number.{Passed, passed, lengthsIn, number-is}
@@ -23,7 +23,7 @@ use Rattle.ask_tables.specs.Lending.{tablesOf}
 use Rattle.call_open.specs.Opens.{openedOf, Does, Settled, Begun, begunNet, begunTills, begunSeen, begunRings, begunLog}
 
 -- the questions do not ask the seed
-seedless : (c : NetworkConfig) (z : NetworkSizes) (p : RegionPlan) (seed : ℕ) (key masks names : List ℕ) (n : TableSizes) → numberOf (settingsOf c z p 0 key) n masks names ≡ numberOf (settingsOf c z p seed key) n masks names
+seedless : (c : NetworkConfig) (z : NetworkSizes) (p : RegionPlan) (seed : ℕ) (key masks names : List ℕ) (n : TableLengths) → numberOf (settingsOf c z p 0 key) n masks names ≡ numberOf (settingsOf c z p seed key) n masks names
 unfolding numberOf
 seedless c z p seed key masks names n = refl
 

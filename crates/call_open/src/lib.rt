@@ -10,7 +10,7 @@ ghost use Rattle.call_open.specs.Opens.{Does, Settled, Begun, begunNet, 
 use ask_opening::NetworkConfig;
 use ask_opening::NetworkSizes;
 use ask_opening::RegionPlan;
-use ask_opening::TableSizes;
+use ask_opening::TableLengths;
 use call_open_writes::fill;
 use call_open_writes::links;
 use call_open_writes::prices;
@@ -88,7 +88,7 @@ pub fn open_network(
         (tablesOf (now (setup .exit)) (now (net .exit)) (now (names .entry)) (now (tills .exit)) (now (words .exit)) (now (keys .exit)) (now (prices .exit)) (now (seen .exit)) (now (waiting .entry)) (now (rings .exit)) (now (rules .entry)) (now (blocks .entry)) (now (log .exit)))
         r ⌝ }
 {
-    let lengths = TableSizes {
+    let lengths = TableLengths {
         setup: setup.len() as u64,
         net: net.len() as u64,
         names: names.len() as u64,

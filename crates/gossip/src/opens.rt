@@ -62,7 +62,7 @@ pub extern "C" fn gossip_open(
     )
 }
 
-// How many elements each lent table has for an opening; zeros where its sizes are beyond the limits.
+// How many elements each lent table has for an opening; 2, and zeros, where its sizes are beyond the limits.
 #[no_mangle]
 pub extern "C" fn gossip_table_sizes(sizes: NetworkSizes, plan: RegionPlan) -> TableSizes
     ensures { λ r. ⌜ r ≡ tableSizes (sized sizes plan) ⌝ }

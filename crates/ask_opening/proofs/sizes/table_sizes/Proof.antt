@@ -11,8 +11,11 @@ use Rattle.ask_opening.proofs.sizes.table_sizes.Tie as tie
 sizes-admitted-requires : tie.Need-sizes-admitted-requires
 sizes-admitted-requires c κs = search needs
 
+beyond-requires : tie.Need-beyond-requires
+beyond-requires c κs = search needs
+
 returns : tie.Need-returns
-returns c = refused (c .before .before .args .sizes) (c .before .before .args .plan) (sym (c .before .sizes-admitted .ensures) ∙ not-true _ (c .if1 .taken))
+returns c = refused (c .before .before .before .args .sizes) (c .before .before .before .args .plan) _ (c .beyond .ensures) (sym (c .before .before .sizes-admitted .ensures) ∙ not-true _ (c .before .if1 .taken))
 
 mul-t10 : tie.Need-mul-t10
 mul-t10 c = let l = limited (sized (c .before .before .args .sizes) (c .before .before .args .plan)) (sym (c .before .sizes-admitted .ensures) ∙ not-false _ (c .if1 .left)) in record { fits = omega (arith, l .tills) }
@@ -58,6 +61,7 @@ table-sizes-spec =
     tie.close
     (tie.spec
     sizes-admitted-requires
+    beyond-requires
     returns
     mul-t10
     mul-t12
