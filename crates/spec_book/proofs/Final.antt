@@ -151,7 +151,7 @@ module _ (o : Opening) where
   reopen-kept X y ms zero h = absurd (h refl)
   reopen-kept X y ms (suc n) h = refl
 
-  kept : (T : Tables) (i : Item) → Admitted i → Kept T i
+  pub kept : (T : Tables) (i : Item) → Admitted i → Kept T i
   kept T (own room c) a = λ r. call-kept (openingAt T) T c (isNumber (numberIn (openingAt T) room T c)) r
   kept T (others X c) a = call-kept (openingAt X) X c (isNumber (numberIn (openingAt X) alone X c)) (rw a)
   kept T (reopen X y ms) a = reopen-kept X y ms (openNumber y ms X) a

@@ -59,6 +59,10 @@ abbrev pub tablesAtEnd : Tables → List Item → Tables
 tablesAtEnd T [] = T
 tablesAtEnd T (i ∷ is) = tablesAtEnd (tablesAfter T i) is
 
+abbrev pub repliesTo : Tables → List Item → List Reply
+repliesTo T [] = []
+repliesTo T (i ∷ is) = replyTo T i ∷ repliesTo (tablesAfter T i) is
+
 abbrev pub refused : Tables → Item → Bool
 refused T i = isNumber (replyTo T i .number)
 

@@ -23,14 +23,14 @@ use Rattle.spec_network.specs.Real.{openingOf}
 use Rattle.spec_network.specs.Open.{lentTests, limitTests, openNumber, openTables}
 use Rattle.spec_network.specs.Writes.{isNumber, numberIn}
 use Rattle.spec_book.specs.Book.{Book, bookStep}
-use Rattle.spec_book.specs.Demand3.{Item, own, others, reopen, Admitted, AllAdmitted, replyTo, tablesAfter, tablesAtEnd, bookAfter, CallHolds}
+use Rattle.spec_book.specs.Demand3.{Item, own, others, reopen, Admitted, AllAdmitted, replyTo, repliesTo, tablesAfter, tablesAtEnd, bookAfter, CallHolds}
 use Rattle.spec_book.proofs.Each.{all-each, every-each, both}
 use Rattle.spec_book.proofs.Held.{Held}
 use Rattle.spec_book.proofs.Drawing.{by}
 use Rattle.spec_book.proofs.Asking.{all-yes}
 use Rattle.spec_book.proofs.Final.{Bears, number-is, held-after, call-holds, open-bears, demand3}
 use Rattle.spec_chains.specs.Pool.{sumBelow, othersBelow, takes, Bench, limit, freeFor, mostChains, poolTests, askedBench, benchNumber, chainOpening, chainOpened}
-use Rattle.spec_chains.specs.Chains.{Act, placed, counted, inBooks, roomFor, itemOf, tablesNext, booksNext, tablesLast, booksLast, listOf, ownList, repliesOf, AdmittedActs, ActHolds, ActsHold, openedBooks, BenchHolds, Inside, AllInside, repliesTo}
+use Rattle.spec_chains.specs.Chains.{Act, placed, counted, inBooks, roomFor, itemOf, tablesNext, booksNext, tablesLast, booksLast, listOf, ownList, repliesOf, AdmittedActs, ActHolds, ActsHold, openedBooks, BenchHolds, Inside, AllInside}
 use Rattle.spec_chains.proofs.Sums.{one-and-others, others-same, others-each, sum-each}
 use Rattle.spec_chains.proofs.Rooms.{item-alone, book-few}
 

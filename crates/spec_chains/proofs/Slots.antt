@@ -24,14 +24,14 @@ use Rattle.spec_network.specs.Calls.{Call, Answer}
 use Rattle.spec_network.specs.Tables.{cell, Tables, live, waitingAt}
 use Rattle.spec_network.specs.Writes.{Reply, isNumber, answerT, roomReply, setWaiting}
 use Rattle.spec_book.specs.Book.{Book, bookStep, expected}
-use Rattle.spec_book.specs.Demand3.{Item, own, others, reopen, Admitted, replyTo, tablesAfter, bookAfter, CallHolds}
+use Rattle.spec_book.specs.Demand3.{Item, own, others, reopen, Admitted, replyTo, repliesTo, tablesAfter, bookAfter, CallHolds}
 use Rattle.spec_book.proofs.Formed.{formed-waiting}
 use Rattle.spec_book.proofs.Sound.{SoundBook, opened-sound}
 use Rattle.spec_book.proofs.Held.{Held}
 use Rattle.spec_book.proofs.Drawing.{by}
 use Rattle.spec_book.proofs.Final.{Bears, reply-is, number-is, answer-is, held-after, call-holds, after-sound, book-holds, open-bears}
 use Rattle.spec_chains.specs.Pool.{sumBelow, othersBelow, takes, Bench, limit, freeFor, mostChains, chainOpening, chainOpened}
-use Rattle.spec_chains.specs.Chains.{placed, put, inBooks, openedBooks, Inside, AllInside, repliesTo}
+use Rattle.spec_chains.specs.Chains.{placed, put, inBooks, openedBooks, Inside, AllInside}
 use Rattle.spec_chains.specs.Slots.{ledgerWidth, shareAt, countAt, counts, freeIn, ofChain, openLedger, ownMoves, poolReplies, joined, copiesIn, Stand, Move, poolOf, brought, itemHere, worked, standNext, booksAlong, standLast, booksThen, AdmittedMoves, MoveHolds, MovesHold, openStand, PoolHolds}
 use Rattle.spec_chains.proofs.Sums.{one-and-others, others-same, others-each, sum-each}
 use Rattle.spec_chains.proofs.Rooms.{item-alone}

@@ -127,7 +127,3 @@ Inside o share T (reopen X y ms) = Unit {0}
 abbrev pub AllInside : Opening → (share : ℕ) → Tables → List Item → Type 0
 AllInside o share T [] = Unit {0}
 AllInside o share T (i ∷ is) = Inside o share T i × AllInside o share (tablesAfter T i) is
-
-abbrev pub repliesTo : Tables → List Item → List Reply
-repliesTo T [] = []
-repliesTo T (i ∷ is) = replyTo T i ∷ repliesTo (tablesAfter T i) is
