@@ -165,8 +165,7 @@ struct GossipTallied gossip_tally(const uint64_t *setup, size_t setup_n, const u
 struct GossipHashed gossip_digest(const uint8_t *input, size_t input_n);
 
 /* A stream of the caller's own, as 8 little-endian key words and the number of words that it has given. The next 64-bit draw, low
- * word first; the count goes up by 2. From 2^62 words on a stream stands still and gives 0. No call of the network: it stands in
- * target/staticlib/librand_stream.a, which `rt staticlib rand_stream` makes. */
+ * word first; the count goes up by 2. From 2^62 words on a stream stands still and gives 0. No call of the network. */
 struct GossipStream { uint32_t key[8]; uint64_t count; };
 uint64_t gossip_next_u64(struct GossipStream *stream);
 

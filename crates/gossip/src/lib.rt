@@ -4,4 +4,5 @@ mod engine;
 mod flushing;
 mod opens;
 mod readings;
+mod streams;
 mod tills;

@@ -1,4 +1,4 @@
--- `stream::gossip_next_u64` meets its contract: a walk of its MIR, by hand. The borrow is opened, the key and the count are read, `step_at` is called (of which the proof knows only that it meets its contract),
+-- `gossip::streams::gossip_next_u64` meets its contract: a walk of its MIR, by hand. The borrow is opened, the key and the count are read, `step_at` is called (of which the proof knows only that it meets its contract),
 -- the count that it returned is stored, and the borrow is closed at the record with the new count and the key as it was.
 -- Assumes nothing.
 use mathlib.Core.Path.{_≡_, refl, ap, _∙_}
@@ -45,15 +45,15 @@ use Rattle.rand_streams.proofs.Step as S
 use Rattle.rand_streams.proofs.Step.Laws as S′
 use Rattle.rand_streams.proofs.step_at as step-at
 use Rattle.rand_streams.proofs.step_at.Symbol as step-at-def
-use Rattle.rand_streams.proofs.step_at.Symbol.{name as #streams·step-at}
+use Rattle.rand_streams.proofs.step_at.Symbol.{name as #rand-streams·step-at}
 use Rattle.rand_streams.proofs.step_at.Met as step-at-thm
-use Rattle.rand_stream.specs.declared.Stream.{Stream}
-use Rattle.rand_stream.proofs.Stream as T
-use Rattle.rand_stream.proofs.Stream.Laws as T′
-use Rattle.rand_stream.proofs.gossip_next_u64.Key.{name as #stream·gossip-next-u64}
-use Rattle.rand_stream.proofs.gossip_next_u64 as f
-use Rattle.rand_stream.proofs.gossip_next_u64.Statement as stated
-use Rattle.rand_stream.proofs.gossip_next_u64.Code as code
+use Rattle.gossip.specs.declared.streams.Stream.{Stream}
+use Rattle.gossip.proofs.streams.Stream as T
+use Rattle.gossip.proofs.streams.Stream.Laws as T′
+use Rattle.gossip.proofs.streams.gossip_next_u64.Key.{name as #gossip-next-u64}
+use Rattle.gossip.proofs.streams.gossip_next_u64 as f
+use Rattle.gossip.proofs.streams.gossip_next_u64.Statement as stated
+use Rattle.gossip.proofs.streams.gossip_next_u64.Code as code
 
 -- a struct's array field is read through the element's `into`, which is the identity
 same : (xs : List ℕ) → map (λ v. v) xs ≡ xs
@@ -122,7 +122,7 @@ module _ {M : Type 1} (𝓤 : URA M) (H : Heap 𝓤) (A : Atoms 𝓤) (W : Given
   step-of : (r : Step) → ent 𝓤 (ensured 𝓤 H A step-at.ended (step-at.clauses 𝓤 H A at-mem run) tt (words, (h .count, tt)) tt r) (fact 𝓤 (r ≡ stepOf words (h .count)))
   step-of r = exE 𝓤 _ (λ ws. snd∗ 𝓤 (sem 𝓤 H A (lasts step-at.ended tt (words, (h .count, tt)) ws)) (fact 𝓤 (r ≡ stepOf words (h .count))))
 
-  module _ (C : Calls 𝓤 H) (Λ : Loops 𝓤 H) (fm : FmC 𝓤 H (W .laws) C) (known : Triple 𝓤 (C #streams·step-at) (StepAt 𝓤 H A at-mem run)) where
+  module _ (C : Calls 𝓤 H) (Λ : Loops 𝓤 H) (fm : FmC 𝓤 H (W .laws) C) (known : Triple 𝓤 (C #rand-streams·step-at) (StepAt 𝓤 H A at-mem run)) where
     walk : ent 𝓤 (onEntry 𝓤 H A f.signature (κ, tt) (q, tt) x at) (WpFn 𝓤 H C Λ code.function (vptr b o ∷ []) Post)
     walk =
         qed W ((‵ (flft κ q) ⊛ ‵ ftrue) ∷ ‵ (owns (MutRef (named 0) κ T.the-row ∷ []) x at) ∷ []) ∵ split ! $ move ! (2 ∷ []) $ fsplit ! $ fsplit3 ! $ drop ! $ move ! (0 ∷ 1 ∷ 3 ∷ []) $
@@ -151,14 +151,14 @@ module _ {M : Type 1} (𝓤 : URA M) (H : Heap 𝓤) (A : Atoms 𝓤) (W : Given
         keep ! (0 ∷ 1 ∷ 2 ∷ []) $ by ! (exits r e (step .0 .1)))))))))))))))
 
 module _ {M : Type 1} (𝓤 : URA M) (H : Heap 𝓤) (A : Atoms 𝓤) (W : Given 𝓤 H A) (at-mem : Memory → SProp 𝓤) (run : Routine → Fun 𝓤) where
-  next-walks : (C : Calls 𝓤 H) (Λ : Loops 𝓤 H) → FmC 𝓤 H (W .laws) C → Triple 𝓤 (C #streams·step-at) (StepAt 𝓤 H A at-mem run) → Walks 𝓤 H A f.ended stayed (WpFn 𝓤 H C Λ code.function) (f.clauses 𝓤 H A at-mem run)
+  next-walks : (C : Calls 𝓤 H) (Λ : Loops 𝓤 H) → FmC 𝓤 H (W .laws) C → Triple 𝓤 (C #rand-streams·step-at) (StepAt 𝓤 H A at-mem run) → Walks 𝓤 H A f.ended stayed (WpFn 𝓤 H C Λ code.function) (f.clauses 𝓤 H A at-mem run)
   next-walks C Λ fm known = walked 𝓤 H A f.ended stayed (f.clauses 𝓤 H A at-mem run) (WpFn 𝓤 H C Λ code.function) (λ κs. (ptr-vals, tt)) (λ κs. (mut-tells (named 0) (κs .0) T.the-row, tt))
       (λ κs qs bounds a _ _. via 𝓤 _ (fst∗ 𝓤 _ (emp 𝓤)) (walk 𝓤 H A W at-mem run (κs .0) (qs .0) (a .0 .ptr .0) (a .0 .ptr .1) (a .0 .name) (a .0 .now) C Λ fm known))
 
   all-go : AllGo 𝓤 H A W 1 (f.signature .params) (f.ended .kept) stayed
   all-go = (goes-ref 𝓤 H A W 1 0 tt (plain (λ _. T.the-row)), tt)
 
-next-meets : {M : Type 1} (𝓤 : URA M) (H : Heap 𝓤) (A : Atoms 𝓤) → Given 𝓤 H A → (at-mem : Memory → SProp 𝓤) (run : Routine → Fun 𝓤) (𝓣 : Tables 𝓤 H) → Triple 𝓤 (𝓣 .C #streams·step-at) (StepAt 𝓤 H A at-mem run)
+next-meets : {M : Type 1} (𝓤 : URA M) (H : Heap 𝓤) (A : Atoms 𝓤) → Given 𝓤 H A → (at-mem : Memory → SProp 𝓤) (run : Routine → Fun 𝓤) (𝓣 : Tables 𝓤 H) → Triple 𝓤 (𝓣 .C #rand-streams·step-at) (StepAt 𝓤 H A at-mem run)
     → Meets 𝓤 H A f.signature (WpFn 𝓤 H (𝓣 .C) (𝓣 .Λ) code.function) (f.spec 𝓤 H A at-mem run)
 next-meets 𝓤 H A W at-mem run 𝓣 known = walk-meets 𝓤 H A f.ended stayed W (all-go 𝓤 H A W at-mem run) (f.clauses 𝓤 H A at-mem run) (WpFn 𝓤 H (𝓣 .C) (𝓣 .Λ) code.function) (WpFn-mono 𝓤 H (W .laws) 𝓣 code.function)
     (next-walks 𝓤 H A W at-mem run (𝓣 .C) (𝓣 .Λ) (fmOf 𝓤 H (W .laws) 𝓣) known)
@@ -167,6 +167,6 @@ pub gossip-next-u64-spec : {M : Type 1} → stated.statement M
 unfolding code.routine tablesOf
 gossip-next-u64-spec 𝓤 H 𝓜 𝓖 𝓡 =
     entered 𝓤 H (tripleOf 𝓤 H (𝓖 .A) f.signature (f.spec 𝓤 H (𝓖 .A) (𝓜 .mem) (𝓡 .run)))
-    (tables 𝓤 H 𝓜 𝓡 code.env .C) (tables 𝓤 H 𝓜 𝓡 code.env .Λ) #stream·gossip-next-u64 code.function (code.unfolded 𝓤 H 𝓜 𝓡)
+    (tables 𝓤 H 𝓜 𝓡 code.env .C) (tables 𝓤 H 𝓜 𝓡 code.env .Λ) #gossip-next-u64 code.function (code.unfolded 𝓤 H 𝓜 𝓡)
     (next-meets 𝓤 H (𝓖 .A) (givenOf 𝓤 H 𝓜 𝓖) (𝓜 .mem) (𝓡 .run) (tablesOf 𝓤 H 𝓜 (tables 𝓤 H 𝓜 𝓡 code.env))
-    (cited 𝓤 H (StepAt 𝓤 H (𝓖 .A) (𝓜 .mem) (𝓡 .run)) 𝓜 𝓡 code.env #streams·step-at step-at-def.routine code.calls-rand-streams·step-at (step-at-thm.met 𝓤 H 𝓜 𝓖 𝓡)))
+    (cited 𝓤 H (StepAt 𝓤 H (𝓖 .A) (𝓜 .mem) (𝓡 .run)) 𝓜 𝓡 code.env #rand-streams·step-at step-at-def.routine code.calls-rand-streams·step-at (step-at-thm.met 𝓤 H 𝓜 𝓖 𝓡)))

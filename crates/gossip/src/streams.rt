@@ -1,8 +1,9 @@
-// A stream record that is lent by `&mut`, and the draw that moves it (document 01: "A draw moves the stream it is lent"). The lender is a C or
-// Rust program: `rt staticlib stream` makes its archive, and include/gossip.h declares the record and the draw.
+// A stream record that is lent by `&mut`, and the draw that moves it (document 01: "A draw moves the stream it is lent"), as a C function. It is no call
+// of the network: the lender is a C or Rust program with a stream of its own.
 ghost use mathlib.Core.Path.{_≡_};
 ghost use Rattle.rand_streams.specs.Streams.{stepOf};
 
+// Eight little-endian words of key, and how many words the stream has given.
 #[repr(C)]
 pub struct Stream {
     pub key: [u32; 8],
