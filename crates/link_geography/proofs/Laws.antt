@@ -11,7 +11,7 @@ use lib.ListN.{getD}
 use Rattle.hash_digest.specs.Blake3.{hash}
 use Rattle.rand_streams.specs.declared.Cursor.{Cursor}
 use Rattle.rand_streams.specs.Streams.{Moved}
-use Rattle.math_time.specs.Seconds.{millisecond}
+use Rattle.math_time.specs.Seconds.{second, millisecond}
 use Rattle.rand_draw.specs.Draw.{words64At, whole64At}
 use Rattle.rand_draw.proofs.Laws.{moved-on, moved-as}
 use Rattle.link_geography.specs.declared.Link.{Link}
@@ -51,9 +51,9 @@ region seed regions till d {n} {low} {high} p q pos r s = (
   subst (λ m. (low + 4294967296 * high) % n < m) q (mod-lt (low + 4294967296 * high) pos),
 )
 
-pub wire : (bytes rate : ℕ) {n t : ℕ} → n ≡ atLeastOne rate → t ≡ bytes * 1000000000 / n → t ≡ transmissionOf bytes rate
+pub wire : (bytes rate : ℕ) {n t : ℕ} → n ≡ atLeastOne rate → t ≡ bytes * second / n → t ≡ transmissionOf bytes rate
 unfolding transmissionOf
-wire bytes rate p q = q ∙ ap (λ m. bytes * 1000000000 / m) p
+wire bytes rate p q = q ∙ ap (λ m. bytes * second / m) p
 
 -- ---- a link's two draws
 pub link-drawn : (c d e : Cursor) (s : Band) {x y : ℕ} {base : ℕ} → x ≡ s .base + whole64At (c .key) (c .count) (s .bases) → Moved c (words64At (c .key) (c .count) (s .bases)) d
@@ -87,10 +87,10 @@ pub of-band : (c d : Cursor) (s s′ : Band) {l : Link} → s ≡ s′ → (l �
 of-band c d s s′ {l} e h = subst (λ z. (l ≡ drawnLink (c .key) (c .count) z) × Moved c (linkWords (c .key) (c .count) z) d) e h
 
 -- the test of a link, in order
-pub slow : (l : Link) → leb (l .base .ns) 160000000 ≡ true → leb 100000000 (l .rate) ≡ linkAdmitted l
+pub slow : (l : Link) → leb (l .base .ns) (160 * millisecond) ≡ true → leb 100000000 (l .rate) ≡ linkAdmitted l
 unfolding linkAdmitted
 slow l h = rw h
 
-pub long : (l : Link) → leb (l .base .ns) 160000000 ≡ false → leb (l .base .ns) 160000000 ≡ linkAdmitted l
+pub long : (l : Link) → leb (l .base .ns) (160 * millisecond) ≡ false → leb (l .base .ns) (160 * millisecond) ≡ linkAdmitted l
 unfolding linkAdmitted
 long l h = h ∙ rw h

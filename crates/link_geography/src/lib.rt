@@ -138,7 +138,7 @@ pub fn transmission(bytes: u64, rate: u64) -> Time
     ensures { λ r. ⌜ r .ns ≡ transmissionOf bytes rate ⌝ }
 {
     let n = at_least_one(rate);
-    Time::from_nanos(bytes * 1_000_000_000 / n)
+    Time::from_nanos(bytes * Time::SECOND.ns / n)
 }
 
 // A link of a band, drawn: the base first, then the rate.
@@ -172,5 +172,5 @@ pub fn link_admitted(l: Link) -> bool
     ensures { λ r. ⌜ r ≡ linkAdmitted l ⌝ }
 {
     let base = l.base;
-    base.ns <= 160_000_000 && 100_000_000 <= l.rate
+    base.ns <= 160 * Time::MILLISECOND.ns && 100_000_000 <= l.rate
 }

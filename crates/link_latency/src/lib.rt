@@ -21,7 +21,7 @@ pub struct Sample {
 pub fn latency_admitted(latency: Time) -> bool
     ensures { λ r. ⌜ r ≡ latencyAdmitted (latency .ns) ⌝ }
 {
-    latency.ns <= 60_000_000_000
+    latency.ns <= 60 * Time::SECOND.ns
 }
 
 // Question 3, of the jitter fraction: 0, or 2^-20 to 1; NaN is not.

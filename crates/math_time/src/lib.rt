@@ -67,7 +67,9 @@ impl Time {
 fn seconds(ns: u64) -> f64
     ensures { λ r. ⌜ r ≡ Seconds.seconds ns ⌝ }
 {
-    ((ns / 1_000_000_000) as f64) + ((ns % 1_000_000_000) as f64) / 1_000_000_000.0
+    let whole = (ns / Time::SECOND.ns) as f64;
+    let rest = (ns % Time::SECOND.ns) as f64;
+    whole + rest / (Time::SECOND.ns as f64)
 }
 
 // digits * 10^9 / 2^(drop + 26), to the nearest whole number, ties to even. The product has up to 83 bits,
@@ -77,8 +79,8 @@ fn rounded(digits: u64, drop: u64) -> u64
     requires { ⌜ (0 < drop) × (drop < 63) ⌝ }
     ensures { λ r. ⌜ r ≡ Seconds.nearestEven (digits * Seconds.second) (2 ^ (drop + 26)) ⌝ }
 {
-    let low = (digits & 0x3ff_ffff) * 1_000_000_000;
-    let whole = (digits >> 26) * 1_000_000_000 + (low >> 26);
+    let low = (digits & 0x3ff_ffff) * Time::SECOND.ns;
+    let whole = (digits >> 26) * Time::SECOND.ns + (low >> 26);
     let rest = low & 0x3ff_ffff;
     let unit = 1u64 << drop;
     let half = unit >> 1;

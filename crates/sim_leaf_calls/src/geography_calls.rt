@@ -207,7 +207,7 @@ pub struct Delay {
 }
 
 // The longest time on the wire.
-const LONGEST: u64 = 60_000_000_000;
+const LONGEST: u64 = 60 * Time::SECOND.ns;
 
 fn sampled(setup: &[u64], key: [u32; 8], count: u64, c: Cost) -> Delay {
     let none = Delay { ns: 0, count };

@@ -16,7 +16,9 @@ from-nanos-requires : tie.Need-from-nanos-requires
 from-nanos-requires c κs = search needs
 
 returns : tie.Need-returns
-returns c = wire (c .before .before .args .bytes) (c .before .before .args .rate) (c .before .at-least-one .ensures .0) (c .from-nanos .ensures)
+returns c =
+    let a = c .before .before .before .args in
+    wire (a .bytes) (a .rate) (c .before .before .at-least-one .ensures .0) (c .from-nanos .ensures)
 
 pub transmission-spec : {M : Type 1} → statement M
 transmission-spec =
