@@ -1,9 +1,13 @@
-# Sourced by the others. Sets `work`, a folder that goes when they end, and `oracle`, the build of the original Rust: the folder that ORACLE
-# names, or a new build of ../shared/oracle.
+# Sourced by the others. Sets `work`, a folder that goes when they end, and `oracle`, a build of the original Rust: the folder that ORACLE names, or a
+# new build by bench/oracle/build.sh, which looks for the original in RUST_SRC.
 work=$(mktemp -d)
 trap 'rm -rf "$work"' EXIT
 oracle=${ORACLE:-}
 if [ -z "$oracle" ]; then
     oracle=$work/oracle
-    bash ../shared/oracle/build.sh "$oracle" >/dev/null
+    bench/oracle/build.sh "$oracle" >/dev/null
+fi
+if [ ! -x "$oracle/target/release/answers" ]; then
+    echo "there is no build of the original Rust in $oracle: bench/oracle/build.sh makes one" >&2
+    exit 3
 fi

@@ -1,6 +1,8 @@
 //! The archive's C functions, and a safe wrapper that owns the memory they are lent.
 //! Nothing checks these declarations against the source: include/gossip.h is their other reading.
+//! The program says what a `Table` is: a `Vec`, or for the fuzz one that stands against guard pages.
 #![allow(dead_code)]
+use crate::Table;
 
 #[repr(C)]
 #[derive(Clone, Copy, Debug)]
@@ -187,23 +189,37 @@ pub const COPY: usize = 12;
 pub const ROW: usize = 14;
 pub const RECORD: usize = 8;
 
+/// Where numbers of `setup` and of `net` stand, for readings and hooks of a test.
+pub const PLANNED: usize = 13;
+pub const REGIONS: usize = 14;
+pub const SEQUENCE: usize = 0;
+pub const WAITING: usize = 1;
+pub const RULES: usize = 2;
+pub const INSTALLED: usize = 3;
+pub const FAULT_WORDS: usize = 4;
+pub const BLOCKS: usize = 5;
+
 /// A network: the lent tables, owned, and the calls on them. Every call is safe: the functions take any contents and any lengths.
 pub struct Network {
     pub sizes: NetworkSizes,
-    pub setup: Vec<u64>,
-    pub net: Vec<u64>,
-    pub names: Vec<u8>,
-    pub tills: Vec<u64>,
-    pub words: Vec<u64>,
-    pub keys: Vec<u32>,
-    pub prices: Vec<u64>,
-    pub seen: Vec<u64>,
-    pub waiting: Vec<u64>,
-    pub rings: Vec<u64>,
-    pub rules: Vec<u64>,
-    pub blocks: Vec<u64>,
-    pub log: Vec<u64>,
-    pub out: Vec<u64>,
+    pub setup: Table<u64>,
+    pub net: Table<u64>,
+    pub names: Table<u8>,
+    pub tills: Table<u64>,
+    pub words: Table<u64>,
+    pub keys: Table<u32>,
+    pub prices: Table<u64>,
+    pub seen: Table<u64>,
+    pub waiting: Table<u64>,
+    pub rings: Table<u64>,
+    pub rules: Table<u64>,
+    pub blocks: Table<u64>,
+    pub log: Table<u64>,
+    pub out: Table<u64>,
+}
+
+pub fn table_sizes(sizes: NetworkSizes, plan: RegionPlan) -> TableSizes {
+    unsafe { gossip_table_sizes(sizes, plan) }
 }
 
 pub fn digest(input: &[u8]) -> Hashed {
@@ -228,50 +244,55 @@ impl Network {
         let vec = |len: u64| vec![0x5555_5555_5555_5555u64; len as usize];
         let mut names = vec![0u8; n.names as usize];
         for (i, text) in o.types.iter().enumerate() {
-            put_text(&mut names, i * 65, text);
+            put_text(&mut names, i * 65, text, 64);
         }
         for (i, text) in o.shards.iter().enumerate() {
-            put_text(&mut names, 16 * 65 + i * 17, text);
+            put_text(&mut names, 16 * 65 + i * 17, text, 16);
         }
         let mut w = Network {
             sizes,
-            setup: vec(n.setup),
-            net: vec(n.net),
-            names,
-            tills: vec(n.tills),
-            words: vec(n.words),
-            keys: vec![7; n.keys as usize],
-            prices: vec(n.prices),
-            seen: vec(n.seen),
-            waiting: vec(n.waiting),
-            rings: vec(n.rings),
-            rules: vec(n.rules),
-            blocks: vec(n.blocks),
-            log: vec(n.log),
-            out: vec![0; (4096 * ROW).max(4096 * COPY)],
+            setup: vec(n.setup).into(),
+            net: vec(n.net).into(),
+            names: names.into(),
+            tills: vec(n.tills).into(),
+            words: vec(n.words).into(),
+            keys: vec![7; n.keys as usize].into(),
+            prices: vec(n.prices).into(),
+            seen: vec(n.seen).into(),
+            waiting: vec(n.waiting).into(),
+            rings: vec(n.rings).into(),
+            rules: vec(n.rules).into(),
+            blocks: vec(n.blocks).into(),
+            log: vec(n.log).into(),
+            out: vec![0; (4096 * ROW).max(4096 * COPY)].into(),
         };
-        let d = unsafe {
-            gossip_open(
-                o.config, sizes, o.plan, o.seed, o.key.as_ptr(), o.key.len(), o.masks.as_ptr(), o.masks.len(),
-                w.names.as_ptr(), w.names.len(), w.setup.as_mut_ptr(), w.setup.len(), w.net.as_mut_ptr(), w.net.len(),
-                w.tills.as_mut_ptr(), w.tills.len(), w.words.as_mut_ptr(), w.words.len(), w.keys.as_mut_ptr(), w.keys.len(),
-                w.prices.as_mut_ptr(), w.prices.len(), w.seen.as_mut_ptr(), w.seen.len(), w.waiting.as_ptr(), w.waiting.len(),
-                w.rings.as_mut_ptr(), w.rings.len(), w.rules.as_ptr(), w.rules.len(), w.blocks.as_ptr(), w.blocks.len(),
-                w.log.as_mut_ptr(), w.log.len(),
-            )
-        };
+        let d = w.open_in(o, &o.key, &o.masks);
         if d.number == 0 { Ok(w) } else { Err(d.number) }
     }
 
+    /// The opening, in these tables: the names are there already.
+    pub fn open_in(&mut self, o: &Opening, key: &[u8], masks: &[u64]) -> Done {
+        unsafe {
+            gossip_open(
+                o.config, self.sizes, o.plan, o.seed, key.as_ptr(), key.len(), masks.as_ptr(), masks.len(),
+                self.names.as_ptr(), self.names.len(), self.setup.as_mut_ptr(), self.setup.len(), self.net.as_mut_ptr(), self.net.len(),
+                self.tills.as_mut_ptr(), self.tills.len(), self.words.as_mut_ptr(), self.words.len(), self.keys.as_mut_ptr(), self.keys.len(),
+                self.prices.as_mut_ptr(), self.prices.len(), self.seen.as_mut_ptr(), self.seen.len(), self.waiting.as_ptr(), self.waiting.len(),
+                self.rings.as_mut_ptr(), self.rings.len(), self.rules.as_ptr(), self.rules.len(), self.blocks.as_ptr(), self.blocks.len(),
+                self.log.as_mut_ptr(), self.log.len(),
+            )
+        }
+    }
+
     #[allow(clippy::too_many_arguments)]
-    pub fn accept(&mut self, from: u64, now: u64, kind: u64, class: u64, scope: u64, wire: &[u8], opens: bool, tag: u64) -> Accepted {
+    pub fn accept(&mut self, from: u64, now: u64, kind: u64, class: u64, scope: u64, wire: &[u8], opens: u64, tag: u64) -> Accepted {
         unsafe {
             gossip_accept(
                 self.setup.as_ptr(), self.setup.len(), self.net.as_mut_ptr(), self.net.len(), self.names.as_ptr(), self.names.len(),
                 self.tills.as_ptr(), self.tills.len(), self.words.as_mut_ptr(), self.words.len(), self.keys.as_ptr(), self.keys.len(),
                 self.prices.as_ptr(), self.prices.len(), self.seen.as_mut_ptr(), self.seen.len(), self.waiting.as_mut_ptr(), self.waiting.len(),
                 self.rings.as_mut_ptr(), self.rings.len(), self.rules.as_mut_ptr(), self.rules.len(), self.blocks.as_ptr(), self.blocks.len(),
-                wire.as_ptr(), wire.len(), from, now, kind, class, scope, tag, opens as u64,
+                wire.as_ptr(), wire.len(), from, now, kind, class, scope, tag, opens,
             )
         }
     }
@@ -279,13 +300,18 @@ impl Network {
     /// The rows stand at the front of `self.out`; `rows` is how many the lent output has room for.
     pub fn flush(&mut self, now: u64, rows: usize) -> Flushed {
         if self.out.len() < rows * ROW {
-            self.out.resize(rows * ROW, 0);
+            self.out = vec![0; rows * ROW].into();
         }
+        self.flush_to(now, rows * ROW)
+    }
+
+    /// The first `words` of `self.out` are lent.
+    pub fn flush_to(&mut self, now: u64, words: usize) -> Flushed {
         unsafe {
             gossip_flush(
                 self.setup.as_ptr(), self.setup.len(), self.net.as_mut_ptr(), self.net.len(), self.tills.as_ptr(), self.tills.len(),
                 self.seen.as_mut_ptr(), self.seen.len(), self.waiting.as_mut_ptr(), self.waiting.len(), self.blocks.as_ptr(), self.blocks.len(),
-                self.log.as_mut_ptr(), self.log.len(), self.out.as_mut_ptr(), rows * ROW, now,
+                self.log.as_mut_ptr(), self.log.len(), self.out.as_mut_ptr(), words, now,
             )
         }
     }
@@ -381,9 +407,11 @@ impl Network {
     }
 }
 
-fn put_text(names: &mut [u8], at: usize, text: &[u8]) {
-    if at + 1 + text.len() <= names.len() {
-        names[at] = text.len() as u8;
-        names[at + 1..at + 1 + text.len()].copy_from_slice(text);
+/// A text with its length before it; one that is too long is cut behind `most` bytes, and its length says that it is too long.
+pub fn put_text(names: &mut [u8], at: usize, text: &[u8], most: usize) {
+    let kept = &text[..text.len().min(most)];
+    if at + 1 + most <= names.len() {
+        names[at] = text.len().min(255) as u8;
+        names[at + 1..at + 1 + kept.len()].copy_from_slice(kept);
     }
 }

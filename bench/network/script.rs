@@ -1,79 +1,212 @@
-//! The script language of ../shared/oracle/README.md through the C functions: a line in, its answer lines out.
-use crate::calls::{Network, NetworkConfig, Opening, RegionPlan, COPY, GLOBAL, RECORD, ROW};
-use std::collections::{BTreeSet, HashMap, HashSet};
+//! The scripts of docs/SCRIPTS.md through the C functions: a line in, its answer lines out. Lines that no C function answers (draws, latencies and
+//! the like) are read and passed over.
+use crate::calls::{self, COPY, GLOBAL, Network, NetworkConfig, Opening, RECORD, ROW, RegionPlan};
+use std::collections::{BTreeMap, HashMap, HashSet};
 use std::fmt::Write as _;
 
-type Res<T> = Result<T, String>;
+/// The longest line, and the most bytes that a word stands for.
+const LINE: usize = 2 * 65536 + 4096;
+const ROOM: u64 = LINE as u64 / 2;
 
-fn num<T: std::str::FromStr>(s: &str) -> Res<T> {
-    s.parse().map_err(|_| format!("number: {s}"))
+/// The header's limits.
+const TILLS: u64 = 64;
+const TYPES: u64 = 16;
+const SHARDS: u64 = 16;
+const SLOTS: u64 = 4096;
+const REGIONS: u64 = 16;
+
+/// Question 2, and question 4.
+const BEYOND: u64 = 2;
+const NO_TILL: u64 = 4;
+
+/// A shard that no opening has: `s16` is no global entry.
+const NOWHERE: u64 = GLOBAL + 1;
+
+// ---- words: `None` for one that is not spelt as it should be
+
+fn decimal(word: &str) -> Option<u64> {
+    let digits = word.bytes().all(|b| b.is_ascii_digit());
+    word.parse().ok().filter(|_| digits)
 }
 
-fn hex(s: &str) -> Res<u64> {
-    u64::from_str_radix(s, 16).map_err(|e| e.to_string())
+fn hexadecimal(word: &str) -> Option<u64> {
+    let digits = word.bytes().all(|b| b.is_ascii_hexdigit());
+    u64::from_str_radix(word, 16).ok().filter(|_| digits)
 }
 
-fn unhex(s: &str) -> Res<Vec<u8>> {
-    if s.len() % 2 != 0 {
-        return Err("odd hex".into());
+fn float_bits(word: &str) -> Option<u64> {
+    hexadecimal(word).filter(|_| word.len() == 16)
+}
+
+fn unhex(word: &str) -> Option<Vec<u8>> {
+    let pairs = word.as_bytes().chunks(2).map(|p| std::str::from_utf8(p).ok().filter(|p| p.len() == 2));
+    pairs.map(|p| Some(hexadecimal(p?)? as u8)).collect()
+}
+
+fn bytes(word: &str) -> Option<Vec<u8>> {
+    if let Some(digits) = word.strip_prefix('x') {
+        return unhex(digits);
     }
-    (0..s.len() / 2).map(|i| u8::from_str_radix(&s[2 * i..2 * i + 2], 16).map_err(|e| e.to_string())).collect()
+    let (length, fill) = word.split_once('*')?;
+    match unhex(fill)?[..] {
+        [b] => Some(vec![b; decimal(length)?.min(ROOM) as usize]),
+        _ => None,
+    }
 }
 
-/// `x<hex>`, or `<length>*<fill byte in hex>`.
-fn bytes(s: &str) -> Res<Vec<u8>> {
-    if let Some(h) = s.strip_prefix('x') {
-        return unhex(h);
+fn target(word: &str) -> Option<u64> {
+    match word.strip_prefix('s') {
+        Some(shard) => decimal(shard).map(|s| if s < SHARDS { s } else { NOWHERE }),
+        None => (word == "g").then_some(GLOBAL),
     }
-    let (len, fill) = s.split_once('*').ok_or("bytes")?;
-    Ok(vec![u8::from_str_radix(fill, 16).map_err(|e| e.to_string())?; num(len)?])
 }
 
-fn open(line: &str) -> Res<Opening> {
-    let mut f: HashMap<&str, &str> = HashMap::new();
-    for part in line.split_whitespace().skip(1) {
-        let (k, v) = part.split_once('=').ok_or("key=value")?;
-        f.insert(k, v);
-    }
-    let get = |k: &str| f.get(k).copied().ok_or(format!("missing {k}"));
-    let list = |k: &str| -> Res<Vec<String>> {
-        let v = get(k)?;
-        Ok(if v == "none" { Vec::new() } else { v.split(',').map(str::to_string).collect() })
-    };
-    let rate = |k: &str| -> Res<f64> { Ok(f64::from_bits(hex(get(k)?)?)) };
-    let texts = |k: &str| -> Res<Vec<Vec<u8>>> { list(k)?.iter().map(|t| unhex(t.trim_start_matches('-'))).collect() };
-    let plan = match get("regions")? {
-        "none" => RegionPlan { planned: 0, regions: 0, seed: 0 },
-        v => {
-            let (r, s) = v.split_once(':').ok_or("regions")?;
-            RegionPlan { planned: 1, regions: num(r)?, seed: num(s)? }
+/// The words of a call, a letter each: d decimal, m mask, f float, t target, b bytes, k key, o 0 or 1.
+fn form(call: &str, words: usize) -> Option<&'static str> {
+    Some(match (call, words) {
+        ("accept", _) => "ddddtbod",
+        ("flush" | "block" | "unblock" | "setfired" | "link" | "wire" | "linkkey", 2) => "dd",
+        ("flush" | "seen", 1) => "d",
+        ("down" | "remove" | "fired" | "transit" | "setseq" | "setrules" | "region" | "secs", _) => "d",
+        ("isblocked" | "setwords" | "transmission", _) => "ddd",
+        ("blockd" | "should", _) => "dddd",
+        ("decide", _) => "ddddd",
+        ("up", _) => "dm",
+        ("handlers", _) => "dmm",
+        ("install" | "digest", _) => "b",
+        ("latency", _) => "kddddd",
+        ("nanos", _) => "f",
+        ("times", _) => "df",
+        ("drain" | "waiting" | "next" | "seen" | "words" | "rings" | "rules" | "blocks" | "tills" | "state", 0) => "",
+        _ => return None,
+    })
+}
+
+/// The words behind `draw KIND`.
+fn draw_form(kind: &str) -> Option<&'static str> {
+    Some(match kind {
+        "word" | "long" | "fraction" => "kdd",
+        "real" => "kdffd",
+        "whole" => "kdddd",
+        "index" => "kddd",
+        _ => return None,
+    })
+}
+
+/// A line's call, its numbers, and the bytes that it names.
+struct Line<'a> {
+    call: &'a str,
+    v: Vec<u64>,
+    bytes: Vec<u8>,
+}
+
+fn value(kind: u8, word: &str, room: &mut Vec<u8>) -> Option<u64> {
+    match kind {
+        b'd' => decimal(word),
+        b'm' => hexadecimal(word),
+        b'f' => float_bits(word),
+        b't' => target(word),
+        b'o' => decimal(word).filter(|v| *v <= 1),
+        b'k' => unhex(word).filter(|k| k.len() == 32).map(|_| 0),
+        _ => {
+            *room = bytes(word)?;
+            Some(0)
         }
-    };
-    let masks = list("masks")?.iter().map(|m| hex(m)).collect::<Res<Vec<u64>>>()?;
-    if masks.len() != num::<usize>(get("tills")?)? {
-        return Err("masks".into());
     }
-    let slots = |k: &str| -> Res<u64> { f.get(k).map_or(Ok(4096), |v| num(v)) };
-    Ok(Opening {
+}
+
+/// A call with all its words, none too many; `None` for a bad line.
+fn read<'a>(call: &'a str, words: &[&str]) -> Option<Line<'a>> {
+    let (call, form, words) = match (call, words) {
+        ("draw", [kind, rest @ ..]) => (call, draw_form(kind)?, rest),
+        ("setwords", ["fault", rest @ ..]) => ("setfault", "d", rest),
+        _ => (call, form(call, words.len())?, words),
+    };
+    if form.len() != words.len() {
+        return None;
+    }
+    let mut room = Vec::new();
+    let v = form.bytes().zip(words).map(|(kind, w)| value(kind, w, &mut room)).collect::<Option<_>>()?;
+    Some(Line { call, v, bytes: room })
+}
+
+// ---- openings
+
+const FIELDS: [&str; 14] =
+    ["tills", "seed", "fkey", "log", "lat", "jit", "loss", "dup", "rep", "spike", "regions", "types", "shards", "masks"];
+
+/// The fields of an opening: each of the fourteen one time, `slots` and `seen` at most once, no others.
+fn fields<'a>(words: &[&'a str]) -> Option<HashMap<&'a str, &'a str>> {
+    let f: HashMap<&str, &str> = words.iter().map(|w| w.split_once('=')).collect::<Option<_>>()?;
+    let known = |k: &&str| FIELDS.contains(k) || ["slots", "seen"].contains(k);
+    (f.len() == words.len() && f.keys().all(known) && FIELDS.iter().all(|k| f.contains_key(k))).then_some(f)
+}
+
+fn parts(value: &str) -> Vec<&str> {
+    if value == "none" { Vec::new() } else { value.split(',').collect() }
+}
+
+fn text(part: &str) -> Option<Vec<u8>> {
+    if part == "-" { Some(Vec::new()) } else { unhex(part).filter(|t| !t.is_empty()) }
+}
+
+fn plan(value: &str) -> Option<RegionPlan> {
+    if value == "none" {
+        return Some(RegionPlan { planned: 0, regions: 0, seed: 0 });
+    }
+    let (regions, seed) = value.split_once(':')?;
+    Some(RegionPlan { planned: 1, regions: decimal(regions)?, seed: decimal(seed)? })
+}
+
+/// `auto`: the key that `rand_core` 0.6 spreads a seed to, which is the opening's with the fault engine's salt.
+fn spread_key(seed: u64) -> [u8; 32] {
+    let (mut state, mut key) = (seed ^ 0xfa17_5a17_fa17_5a17, [0; 32]);
+    for word in key.chunks_mut(4) {
+        state = state.wrapping_mul(6_364_136_223_846_793_005).wrapping_add(11_634_580_027_462_260_723);
+        let mixed = ((state >> 18 ^ state) >> 27) as u32;
+        word.copy_from_slice(&mixed.rotate_right((state >> 59) as u32).to_le_bytes());
+    }
+    key
+}
+
+fn opening(words: &[&str]) -> Option<Opening> {
+    let f = fields(words)?;
+    let rate = |k: &str| float_bits(f[k]).map(f64::from_bits);
+    let masks: Vec<u64> = parts(f["masks"]).into_iter().map(hexadecimal).collect::<Option<_>>()?;
+    if masks.len() as u64 != decimal(f["tills"])? {
+        return None;
+    }
+    let seed = decimal(f["seed"])?;
+    let slots = |k: &str| f.get(k).map_or(Some(SLOTS), |v| decimal(v));
+    Some(Opening {
         config: NetworkConfig {
-            latency: num(get("lat")?)?,
+            latency: decimal(f["lat"])?,
             jitter: rate("jit")?,
             loss: rate("loss")?,
             duplicate: rate("dup")?,
             replay: rate("rep")?,
             spike: rate("spike")?,
         },
-        plan,
-        seed: num(get("seed")?)?,
-        key: unhex(get("fkey")?)?.try_into().map_err(|_| "fkey")?,
-        types: texts("types")?,
-        shards: texts("shards")?,
+        plan: plan(f["regions"])?,
+        seed,
+        key: if f["fkey"] == "auto" { spread_key(seed) } else { unhex(f["fkey"])?.try_into().ok()? },
+        types: parts(f["types"]).into_iter().map(text).collect::<Option<_>>()?,
+        shards: parts(f["shards"]).into_iter().map(text).collect::<Option<_>>()?,
         masks,
         seen: slots("seen")?,
         waiting: slots("slots")?,
-        log: num(get("log")?)?,
+        log: decimal(f["log"])?,
     })
 }
+
+/// Tables of sizes beyond the limits could not be lent: such an opening is refused with 2, as by `simulate`.
+fn within_limits(o: &Opening) -> bool {
+    let slots = |n: u64| (1..=SLOTS).contains(&n);
+    let counts = o.masks.len() as u64 <= TILLS && o.types.len() as u64 <= TYPES && o.shards.len() as u64 <= SHARDS;
+    counts && slots(o.waiting) && slots(o.seen) && o.log <= SLOTS && o.plan.regions <= REGIONS
+}
+
+// ---- answers
 
 fn scope(n: u64) -> String {
     if n == GLOBAL { "-".into() } else { n.to_string() }
@@ -85,47 +218,33 @@ fn copy(c: &[u64]) -> String {
     format!("{} {} {} {} {} {} {} {} {} {} {}", c[0], c[1], c[2], c[3], c[4], c[5], scope(c[6]), c[7], c[8], id, c[11])
 }
 
-fn target(s: &str) -> Res<u64> {
-    match s.strip_prefix('s') {
-        Some(n) => num(n),
-        None => Ok(GLOBAL),
-    }
-}
-
 fn done(o: &mut String, call: &str, number: u64) {
-    if number == 0 {
-        let _ = writeln!(o, "{call} ok");
-    } else {
-        let _ = writeln!(o, "{call} refused {number}");
-    }
+    let _ = if number == 0 { writeln!(o, "{call} ok") } else { writeln!(o, "{call} refused {number}") };
 }
 
-fn flush(n: &mut Network, now: u64, rows: usize, o: &mut String) {
-    let count = n.net[1] as usize;
-    let due: Vec<Vec<u64>> = n.waiting[..(count * COPY).min(n.waiting.len())].chunks(COPY).filter(|c| c[5] <= now).map(<[u64]>::to_vec).collect();
-    let f = n.flush(now, rows);
+/// A value behind its name, or the number that refused it.
+fn valued(o: &mut String, call: &str, number: u64, text: impl std::fmt::Display) {
+    let _ = if number == 0 { writeln!(o, "{call} {text}") } else { writeln!(o, "{call} refused {number}") };
+}
+
+fn flush(n: &mut Network, now: u64, rows: u64, o: &mut String) {
+    let count = n.net[calls::WAITING] as usize;
+    let due: Vec<Vec<u64>> = n.waiting[..count * COPY].chunks(COPY).filter(|c| c[5] <= now).map(<[u64]>::to_vec).collect();
+    let f = n.flush(now, rows.min(SLOTS) as usize);
     if f.number != 0 {
         return done(o, "flush", f.number);
     }
     let _ = writeln!(o, "flush delivered={} dropped={} rows={}", f.delivered, f.dropped, f.rows);
-    let landed: Vec<&[u64]> = n.out[..f.rows as usize * ROW].chunks(ROW).collect();
-    let mut next = 0;
+    let mut landed = n.out[..f.rows as usize * ROW].chunks(ROW).peekable();
     for c in &due {
-        if next < landed.len() && landed[next][..COPY] == c[..] {
-            let r = landed[next];
-            let by = match (r[12], r[13]) {
-                (0, 0) => "-",
-                (_, 0) => "g",
-                (0, _) => "h",
-                _ => "gh",
-            };
-            let _ = writeln!(o, "row {} {by}", copy(&r[..COPY]));
-            next += 1;
-        } else {
+        let Some(r) = landed.next_if(|r| r[..COPY] == c[..]) else {
             let _ = writeln!(o, "drop {}", copy(c));
-        }
+            continue;
+        };
+        let by = ["-", "g", "h", "gh"][(r[12] != 0) as usize + 2 * (r[13] != 0) as usize];
+        let _ = writeln!(o, "row {} {by}", copy(c));
     }
-    assert_eq!(next, landed.len(), "every row is a due copy, in order");
+    assert!(landed.next().is_none(), "every row is a due copy, in order");
 }
 
 fn drain(n: &mut Network, o: &mut String) {
@@ -140,94 +259,13 @@ fn drain(n: &mut Network, o: &mut String) {
     }
 }
 
-/// Readings of the tables themselves, which the wrapper owns.
-fn table(n: &mut Network, part: &str, o: &mut String) {
-    match part {
-        "tills" => {
-            o.push_str("tills");
-            for t in n.tills.chunks(4) {
-                let _ = write!(o, " {}/{:04x}/{:04x}/{:04x}", t[0], t[3], t[1], t[2]);
-            }
-            o.push('\n');
-        }
-        "blocks" => {
-            let count = n.net[5] as usize;
-            let edges: HashSet<(u64, u64)> = n.blocks[..count * 5].chunks(5).map(|b| (b[0], b[1])).collect();
-            let _ = writeln!(o, "blocks edges={} windows={count}", edges.len());
-        }
-        "rules" => {
-            let count = n.net[2] as usize;
-            let _ = write!(o, "rules {count}");
-            for r in n.rules[..count * 10].chunks(10) {
-                let _ = write!(o, " {}:{}", r[0], r[9]);
-            }
-            o.push('\n');
-        }
-        "words" => {
-            let _ = writeln!(o, "words fault={}", n.net[4]);
-            for (i, w) in n.words.iter().enumerate().filter(|w| *w.1 > 0) {
-                let _ = writeln!(o, "word {} {} {w}", i / 64, i % 64);
-            }
-        }
-        "rings" => {
-            let rings = n.sizes.types as usize * 17;
-            let mut found = BTreeSet::new();
-            for r in 0..rings {
-                let (count, first) = (n.rings[2 * r] as usize, n.rings[2 * r + 1] as usize);
-                if count == 0 {
-                    continue;
-                }
-                let (kind, sc) = (r / 17, r % 17);
-                let mut line = format!("ring {kind} {} {count}", scope(sc as u64));
-                for k in 0..count {
-                    let b = rings * 2 + r * 192 + (first + k) % 64 * 3;
-                    let _ = write!(line, " {}/{}/{}", n.rings[b], n.rings[b + 1], n.rings[b + 2]);
-                }
-                // global first, as Option orders
-                found.insert((kind, if sc == 16 { 0 } else { sc + 1 }, line));
-            }
-            let _ = writeln!(o, "rings {}", found.len());
-            for (_, _, line) in found {
-                let _ = writeln!(o, "{line}");
-            }
-        }
-        _ => unreachable!(),
-    }
-}
-
-/// What the opening wrote into `prices`: base and rate of each pair of regions, then the region of each till.
-fn geography(n: &Network, w: &[&str], o: &mut String) -> Res<()> {
-    let arg = |i: usize| -> Res<usize> { num(w.get(i).ok_or("argument missing")?) };
-    let planned = n.setup[13] != 0;
-    let regions = n.setup[14].max(1) as usize;
-    let region = |t: usize| n.prices[2 * regions * regions + t] as usize;
-    let pair = |a: usize, b: usize| {
-        let at = 2 * (region(a) * regions + region(b));
-        (n.prices[at], n.prices[at + 1])
-    };
-    let _ = match (w[0], planned) {
-        ("region", true) => writeln!(o, "region {}", region(arg(1)?)),
-        ("link", true) => {
-            let (base, rate) = pair(arg(1)?, arg(2)?);
-            writeln!(o, "link base={base} rate={rate}")
-        }
-        ("transmission", true) => writeln!(o, "transmission {}", arg(3)? as u64 * 1_000_000_000 / pair(arg(1)?, arg(2)?).1),
-        ("transmission", false) => writeln!(o, "transmission 0"),
-        (call, _) => writeln!(o, "{call} -"),
-    };
-    Ok(())
-}
-
 fn seen(n: &mut Network, t: u64, o: &mut String) {
     let v = n.marks(t);
     if v.number != 0 {
         return done(o, "seen", v.number);
     }
-    let _ = write!(o, "seen {t} {}", v.count);
-    for id in &n.out[..v.count as usize] {
-        let _ = write!(o, " {id:016x}");
-    }
-    o.push('\n');
+    let ids: String = n.out[..v.count as usize].iter().map(|id| format!(" {id:016x}")).collect();
+    let _ = writeln!(o, "seen {t} {}{ids}", v.count);
 }
 
 fn waiting(n: &mut Network, o: &mut String) {
@@ -236,126 +274,199 @@ fn waiting(n: &mut Network, o: &mut String) {
         return done(o, "waiting", v.number);
     }
     let _ = writeln!(o, "waiting {}", v.count);
-    for c in n.out[..v.count as usize * COPY].chunks(COPY) {
-        let _ = writeln!(o, "copy {}", copy(c));
-    }
+    n.out[..v.count as usize * COPY].chunks(COPY).for_each(|c| _ = writeln!(o, "copy {}", copy(c)));
 }
 
-fn accept(n: &mut Network, w: &[&str], o: &mut String) -> Res<()> {
-    let arg = |i: usize| w.get(i).copied().ok_or(format!("argument {i} missing"));
-    let (from, now, kind, class): (u64, u64, u64, u64) = (num(arg(1)?)?, num(arg(2)?)?, num(arg(3)?)?, num(arg(4)?)?);
-    let (to, wire, opens, tag) = (target(arg(5)?)?, bytes(arg(6)?)?, arg(7)? == "1", num(arg(8)?)?);
-    let a = n.accept(from, now, kind, class, to, &wire, opens, tag);
+fn accept(n: &mut Network, l: &Line, o: &mut String) {
+    let [from, now, kind, class, to, _, opens, tag] = l.v[..] else { unreachable!("eight words") };
+    let a = n.accept(from, now, kind, class, to, &l.bytes, opens, tag);
     if a.number != 0 {
-        done(o, "accept", a.number);
-        return Ok(());
+        return done(o, "accept", a.number);
     }
-    let id = n.id(kind, to, &wire);
-    let _ = writeln!(
-        o,
-        "accept sent={} dedup={} partition={} loss={} fault={} id={id:016x} sequence={} waiting={}",
-        a.sent, a.deduplicated, a.partition, a.loss, a.fault, n.net[0], n.net[1]
-    );
-    Ok(())
+    let _ = write!(o, "accept sent={} dedup={} partition={} loss={} fault={} ", a.sent, a.deduplicated, a.partition, a.loss, a.fault);
+    let id = n.id(kind, to, &l.bytes);
+    let _ = writeln!(o, "id={id:016x} sequence={} waiting={}", n.net[calls::SEQUENCE], n.net[calls::WAITING]);
 }
 
-fn exec(n: &mut Network, line: &str, o: &mut String) -> Res<()> {
-    let w: Vec<&str> = line.split_whitespace().collect();
-    let arg = |i: usize| w.get(i).copied().ok_or(format!("argument {i} missing"));
-    let u = |i: usize| -> Res<u64> { num(arg(i)?) };
-    match w[0] {
-        "accept" => accept(n, &w, o)?,
-        "flush" => flush(n, u(1)?, if w.len() > 2 { num(w[2])? } else { 4096 }, o),
-        "down" => done(o, "down", n.take_down(u(1)?).number),
-        "up" => done(o, "up", n.bring_up(u(1)?, hex(arg(2)?)?).number),
-        "handlers" => done(o, "handlers", n.set_handlers(u(1)?, hex(arg(2)?)?, hex(arg(3)?)?).number),
-        "block" => done(o, "block", n.block(u(1)?, u(2)?).number),
-        "blockd" => done(o, "blockd", n.block_during(u(1)?, u(2)?, u(3)?, u(4)?).number),
-        "unblock" => done(o, "unblock", n.unblock(u(1)?, u(2)?).number),
-        "isblocked" => match n.is_blocked(u(1)?, u(2)?, u(3)?) {
-            v if v.number != 0 => done(o, "isblocked", v.number),
-            v => _ = writeln!(o, "isblocked {}", v.value),
-        },
-        "install" => match n.install(&bytes(arg(1)?)?) {
-            v if v.number != 0 => done(o, "install", v.number),
-            v => _ = writeln!(o, "install id={}", v.value),
-        },
-        "remove" => match n.remove(u(1)?) {
-            v if v.number != 0 => done(o, "remove", v.number),
-            v if v.found == 1 => _ = writeln!(o, "remove 1 fired={}", v.value),
-            _ => o.push_str("remove 0 fired=-\n"),
-        },
-        "fired" => match n.fired(u(1)?) {
-            v if v.number != 0 => done(o, "fired", v.number),
-            v if v.found == 1 => _ = writeln!(o, "fired {}", v.value),
-            _ => o.push_str("fired gone\n"),
-        },
-        "setfired" => {
-            let (id, to) = (u(1)?, u(2)?);
-            let count = n.net[2] as usize;
-            for r in n.rules[..count * 10].chunks_mut(10).filter(|r| r[0] == id) {
-                r[9] = to;
-            }
-            o.push_str("setfired ok\n");
+// ---- readings of the tables themselves, which the wrapper owns
+
+fn rings(n: &Network, o: &mut String) {
+    let rings = n.sizes.types as usize * 17;
+    let mut found = BTreeMap::new();
+    for r in 0..rings {
+        let (count, first) = (n.rings[2 * r] as usize, n.rings[2 * r + 1] as usize);
+        let (kind, sc) = (r / 17, (r % 17) as u64);
+        let mut line = format!("ring {kind} {} {count}", scope(sc));
+        for k in 0..count {
+            let b = rings * 2 + r * 192 + (first + k) % 64 * 3;
+            let _ = write!(line, " {}/{}/{}", n.rings[b], n.rings[b + 1], n.rings[b + 2]);
         }
-        "decide" => match n.decide(u(1)?, u(2)?, u(3)?, u(4)?, u(5)?) {
-            v if v.number != 0 => done(o, "decide", v.number),
-            v => _ = writeln!(o, "decide {} words={}", if v.value == 1 { "drop" } else { "pass" }, n.net[4]),
-        },
+        if count > 0 {
+            found.insert((kind, sc != GLOBAL, sc), line); // global first
+        }
+    }
+    let _ = writeln!(o, "rings {}", found.len());
+    found.values().for_each(|line| _ = writeln!(o, "{line}"));
+}
+
+fn table(n: &Network, part: &str, o: &mut String) {
+    match part {
+        "tills" => {
+            let tills: String = n.tills.chunks(4).map(|t| format!(" {}/{:04x}/{:04x}/{:04x}", t[0], t[3], t[1], t[2])).collect();
+            let _ = writeln!(o, "tills{tills}");
+        }
+        "blocks" => {
+            let windows = n.net[calls::BLOCKS] as usize;
+            let edges: HashSet<(u64, u64)> = n.blocks[..windows * 5].chunks(5).map(|b| (b[0], b[1])).collect();
+            let _ = writeln!(o, "blocks edges={} windows={windows}", edges.len());
+        }
+        "rules" => {
+            let count = n.net[calls::RULES] as usize;
+            let rules: String = n.rules[..count * 10].chunks(10).map(|r| format!(" {}:{}", r[0], r[9])).collect();
+            let _ = writeln!(o, "rules {count}{rules}");
+        }
+        "words" => {
+            let _ = writeln!(o, "words fault={}", n.net[calls::FAULT_WORDS]);
+            for (i, w) in n.words.iter().enumerate().filter(|w| *w.1 > 0) {
+                let _ = writeln!(o, "word {} {} {w}", i / 64, i % 64);
+            }
+        }
+        _ => rings(n, o),
+    }
+}
+
+/// What the opening wrote into `prices`: base and rate of each pair of regions, then the region of each till.
+fn geography(n: &Network, l: &Line, o: &mut String) -> Option<()> {
+    let tills = if l.call == "region" { &l.v[..1] } else { &l.v[..2] };
+    if tills.iter().any(|t| *t >= n.sizes.tills) {
+        return None;
+    }
+    if n.setup[calls::PLANNED] == 0 {
+        let _ = writeln!(o, "{} {}", l.call, if l.call == "transmission" { "0" } else { "-" });
+        return Some(());
+    }
+    let regions = n.setup[calls::REGIONS].max(1);
+    let region = |t: u64| n.prices[(2 * regions * regions + t) as usize];
+    let price = |k: u64| n.prices[(2 * (region(tills[0]) * regions + region(tills[tills.len() - 1])) + k) as usize];
+    let _ = match l.call {
+        "region" => writeln!(o, "region {}", region(tills[0])),
+        "link" => writeln!(o, "link base={} rate={}", price(0), price(1)),
+        _ => writeln!(o, "transmission {}", l.v[2] * 1_000_000_000 / price(1)),
+    };
+    Some(())
+}
+
+// ---- calls
+
+/// The hooks: they write a counter.
+fn hook(n: &mut Network, l: &Line, o: &mut String) {
+    let v = &l.v;
+    match l.call {
+        "setfired" => {
+            let count = n.net[calls::RULES] as usize;
+            n.rules[..count * 10].chunks_mut(10).filter(|r| r[0] == v[0]).for_each(|r| r[9] = v[1]);
+        }
+        "setwords" if v[0].max(v[1]) >= n.sizes.tills => return done(o, "setwords", NO_TILL),
+        "setwords" => n.words[(v[0] * 64 + v[1]) as usize] = v[2],
+        "setfault" => n.net[calls::FAULT_WORDS] = v[0],
+        "setseq" => n.net[calls::SEQUENCE] = v[0],
+        _ => n.net[calls::INSTALLED] = v[0],
+    }
+    done(o, if l.call == "setfault" { "setwords" } else { l.call }, 0);
+}
+
+/// The calls that are answered `ok`.
+fn plain(n: &mut Network, l: &Line) -> Option<u64> {
+    let v = &l.v;
+    Some(match l.call {
+        "down" => n.take_down(v[0]).number,
+        "up" => n.bring_up(v[0], v[1]).number,
+        "handlers" => n.set_handlers(v[0], v[1], v[2]).number,
+        "block" => n.block(v[0], v[1]).number,
+        "blockd" => n.block_during(v[0], v[1], v[2], v[3]).number,
+        "unblock" => n.unblock(v[0], v[1]).number,
+        _ => return None,
+    })
+}
+
+fn digest(input: &[u8], o: &mut String) {
+    let d = calls::digest(input);
+    let words: String = d.words.iter().map(|w| format!("{:08x}", w.swap_bytes())).collect();
+    valued(o, "digest", d.number.into(), words);
+}
+
+/// The calls that are answered by a value.
+fn value_call(n: &mut Network, l: &Line, o: &mut String) -> Option<()> {
+    let v = &l.v;
+    let reply = match l.call {
+        "isblocked" => n.is_blocked(v[0], v[1], v[2]),
+        "install" => n.install(&l.bytes),
+        "remove" => n.remove(v[0]),
+        "fired" => n.fired(v[0]),
+        "decide" => n.decide(v[0], v[1], v[2], v[3], v[4]),
+        "transit" => n.in_transit(v[0]),
+        "next" => n.next_time(),
+        _ => return None,
+    };
+    let value = reply.value;
+    let text = match (l.call, reply.found) {
+        ("install", _) => format!("id={value}"),
+        ("remove", 0) => "0 fired=-".into(),
+        ("remove", _) => format!("1 fired={value}"),
+        ("fired", 0) => "gone".into(),
+        ("next", 0) => "-".into(),
+        ("decide", _) => format!("{} words={}", if value == 1 { "drop" } else { "pass" }, n.net[calls::FAULT_WORDS]),
+        _ => value.to_string(),
+    };
+    valued(o, l.call, reply.number, text);
+    Some(())
+}
+
+fn exec(n: &mut Network, l: &Line, o: &mut String) -> Option<()> {
+    match l.call {
+        "accept" => accept(n, l, o),
+        "flush" => flush(n, l.v[0], l.v.get(1).copied().unwrap_or(SLOTS), o),
         "drain" => drain(n, o),
         "waiting" => waiting(n, o),
-        "transit" => match n.in_transit(u(1)?) {
-            v if v.number != 0 => done(o, "transit", v.number),
-            v => _ = writeln!(o, "transit {}", v.value),
-        },
-        "next" => match n.next_time() {
-            v if v.number != 0 => done(o, "next", v.number),
-            v if v.found == 1 => _ = writeln!(o, "next {}", v.value),
-            _ => o.push_str("next -\n"),
-        },
-        "seen" => match w.get(1) {
-            Some(t) => seen(n, num(t)?, o),
-            None => (0..n.sizes.tills).for_each(|t| seen(n, t, o)),
-        },
-        "tills" | "blocks" | "rules" | "words" | "rings" => table(n, w[0], o),
-        "region" | "link" | "transmission" => geography(n, &w, o)?,
-        // a stream record of its own: no call of the network
-        "latency" => {}
+        "seen" if l.v.is_empty() => (0..n.sizes.tills).for_each(|t| seen(n, t, o)),
+        "seen" => seen(n, l.v[0], o),
+        "tills" | "blocks" | "rules" | "words" | "rings" => table(n, l.call, o),
+        "region" | "link" | "transmission" => geography(n, l, o)?,
+        "setfired" | "setwords" | "setfault" | "setseq" | "setrules" => hook(n, l, o),
+        "digest" => digest(&l.bytes, o),
+        // no C function
+        "latency" | "draw" | "should" | "linkkey" | "wire" | "nanos" | "secs" | "times" => {}
         "state" => {
-            for part in ["tills", "blocks", "rules", "words", "rings", "seen", "waiting"] {
-                exec(n, part, o)?;
+            for call in ["tills", "blocks", "rules", "words", "rings", "seen", "waiting"] {
+                exec(n, &Line { call, v: Vec::new(), bytes: Vec::new() }, o)?;
             }
         }
-        other => return Err(format!("call {other}")),
+        call => match plain(n, l) {
+            Some(number) => done(o, call, number),
+            None => value_call(n, l, o)?,
+        },
     }
-    Ok(())
+    Some(())
 }
 
-/// Runs one line; the answer lines end in a line break each.
-pub fn run_line(network: &mut Option<Network>, line: &str) -> String {
-    let text = line.trim();
-    if text.is_empty() || text.starts_with('#') {
+fn open(network: &mut Option<Network>, words: &[&str], o: &mut String) -> Option<()> {
+    let opening = opening(words)?;
+    let number = if within_limits(&opening) { Network::open(&opening).map(|n| *network = Some(n)).err().unwrap_or(0) } else { BEYOND };
+    done(o, "open", number);
+    Some(())
+}
+
+/// Runs line `number` of a script; the answer lines end in a line break each.
+pub fn run_line(network: &mut Option<Network>, line: &str, number: usize) -> String {
+    let words: Vec<&str> = line.split([' ', '\t', '\r']).filter(|w| !w.is_empty()).collect();
+    let Some((call, rest)) = words.split_first().filter(|w| !w.0.starts_with('#')) else {
         return String::new();
-    }
-    let mut out = String::new();
-    if text.starts_with("open ") {
-        match open(text) {
-            Err(e) => return format!("err {e}\n"),
-            Ok(o) => match Network::open(&o) {
-                Ok(n) => {
-                    *network = Some(n);
-                    out.push_str("open ok\n");
-                }
-                Err(number) => done(&mut out, "open", number),
-            },
-        }
-        return out;
-    }
-    let Some(n) = network else {
-        return "err not open\n".into();
     };
-    if let Err(e) = exec(n, text, &mut out) {
-        return format!("err {e}\n");
-    }
-    out
+    let mut o = String::new();
+    let done = match *call {
+        _ if line.len() > LINE => None,
+        "open" => open(network, rest, &mut o),
+        _ => network.as_mut().and_then(|n| exec(n, &read(call, rest)?, &mut o)),
+    };
+    if done.is_none() { format!("err {number}\n") } else { o }
 }

@@ -1,11 +1,12 @@
-//! speed [ROUNDS [MESSAGES]]: the cases of the oracle's own bench (64 tills, global, accept and flush of each message) through the archive and
+//! speed [ROUNDS [MESSAGES]]: seven cases (64 tills, global, accept and flush of each message) through the archive and
 //! through the original Rust, in turn. For each case the least CPU time of the rounds on each side, in microseconds a message, and their ratio.
 //! speed count MESSAGES: each case once on each side, for a counter of instructions that starts and stops at `measured`.
-//! Both sides must count alike: as many sent, not sent, and handled.
+//! Both sides must count alike: as many sent, not sent, and handled. A last line says how many; where they differ, the status is 1.
 mod calls;
 use calls::{GLOBAL, Network, NetworkConfig, Opening, RegionPlan};
-use hyperscale_network_memory::oracle::Oracle;
-use std::time::Duration;
+use hyperscale_network_memory::driver::{Driver, answer};
+
+type Table<T> = Vec<T>;
 
 #[repr(C)]
 struct Timespec {
@@ -57,7 +58,7 @@ trait Side {
 
 impl Side for Network {
     fn accept(&mut self, from: u64, now: u64, wire: &[u8], tag: u64) -> (u64, u64) {
-        let a = Network::accept(self, from, now, 0, 1, GLOBAL, wire, true, tag);
+        let a = Network::accept(self, from, now, 0, 1, GLOBAL, wire, 1, tag);
         assert_eq!(a.number, 0);
         (a.sent, a.deduplicated + a.partition + a.loss + a.fault)
     }
@@ -66,12 +67,12 @@ impl Side for Network {
     }
 }
 
-impl Side for Oracle {
+impl Side for Driver {
     fn accept(&mut self, from: u64, now: u64, wire: &[u8], tag: u64) -> (u64, u64) {
-        self.bench_accept(from as u32, now, wire, tag)
+        self.broadcast(from as u32, now, wire, tag)
     }
     fn flush(&mut self, now: u64) -> u64 {
-        self.net.flush_gossip(Duration::from_nanos(now)).0 as u64
+        self.land(now)
     }
 }
 
@@ -94,7 +95,7 @@ fn archive(c: &Case) -> Network {
     net
 }
 
-fn original(c: &Case) -> Oracle {
+fn original(c: &Case) -> Driver {
     let bits = |x: f64| format!("{:016x}", x.to_bits());
     let r = c.rates.map(bits);
     let regions = if c.regions > 0 { format!("{}:9", c.regions) } else { "none".to_string() };
@@ -110,9 +111,11 @@ fn original(c: &Case) -> Oracle {
         b"transaction.gossip".map(|b| format!("{b:02x}")).concat(),
         ["1"; 64].join(",")
     );
-    let mut o = Oracle::open(&line).expect("an accepted opening");
-    (0..64).for_each(|t| o.count_handlers(t));
-    o
+    let mut driver = None;
+    assert_eq!(answer(&mut driver, &line, 1), "open ok\n");
+    let mut d = driver.expect("an accepted opening");
+    (0..64).for_each(|t| d.listen(t));
+    d
 }
 
 /// One case on one side.
@@ -144,10 +147,18 @@ fn messages(c: &Case, n: u64) -> u64 {
     if c.size > 256 { n / 10 } else { n }
 }
 
+/// Both sides' counts, which are to be alike.
+fn agreed(c: &Case, ours: Counts, theirs: Counts) -> Counts {
+    if ours != theirs {
+        println!("{} differs: sent, not sent and handled here {ours:?}, in the Rust {theirs:?}", c.name);
+        std::process::exit(1);
+    }
+    ours
+}
+
 fn count(n: u64) {
     for c in &CASES {
-        let ours = measured(&mut archive(c), c, n);
-        assert_eq!(ours, measured(&mut original(c), c, n), "{}", c.name);
+        agreed(c, measured(&mut archive(c), c, n), measured(&mut original(c), c, n));
         println!("{}", c.name);
     }
 }
@@ -160,15 +171,19 @@ fn main() {
     }
     let (rounds, n) = (number(0, 7), number(1, 4_000));
     let mut least = [(f64::MAX, f64::MAX); CASES.len()];
+    let (mut sends, mut met) = (0, (0, 0, 0));
     for _ in 0..rounds {
         for (c, l) in CASES.iter().zip(&mut least) {
             let (ours, a) = timed(&mut archive(c), c, messages(c, n));
             let (theirs, b) = timed(&mut original(c), c, messages(c, n));
-            assert_eq!(a, b, "{}", c.name);
+            let (sent, other, handled) = agreed(c, a, b);
+            sends += messages(c, n);
+            met = (met.0 + sent, met.1 + other, met.2 + handled);
             *l = (l.0.min(ours), l.1.min(theirs));
         }
     }
     for (c, l) in CASES.iter().zip(&least) {
         println!("{:<24} {:>8.2} {:>8.2} {:>6.2}", c.name, l.0, l.1, l.0 / l.1);
     }
+    println!("met: {sends} messages on each side in {rounds} rounds of {} cases: {} copies sent, {} not sent, {} rows with a handler, 0 differ", CASES.len(), met.0, met.1, met.2);
 }

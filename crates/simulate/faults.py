@@ -1,5 +1,5 @@
 #!/usr/bin/env python3
-# faults.py   prints the script of rule and block calls, in the grammar of ../shared/oracle: a part of this crate's stdin. README.md says what it holds.
+# faults.py   prints the script of rule and block calls: a part of this crate's stdin. README.md says what it holds.
 import random
 import struct
 

@@ -1,5 +1,5 @@
 #!/usr/bin/env python3
-# make.py ORACLE   writes stdin and stdout of this crate. README.md says what they hold; ORACLE is the binary that ../shared/oracle/build.sh makes.
+# make.py ANSWERS   writes stdin and stdout of this crate. README.md says what they hold; ANSWERS is the program `answers` that bench/oracle/build.sh makes.
 import os
 import random
 import struct
@@ -122,7 +122,7 @@ def leaves():
 
 
 def first_part():
-    out.append('# Part 1: every call; the answers are the original Rust\'s, by ../shared/oracle.')
+    out.append('# Part 1: every call; the answers are the original Rust\'s.')
     out.append(opening(5, ['block', 'vote', ''], [b'\x00', b'\x01\x02'], [3, 1, 2, 3, 0], dup=0.4, rep=0.4, loss=0.1, spike=0.2))
     morning(5, 3, 2, 700)
     leaves()
@@ -264,7 +264,9 @@ def answers(oracle, lines):
 
 
 def main():
-    oracle = sys.argv[1]
+    oracle = ' '.join(sys.argv[1:])
+    if not os.access(oracle, os.X_OK):
+        sys.exit('make.py ANSWERS: there is no program %s; bench/oracle/build.sh makes it from the original Rust' % (oracle or 'named'))
     first_part()
     told = answers(oracle, out)
     pairs = second_part()

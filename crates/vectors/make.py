@@ -1,11 +1,13 @@
 #!/usr/bin/env python3
-"""Writes the file stdout of this crate from outside answers: make.py ORACLE
+"""Writes the file stdout of this crate from outside answers: make.py ANSWERS
 
-ORACLE is the program `oracle` that ../shared/oracle/build.sh makes. BLAKE3 answers come from b3sum, words and 64-bit draws
-from Debian's rand_chacha and link keys from the original Rust (both through ORACLE). The lists are read from src/main.rt.
+ANSWERS is the program `answers` that bench/oracle/build.sh makes. BLAKE3 answers come from b3sum, words and 64-bit draws
+from Debian's rand_chacha and link keys from the original Rust (both through ANSWERS). The lists are read from src/main.rt.
 """
 import os, re, subprocess, sys
 
+if len(sys.argv) != 2 or not os.access(sys.argv[1], os.X_OK):
+    sys.exit('make.py ANSWERS: there is no such program; bench/oracle/build.sh makes it from the original Rust')
 here = os.path.dirname(os.path.abspath(__file__))
 source = open(os.path.join(here, 'src/main.rt')).read()
 

@@ -180,9 +180,11 @@ impl Driver {
     fn call(&mut self, call: &str, w: &[&str], o: &mut String) -> Option<()> {
         match call {
             "accept" => self.accept(w.try_into().ok()?, o),
+            // the original's output has a row for every copy
             "flush" => match w {
                 [now] => self.flush(number(now)?, o),
-                _ => return None,
+                [now, rows] => number::<u64>(rows).and_then(|_| self.flush(number(now)?, o)),
+                _ => None,
             },
             "down" | "up" | "handlers" => {
                 self.till_call(call, w)?;
