@@ -123,8 +123,14 @@ impl Driver {
             let shard = c.shard.map(|s| self.shards[s as usize]);
             let by_gossip = Heard { to: c.to, kind: c.kind, tag: c.tag, from: Some((shard, peer(c.from))) };
             let by_host = Heard { from: None, ..by_gossip };
-            let takers = [('g', by_gossip), ('h', by_host)].into_iter();
-            let by: String = takers.filter(|(_, h)| heard.next_if_eq(h).is_some()).map(|(mark, _)| mark).collect();
+            let mut by = String::new();
+            if heard.next_if_eq(&by_gossip).is_some() {
+                by.push('g');
+            }
+            // a host handler hears no shard: what it hears is of a global copy, or the assertion below fails
+            if c.shard.is_none() && heard.next_if_eq(&by_host).is_some() {
+                by.push('h');
+            }
             handled += usize::from(!by.is_empty());
             let _ = writeln!(o, "row {c} {}", if by.is_empty() { "-" } else { &by });
         }
