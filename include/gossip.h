@@ -6,9 +6,10 @@
  * is 0 where nothing refused the call; else it is the number of the first question answered "no", every other field is 0, and
  * every table and output is left as found.
  *
- *   1  the lent tables do not have the opening's sizes, or hold counts, tills, types or classes out of range; an output is too short
- *   2  opening: sizes beyond the limits, or two type names or two shard keys alike
- *   3  opening: latency, jitter fraction or a rate out of range (NaN is)
+ *   1  a lent table does not have the opening's size, or holds what no accepted opening and no call leaves in it (see below); an
+ *      output is too short
+ *   2  opening: sizes beyond the limits (see below), or two type names or two shard keys alike
+ *   3  opening: latency above 60 s, a jitter fraction that is neither 0 nor 2^-20 to 1, or a rate outside 0 to 1 (NaN is)
  *   4  a till at or above the till count
  *   5  a type, class or shard out of range, a mask bit beyond the opening's types or shards, a tier above 3
  *   6  more than 65,536 wire bytes (a digest by itself: 65,700)
@@ -20,6 +21,30 @@
  *  12  no rule or block place is free, or 4,294,967,295 rules were installed
  *  13  the drop card is not exact
  *  14  the output has no row for some copy due
+ *
+ * Question 1 asks of each table that a call is lent, `setup` always among them:
+ *
+ *   setup    the length; sizes and regions within the limits, latency, fraction and rates within those of question 3
+ *   net      the length; no more waiting copies, rules and block windows than there are slots
+ *   names    the length; length bytes of at most 64 for the opening's types and of at most 16 for its shards
+ *   tills    the length; handler masks without a bit beyond the types, shard masks without one beyond the shards
+ *   words, keys, rules   the length alone: a rule may name a till or a type that does not exist
+ *   prices   the length; with a plan, bases of at most 160 ms, rates of at least 100,000,000 bytes a second, and for each till a
+ *            region below their number (0 regions act as 1)
+ *   seen     the length; no more marks of a till than its slots
+ *   waiting  the length; of each copy that waits, tills, type and class in range
+ *   rings    the length; of each ring a count of at most 64 and a first place below 64; of each message in it, the class in range
+ *            and at most 65,536 wire bytes
+ *   blocks   the length; of each window that stands, both tills in range
+ *   log      the length; a count of at most the capacity and a first place below it (without capacity, a count of 0); of each
+ *            record, tills, type and class in range
+ *
+ * It does not ask for the order of rows, nor for their times, sequences, ids, tags and shards, nor for what unused slots hold. The
+ * opening asks for the lengths alone, those of the key (32) and of the masks (one a till) too: it overwrites what it needs.
+ *
+ * The limits: 64 tills, 16 types with names of 64 bytes, 8 classes, 16 shards with keys of 16 bytes, 1 to 4,096 waiting slots, 1 to
+ * 4,096 seen slots a till, a log of 0 to 4,096 records, 0 to 16 regions. A limit is one of the number given, used or not: with
+ * `planned` 0 and 17 regions an opening is refused with 2.
  *
  * The tables, written by the calls alone: setup (the opening's numbers), net (counters), names (written by the caller before the
  * opening: for each of 16 types a length byte and 64 bytes, then for each of 16 shards a length byte and 16 bytes), tills, words
@@ -46,7 +71,7 @@ extern "C" {
 struct GossipNetworkConfig { uint64_t latency; double jitter, loss, duplicate, replay, spike; };
 /* sizes of an opening; seen slots a till, waiting slots, log capacity */
 struct GossipNetworkSizes { uint64_t tills, types, classes, shards, seen, waiting, log; };
-/* planned 0: no regions */
+/* planned 0: no regions, whatever `regions` says (up to 16) */
 struct GossipRegionPlan { uint64_t planned, regions, seed; };
 /* elements of each table */
 struct GossipTableSizes { uint64_t number, setup, net, names, tills, words, keys, prices, seen, waiting, rings, rules, blocks, log; };

@@ -1,5 +1,5 @@
 #!/usr/bin/env bash
-# Builds the archive of the crate leaves, links the benchmark and runs it.
+# Builds the archive of the crate bench_leaves, links the benchmark and runs it.
 set -eu
 cd "$(dirname "$0")/../.."
 rt staticlib bench_leaves >/dev/null

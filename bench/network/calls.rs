@@ -218,15 +218,18 @@ pub struct Network {
     pub out: Table<u64>,
 }
 
+/// How long each table is.
 pub fn table_sizes(sizes: NetworkSizes, plan: RegionPlan) -> TableSizes {
     unsafe { gossip_table_sizes(sizes, plan) }
 }
 
+/// BLAKE3 of the input.
 pub fn digest(input: &[u8]) -> Hashed {
     unsafe { gossip_digest(input.as_ptr(), input.len()) }
 }
 
 impl Network {
+    /// Tables of the sizes that the opening needs, and the opening in them; its number where it is refused.
     pub fn open(o: &Opening) -> Result<Network, u64> {
         let sizes = NetworkSizes {
             tills: o.masks.len() as u64,

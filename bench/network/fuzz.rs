@@ -39,6 +39,7 @@ impl Rng {
         let (in_range, any) = (self.below(n), self.number());
         self.pick(&[in_range, in_range, in_range, in_range, in_range, in_range, in_range, n, any])
     }
+    /// Soon, late, the latest, and later.
     fn time(&mut self) -> u64 {
         let (soon, late) = (self.below(1 << 26), self.below(1 << 60));
         self.pick(&[soon, soon, soon, soon, soon, late, 1 << 60, (1 << 60) + 1, u64::MAX])
@@ -53,7 +54,7 @@ impl Rng {
 // ---- openings
 
 /// What is wrong with an opening.
-#[derive(Clone, Copy, PartialEq)]
+#[derive(Clone, Copy, Debug, PartialEq)]
 enum Fault {
     None,
     Lengths,
@@ -173,6 +174,7 @@ fn spoil(r: &mut Rng, fault: Fault, o: &mut Opening, z: &mut NetworkSizes) {
 
 // ---- tables
 
+/// The tables of 64-bit numbers, and the output.
 fn tables(n: &mut Network) -> [(&'static str, &mut Table<u64>); 12] {
     [
         ("setup", &mut n.setup),
@@ -193,6 +195,7 @@ fn tables(n: &mut Network) -> [(&'static str, &mut Table<u64>); 12] {
 /// Every byte of every table, by name.
 type State = Vec<(&'static str, Vec<u8>)>;
 
+/// All that a call could write, or leave.
 fn state(n: &mut Network) -> State {
     let mut all: State = tables(n).iter().map(|(name, t)| (*name, t.bytes().to_vec())).collect();
     all.push(("names", n.names.bytes().to_vec()));
@@ -240,6 +243,7 @@ fn aim(r: &mut Rng, n: &mut Network) {
     }
 }
 
+/// The tables as they were before they were damaged.
 fn put_back(n: &mut Network, before: &State) {
     let cells = |bytes: &[u8]| -> Vec<u64> { bytes.chunks(8).map(|c| u64::from_ne_bytes(c.try_into().expect("eight bytes"))).collect() };
     for ((_, t), (_, bytes)) in tables(n).into_iter().zip(before) {
@@ -270,6 +274,7 @@ fn some_bytes(r: &mut Rng, len: usize) -> Table<u8> {
     (0..len as u64).map(|i| (x.rotate_right(i as u32 % 64) ^ i) as u8).collect::<Vec<u8>>().into()
 }
 
+/// Any entry; one that does not open must change nothing.
 fn accept(r: &mut Rng, n: &mut Network) -> Vec<u64> {
     let z = n.sizes;
     let len = r.pick(&[0, 1, 1, 30, 30, 300, 300, 65_536, 65_537, 70_000]);
@@ -313,6 +318,7 @@ fn lend_output(r: &mut Rng, n: &mut Network, rows: u64, width: u64) {
     n.out = vec![UNWRITTEN; len as usize].into();
 }
 
+/// A flush with an output for what waits.
 fn flush(r: &mut Rng, n: &mut Network) -> Vec<u64> {
     let waiting = n.net.get(calls::WAITING).copied().unwrap_or(0).min(4096);
     lend_output(r, n, waiting, calls::ROW as u64);
@@ -320,6 +326,7 @@ fn flush(r: &mut Rng, n: &mut Network) -> Vec<u64> {
     words(&n.flush_to(r.time(), len))
 }
 
+/// The lengths must be those counted here, and zeros beyond the limits.
 fn table_sizes(r: &mut Rng) -> Vec<u64> {
     let (mut o, mut z) = opening(r);
     match r.below(3) {
@@ -334,6 +341,7 @@ fn table_sizes(r: &mut Rng) -> Vec<u64> {
     vec![number.first().copied().unwrap_or(0)]
 }
 
+/// Inputs on both sides of the longest.
 fn digest(r: &mut Rng) -> Vec<u64> {
     let len = r.pick(&[0, 1, 64, 1024, 1025, 4096, 65_700, 65_701, 70_000]);
     let input = some_bytes(r, len);
@@ -430,6 +438,15 @@ impl Run {
         let reply = words(&n.open_in(&o, &key, &masks));
         assert!((key.to_vec(), masks.to_vec()) == held, "the opening wrote its key or its masks");
         let after = state(&mut n);
+        let wanted = match fault {
+            Fault::None => 0,
+            Fault::Limits | Fault::Names => 2,
+            Fault::Ranges => 3,
+            Fault::Masks => 5,
+            // a number in a table is no wrong length
+            Fault::Lengths => reply[0].min(1),
+        };
+        assert_eq!(reply[0], wanted, "{fault:?}: {sizes:?} {o:?}");
         self.check("open", &reply, &before, &after);
         (reply[0] == 0).then_some(n)
     }
@@ -493,6 +510,7 @@ fn touch(place: &str) {
     println!("read {}", unsafe { at.read_volatile() });
 }
 
+/// Openings, and calls on each that is accepted.
 fn main() {
     let args: Vec<String> = std::env::args().skip(1).collect();
     if let [word, place] = &args[..] {

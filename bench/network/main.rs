@@ -5,6 +5,7 @@ use std::io::{BufRead, Write};
 
 type Table<T> = Vec<T>;
 
+/// Each line with its answer.
 fn main() {
     let stdin = std::io::stdin().lock();
     let mut stdout = std::io::BufWriter::new(std::io::stdout().lock());

@@ -43,6 +43,7 @@ fn unhex(word: &str) -> Option<Vec<u8>> {
     pairs.map(|p| Some(hexadecimal(p?)? as u8)).collect()
 }
 
+/// `x` and digits, or a length, `*` and the byte that fills it.
 fn bytes(word: &str) -> Option<Vec<u8>> {
     if let Some(digits) = word.strip_prefix('x') {
         return unhex(digits);
@@ -54,6 +55,7 @@ fn bytes(word: &str) -> Option<Vec<u8>> {
     }
 }
 
+/// `g`, or `s` and a shard.
 fn target(word: &str) -> Option<u64> {
     match word.strip_prefix('s') {
         Some(shard) => decimal(shard).map(|s| if s < SHARDS { s } else { NOWHERE }),
@@ -100,6 +102,7 @@ struct Line<'a> {
     bytes: Vec<u8>,
 }
 
+/// What a word of a kind stands for; bytes go to `room`.
 fn value(kind: u8, word: &str, room: &mut Vec<u8>) -> Option<u64> {
     match kind {
         b'd' => decimal(word),
@@ -150,6 +153,7 @@ fn text(part: &str) -> Option<Vec<u8>> {
     if part == "-" { Some(Vec::new()) } else { unhex(part).filter(|t| !t.is_empty()) }
 }
 
+/// `none`, or a number of regions and a seed.
 fn plan(value: &str) -> Option<RegionPlan> {
     if value == "none" {
         return Some(RegionPlan { planned: 0, regions: 0, seed: 0 });
@@ -169,6 +173,7 @@ fn spread_key(seed: u64) -> [u8; 32] {
     key
 }
 
+/// The opening of a line.
 fn opening(words: &[&str]) -> Option<Opening> {
     let f = fields(words)?;
     let rate = |k: &str| float_bits(f[k]).map(f64::from_bits);
@@ -227,6 +232,7 @@ fn valued(o: &mut String, call: &str, number: u64, text: impl std::fmt::Display)
     let _ = if number == 0 { writeln!(o, "{call} {text}") } else { writeln!(o, "{call} refused {number}") };
 }
 
+/// The rows that a flush gave stand among the copies that were due: the others were dropped.
 fn flush(n: &mut Network, now: u64, rows: u64, o: &mut String) {
     let count = n.net[calls::WAITING] as usize;
     let due: Vec<Vec<u64>> = n.waiting[..count * COPY].chunks(COPY).filter(|c| c[5] <= now).map(<[u64]>::to_vec).collect();
@@ -247,6 +253,7 @@ fn flush(n: &mut Network, now: u64, rows: u64, o: &mut String) {
     assert!(landed.next().is_none(), "every row is a due copy, in order");
 }
 
+/// Counts, tallies and records.
 fn drain(n: &mut Network, o: &mut String) {
     let d = n.drain();
     if d.number != 0 {
@@ -259,6 +266,7 @@ fn drain(n: &mut Network, o: &mut String) {
     }
 }
 
+/// The marks of a till.
 fn seen(n: &mut Network, t: u64, o: &mut String) {
     let v = n.marks(t);
     if v.number != 0 {
@@ -268,6 +276,7 @@ fn seen(n: &mut Network, t: u64, o: &mut String) {
     let _ = writeln!(o, "seen {t} {}{ids}", v.count);
 }
 
+/// The waiting copies.
 fn waiting(n: &mut Network, o: &mut String) {
     let v = n.waiting();
     if v.number != 0 {
@@ -277,6 +286,7 @@ fn waiting(n: &mut Network, o: &mut String) {
     n.out[..v.count as usize * COPY].chunks(COPY).for_each(|c| _ = writeln!(o, "copy {}", copy(c)));
 }
 
+/// Counts, id, sequence and how many wait.
 fn accept(n: &mut Network, l: &Line, o: &mut String) {
     let [from, now, kind, class, to, _, opens, tag] = l.v[..] else { unreachable!("eight words") };
     let a = n.accept(from, now, kind, class, to, &l.bytes, opens, tag);
@@ -290,6 +300,7 @@ fn accept(n: &mut Network, l: &Line, o: &mut String) {
 
 // ---- readings of the tables themselves, which the wrapper owns
 
+/// The rings that are not empty.
 fn rings(n: &Network, o: &mut String) {
     let rings = n.sizes.types as usize * 17;
     let mut found = BTreeMap::new();
@@ -309,6 +320,7 @@ fn rings(n: &Network, o: &mut String) {
     found.values().for_each(|line| _ = writeln!(o, "{line}"));
 }
 
+/// One table.
 fn table(n: &Network, part: &str, o: &mut String) {
     match part {
         "tills" => {
@@ -389,6 +401,7 @@ fn plain(n: &mut Network, l: &Line) -> Option<u64> {
     })
 }
 
+/// The digest of bytes.
 fn digest(input: &[u8], o: &mut String) {
     let d = calls::digest(input);
     let words: String = d.words.iter().map(|w| format!("{:08x}", w.swap_bytes())).collect();
@@ -422,6 +435,7 @@ fn value_call(n: &mut Network, l: &Line, o: &mut String) -> Option<()> {
     Some(())
 }
 
+/// Makes one call; `None` for what no line can say.
 fn exec(n: &mut Network, l: &Line, o: &mut String) -> Option<()> {
     match l.call {
         "accept" => accept(n, l, o),
@@ -449,6 +463,7 @@ fn exec(n: &mut Network, l: &Line, o: &mut String) -> Option<()> {
     Some(())
 }
 
+/// An opening takes the place of the network before it, where it is accepted.
 fn open(network: &mut Option<Network>, words: &[&str], o: &mut String) -> Option<()> {
     let opening = opening(words)?;
     let number = if within_limits(&opening) { Network::open(&opening).map(|n| *network = Some(n)).err().unwrap_or(0) } else { BEYOND };

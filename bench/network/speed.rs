@@ -76,6 +76,7 @@ impl Side for Driver {
     }
 }
 
+/// A case, opened through the archive.
 fn archive(c: &Case) -> Network {
     let r = c.rates;
     let mut net = Network::open(&Opening {
@@ -95,6 +96,7 @@ fn archive(c: &Case) -> Network {
     net
 }
 
+/// The same case, opened in the original.
 fn original(c: &Case) -> Driver {
     let bits = |x: f64| format!("{:016x}", x.to_bits());
     let r = c.rates.map(bits);
@@ -137,6 +139,7 @@ fn measured(net: &mut dyn Side, c: &Case, n: u64) -> Counts {
     (sent, other, handled + net.flush(1 << 60))
 }
 
+/// Microseconds a message, and the counts.
 fn timed(net: &mut dyn Side, c: &Case, n: u64) -> (f64, Counts) {
     let start = cpu();
     let counts = measured(net, c, n);
@@ -156,6 +159,7 @@ fn agreed(c: &Case, ours: Counts, theirs: Counts) -> Counts {
     ours
 }
 
+/// Each case once on each side.
 fn count(n: u64) {
     for c in &CASES {
         agreed(c, measured(&mut archive(c), c, n), measured(&mut original(c), c, n));
@@ -163,6 +167,7 @@ fn count(n: u64) {
     }
 }
 
+/// The rounds, then a line for each case.
 fn main() {
     let args: Vec<String> = std::env::args().skip(1).collect();
     let number = |i: usize, or: u64| args.get(i).map_or(or, |a| a.parse().expect("a number"));

@@ -16,6 +16,7 @@ fn key(hex: &str) -> [u32; 8] {
     std::array::from_fn(|i| u32::from_str_radix(&hex[8 * i..8 * i + 8], 16).expect("a key").swap_bytes())
 }
 
+/// Each line with its draws.
 fn main() {
     for line in std::io::stdin().lock().lines() {
         let line = line.expect("standard input");

@@ -2,6 +2,7 @@
 use hyperscale_network_memory::driver::answer;
 use std::io::{BufRead, BufWriter, Write};
 
+/// Each line with its answer.
 fn main() {
     let mut out = BufWriter::new(std::io::stdout().lock());
     let mut driver = None;

@@ -30,6 +30,7 @@ impl Edges {
         self.ask(&opening(latency, jitter), "open ok");
     }
 
+    /// A line, and what one of its answer lines must have.
     fn ask(&mut self, line: &str, wanted: &str) {
         self.asked += 1;
         let told = answer(&mut self.driver, line, self.asked);
@@ -41,12 +42,14 @@ impl Edges {
         }
     }
 
+    /// The same with set draws.
     fn ask_drawn(&mut self, draws: &[u64], line: &str, wanted: &str) {
         set_draws(draws);
         self.ask(line, wanted);
         set_draws(&[]);
     }
 
+    /// Windows hold their start and not their end; `unblock` takes them all.
     fn windows(&mut self) {
         self.open(150_000_000, 0.1);
         self.ask("blockd 0 1 5 8", "ok");
@@ -64,12 +67,14 @@ impl Edges {
         self.ask("isblocked 2 1 6", "isblocked 0");
     }
 
+    /// Times on the wire.
     fn wire_times(&mut self) {
         self.ask("wire 1000000000 1000", "wire 1000");
         self.ask("wire 100000000 65536", "wire 655360");
         self.ask("wire 10000000000 1", "wire 0");
     }
 
+    /// Three tills, the third down.
     fn third_till_down(&mut self) {
         self.open(150_000_000, 0.0);
         self.ask("down 2", "ok");
@@ -107,6 +112,7 @@ impl Edges {
         self.ask("fired 0", "gone");
     }
 
+    /// Cards that are not exact, and one that is.
     fn cards(&mut self) {
         for card in ["x", "x40", "x80", "x01", "x0100ff", "x0804", "x20000000000000000000000000000000"] {
             self.ask(&format!("install {card}"), "refused 13");
@@ -114,6 +120,7 @@ impl Edges {
         self.ask("install x0803", "install id=1");
     }
 
+    /// The floor, and the ends of the jitter.
     fn latencies(&mut self) {
         let one = format!("latency {ZERO_KEY} 0 0 1 100 1");
         for (base, jitter) in [(0, 0.1), (999_999, 0.0)] {
@@ -125,6 +132,7 @@ impl Edges {
         self.ask_drawn(&[1 << 63], &one, "latency 150000000 words=2");
     }
 
+    /// Fractions, and whole ranges with and without a second draw.
     fn draws(&mut self) {
         let fraction = format!("draw fraction {ZERO_KEY} 0 1");
         self.ask_drawn(&[0], &fraction, "fraction 0000000000000000 words=2");
@@ -141,6 +149,7 @@ impl Edges {
     }
 }
 
+/// All of them, then how many were wrong.
 fn main() {
     let mut e = Edges::default();
     e.windows();

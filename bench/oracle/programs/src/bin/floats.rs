@@ -5,6 +5,7 @@ use rand_chacha::ChaCha8Rng;
 
 const ROUNDS: u32 = 1_000_000;
 
+/// Both draw from the same stream.
 fn main() {
     let mut here = ChaCha8Rng::from_seed([9; 32]);
     let mut there = here.clone();

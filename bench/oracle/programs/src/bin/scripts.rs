@@ -72,6 +72,7 @@ struct Writer {
 }
 
 impl Writer {
+    /// Nothing written yet.
     fn new(seed: u64) -> Self {
         Writer {
             dice: Dice(seed),
@@ -154,6 +155,7 @@ impl Writer {
         bits(self.dice.pick(&choices))
     }
 
+    /// No regions, or a plan.
     fn plan(&mut self) -> String {
         if !self.dice.in_hundred(40) {
             return "none".to_string();
@@ -162,6 +164,7 @@ impl Writer {
         format!("{}:{seed}", self.dice.pick(&[0, 1, 2, 3, 8, 16]))
     }
 
+    /// An opening of any size, and handlers for most tills.
     fn open(&mut self) {
         self.tills = self.dice.pick(&[1, 2, 3, 3, 4, 5, 8, 12, 33, 64, 64]);
         self.types = self.dice.pick(&[1, 2, 3, 4, 16]);
@@ -197,6 +200,7 @@ impl Writer {
         }
     }
 
+    /// All types, none, or some.
     fn handlers(&mut self, t: u64) {
         let every = (1u64 << self.types) - 1;
         let (a, b) = (self.dice.next() & every, self.dice.next() & every);
@@ -204,6 +208,7 @@ impl Writer {
         self.say(format!("handlers {t} {gossip:x} {host:x}"));
     }
 
+    /// Bytes of lengths at the edges of blocks, chunks and limits.
     fn wire(&mut self) -> String {
         match self.dice.below(6) {
             0 => "x".to_string(),
@@ -216,6 +221,7 @@ impl Writer {
         }
     }
 
+    /// All tills, or a shard.
     fn target(&mut self, global: u64) -> String {
         if self.shards == 0 || self.dice.in_hundred(global) {
             return "g".to_string();
@@ -261,6 +267,7 @@ impl Writer {
         }
     }
 
+    /// Sends a message, where there is room for its copies.
     fn accept(&mut self) {
         self.make_room();
         if !self.has_room() {
@@ -291,6 +298,7 @@ impl Writer {
         self.dice.pick(&[(at, at + 1), (before, at), (at + 1, at + 1 + d), (before, at + d), (at, at), (at + d, at), (0, u64::MAX), (at, at + d)])
     }
 
+    /// Now, at a copy, just before the first, or behind the last.
     fn flush(&mut self) {
         let waiting = self.network().waiting();
         let first = waiting.first().map_or(self.now, |c| c.time);
@@ -303,18 +311,21 @@ impl Writer {
         self.say(format!("flush {at}"));
     }
 
+    /// Time goes on, and now and then back.
     fn pass_time(&mut self) {
         let step = self.dice.pick(&[0, 1, 1_000_000, 40_000_000, self.latency, SECOND]);
         let back = self.dice.in_hundred(8);
         self.now = if back { self.now.saturating_sub(step) } else { (self.now + step).min(LATEST) };
     }
 
+    /// A till that copies are on their way to.
     fn take_down(&mut self) {
         let t = self.spot().1;
         self.say(format!("down {t}"));
         self.down.push(t);
     }
 
+    /// A till that is down, with some shards.
     fn bring_up(&mut self) {
         let t = if self.down.is_empty() || self.dice.in_hundred(10) {
             self.dice.below(self.tills)
@@ -329,6 +340,7 @@ impl Writer {
         }
     }
 
+    /// A pair, for ever or for a window.
     fn block(&mut self) {
         let (a, b, at) = self.spot();
         if self.network().window_count() >= 256 {
@@ -353,6 +365,7 @@ impl Writer {
         map
     }
 
+    /// Inside 0..1, outside, and no number.
     fn probability(&mut self) -> f64 {
         let (f, any) = (self.dice.fraction(), f64::from_bits(self.dice.next()));
         let ends = [0.0, -0.0, 1.0, 0.5, 5e-324, 2.5, -3.0, f64::NAN, -f64::NAN, f64::INFINITY, f64::NEG_INFINITY];
@@ -366,6 +379,7 @@ impl Writer {
         if self.dice.in_hundred(5) { any } else { t as u32 }.to_le_bytes()
     }
 
+    /// A card that is exact.
     fn card(&mut self) -> Vec<u8> {
         let ((from, to, at), map) = (self.spot(), self.card_map());
         let mut card = vec![map];
@@ -393,6 +407,7 @@ impl Writer {
         card
     }
 
+    /// A card, now and then one that is not exact.
     fn install(&mut self) {
         let mut card = self.card();
         // not exact: a byte too many, one too few, a bit that means nothing
@@ -407,6 +422,7 @@ impl Writer {
         self.installed += u64::from(told.contains("id="));
     }
 
+    /// A message for the rules.
     fn decide(&mut self) {
         let (a, b, at) = self.spot();
         let at = if self.dice.in_hundred(50) { self.now } else { at.min(LATEST) };
@@ -414,6 +430,7 @@ impl Writer {
         self.say(format!("decide {a} {b} {kind} {tier} {at}"));
     }
 
+    /// What the plan says of two tills.
     fn geography(&mut self) {
         let (a, b, bytes) = (self.dice.below(self.tills), self.dice.below(self.tills), self.dice.below(65_537));
         self.say(format!("region {a}"));
@@ -421,6 +438,7 @@ impl Writer {
         self.say(format!("transmission {a} {b} {bytes}"));
     }
 
+    /// Latencies on a stream of their own.
     fn latencies(&mut self) {
         let (key, words, a, b) = (self.dice.digits(32), self.dice.below(5000), self.dice.below(self.tills), self.dice.below(self.tills));
         let bytes = self.dice.pick(&[0, 1, 1000, 65_536]);
@@ -454,6 +472,13 @@ impl Writer {
                 self.say(format!("{call} {id}"));
             }
             88..92 => self.decide(),
+            k => self.look_around(k, should),
+        }
+    }
+
+    /// A reading, a draw, or another opening.
+    fn look_around(&mut self, k: u64, should: bool) {
+        match k {
             92 => {
                 let t = self.dice.below(self.tills);
                 self.say(format!("transit {t}"));
@@ -475,6 +500,7 @@ impl Writer {
         }
     }
 
+    /// The whole script; at its end all that can land does.
     fn write(&mut self, calls: u64, should: bool) {
         self.open();
         for _ in 0..calls {
@@ -490,6 +516,7 @@ impl Writer {
     }
 }
 
+/// The scripts, and what was met.
 fn main() {
     let args: Vec<String> = std::env::args().skip(1).collect();
     let number = |i: usize| args.get(i).and_then(|a| a.parse::<u64>().ok());

@@ -73,6 +73,7 @@ impl Driver {
         self.names.iter().position(|n| *n == name).expect("a type of the opening")
     }
 
+    /// A waiting copy of the original.
     fn copied(&self, copy: &ScheduledGossip) -> Copied {
         let r = &copy.record;
         Copied {
@@ -122,6 +123,7 @@ impl Driver {
         stats
     }
 
+    /// `g`, or a shard of the opening.
     fn target(&self, word: &str) -> Option<BroadcastTarget> {
         match word.strip_prefix('s') {
             Some(shard) => self.shards.get(number::<usize>(shard)?).map(|s| BroadcastTarget::Shard(*s)),
@@ -129,6 +131,7 @@ impl Driver {
         }
     }
 
+    /// Sends an entry and tells its counts.
     fn accept(&mut self, w: [&str; 8], o: &mut String) -> Option<()> {
         let [from, now, kind, class, to, wire, opens, tag] = w;
         let entry = OutboxEntry {

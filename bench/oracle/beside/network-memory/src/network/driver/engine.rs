@@ -57,6 +57,7 @@ fn spec(mut card: &[u8], names: &[&'static str]) -> Option<DropSpec> {
 }
 
 impl Driver {
+    /// The calls on pairs of tills.
     pub fn block_call(&mut self, call: &str, w: &[&str], o: &mut String) -> Option<()> {
         let faults = &mut self.net.faults;
         match (call, w) {
@@ -76,6 +77,7 @@ impl Driver {
         Some(())
     }
 
+    /// A rule by its card.
     fn install(&mut self, card: &[u8], o: &mut String) {
         let Some(spec) = spec(card, &self.names) else {
             o.push_str("install refused 13\n");
@@ -95,6 +97,7 @@ impl Driver {
         }
     }
 
+    /// What the rules say of a message.
     fn decide(&mut self, w: [&str; 5], o: &mut String) -> Option<()> {
         let [from, to, kind, t, now] = w;
         let message = MessageContext {
@@ -108,6 +111,7 @@ impl Driver {
         Some(())
     }
 
+    /// The calls on rules.
     pub fn rule_call(&mut self, call: &str, w: &[&str], o: &mut String) -> Option<()> {
         match (call, w) {
             ("install", [card]) => self.install(&bytes(card)?, o),

@@ -106,6 +106,7 @@ impl Driver {
         ends == (c.from, c.to, c.kind, c.class) && rest == (c.sent, c.time, c.shard, c.wire)
     }
 
+    /// Flushes, and tells of each copy that was due what became of it.
     pub fn flush(&mut self, now: u64, o: &mut String) -> Option<()> {
         let due: Vec<Copied> = self.waiting().into_iter().take_while(|c| c.time <= now).collect();
         self.heard.lock().unwrap().clear();

@@ -35,6 +35,7 @@ fn drawing<'a>(kind: &str, w: &[&'a str]) -> Option<(Drawing, &'a str)> {
     })
 }
 
+/// Draws on a stream of their own.
 fn draw(w: &[&str], o: &mut String) -> Option<()> {
     let [kind, k, words, rest @ ..] = w else { return None };
     let mut rng = stream(k, words)?;

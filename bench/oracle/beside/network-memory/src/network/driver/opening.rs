@@ -29,6 +29,7 @@ impl<'a> Fields<'a> {
         self.parts(key)?.into_iter().map(|part| if part == "-" { Some(Vec::new()) } else { digits(part) }).collect()
     }
 
+    /// The plan of regions, if there is one.
     fn plan(&self) -> Option<Option<RegionPlan>> {
         let value = *self.0.get("regions")?;
         if value == "none" {
@@ -38,6 +39,7 @@ impl<'a> Fields<'a> {
         Some(Some(RegionPlan { regions: number(regions)?, seed: number(seed)? }))
     }
 
+    /// Latency and rates.
     fn config(&self) -> Option<NetworkConfig> {
         Some(NetworkConfig {
             latency: time(self.number("lat")?),
@@ -60,6 +62,7 @@ fn shard((i, key): (usize, Vec<u8>)) -> Option<ShardId> {
     (key.len() <= 16).then(|| ShardId::of_key(i as u8, &key))
 }
 
+/// A network of the original; `None` where the words say none.
 pub fn open(words: &[&str]) -> Option<Driver> {
     let f = Fields::of(words)?;
     let names: Vec<&'static str> = f.texts("types")?.into_iter().map(kept).collect::<Option<_>>()?;

@@ -5,6 +5,7 @@ use super::*;
 const STATE: [&str; 7] = ["tills", "blocks", "rules", "words", "rings", "seen", "waiting"];
 
 impl Driver {
+    /// Counts, tallies and records of the log.
     fn drain(&mut self, o: &mut String) {
         let d = self.net.drain_deliveries();
         let tallies: Vec<String> = d.by_class.iter().map(|t| format!("{}:{}", t.deliveries, t.bytes)).collect();
@@ -16,6 +17,7 @@ impl Driver {
         }
     }
 
+    /// The marks of a till.
     fn seen(&self, till: usize, o: &mut String) {
         let ids: BTreeSet<u64> = self.net.gossip_seen[till].iter().copied().collect();
         let _ = write!(o, "seen {till} {}", ids.len());
@@ -23,12 +25,14 @@ impl Driver {
         o.push('\n');
     }
 
+    /// The waiting copies.
     fn copies(&self, o: &mut String) {
         let all = self.waiting();
         let _ = writeln!(o, "waiting {}", all.len());
         all.into_iter().for_each(|c| _ = writeln!(o, "copy {c}"));
     }
 
+    /// The words that the streams have given.
     fn words(&self, o: &mut String) {
         let _ = writeln!(o, "words fault={}", self.net.faults.words());
         for (from, to, words) in self.streams.words().filter(|w| w.2 > 0) {
@@ -52,12 +56,14 @@ impl Driver {
         lines.values().for_each(|line| _ = writeln!(o, "{line}"));
     }
 
+    /// Each rule and how often it fired.
     fn rules(&self, o: &mut String) {
         let _ = write!(o, "rules {}", self.rule_count());
         self.net.faults.rules().for_each(|(id, fired)| _ = write!(o, " {id}:{fired}"));
         o.push('\n');
     }
 
+    /// Each till: up or down, shards, handlers.
     fn tills(&self, o: &mut String) {
         o.push_str("tills");
         for (t, registry) in self.net.registries.iter().enumerate() {
@@ -73,6 +79,7 @@ impl Driver {
         o.push('\n');
     }
 
+    /// The calls that read.
     pub fn reading(&mut self, call: &str, w: &[&str], o: &mut String) -> Option<()> {
         match (call, w) {
             ("drain", []) => self.drain(o),

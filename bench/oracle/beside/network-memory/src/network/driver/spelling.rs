@@ -21,6 +21,7 @@ pub fn float(word: &str) -> Option<f64> {
     hexadecimal(word).filter(|_| word.len() == 16).map(f64::from_bits)
 }
 
+/// 1 or 0.
 pub fn flag(word: &str) -> Option<bool> {
     match word {
         "0" => Some(false),

@@ -20,6 +20,7 @@ impl Engine {
         self.rules.iter().map(|rule| (rule.id, rule.fired.load(Relaxed)))
     }
 
+    /// A fired count anew.
     pub fn set_fired(&self, id: u64, fired: u64) {
         if let Some(rule) = self.rules.iter().find(|rule| rule.id == id) {
             rule.fired.store(fired, Relaxed);
