@@ -1,5 +1,5 @@
 -- Computed runs, on the tables: document 01's tempting errors and edges, which the theorem alone would not see where book and tables err alike.
--- Draws here are toys, so that each run is short: a fraction is a percentage that follows from the word count. The crate `runs` has runs with the real ones.
+-- Draws here are toys, so that each run is short: a fraction is a percentage that follows from the word count. The crate `spec_runs` has runs with the real ones.
 use mathlib.Core.Path.{_≡_, refl}
 use Prim.Native.Nat.{ℕ, suc, _+_, _*_, _%_}
 use mathlib.Core.Bool.{Bool, true, false, cond, not}
