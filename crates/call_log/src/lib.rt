@@ -65,6 +65,7 @@ fn tally_refusal(setup: &[u64], log: &[u64], class: u64) -> u64
     0
 }
 
+// The reply of a drain that was refused.
 fn refused(number: u64) -> Drained
     ensures { λ r. ⌜ r ≡ noDrain number ⌝ }
 {
@@ -86,6 +87,7 @@ fn tallies(log: &[u64]) -> [u64; TALLY_CELLS]
     v
 }
 
+// The reply of a tally that was refused.
 fn untold(number: u64) -> Tallied
     ensures { λ r. ⌜ r ≡ noTallies number ⌝ }
 {

@@ -145,9 +145,12 @@ pub fn flush(
     )
 }
 
+// How many classes have tallies.
+const CLASSES: usize = call_log::TALLY_CELLS / 2;
+
 // Deliveries and bytes of a class, after a comma where another stands before it.
 fn tally(text: &mut [u8], used: usize, v: [u64; call_log::TALLY_CELLS], i: usize) -> usize {
-    if 8 <= i {
+    if CLASSES <= i {
         return used;
     }
     let deliveries = v[2 * i];
@@ -164,7 +167,7 @@ fn tally(text: &mut [u8], used: usize, v: [u64; call_log::TALLY_CELLS], i: usize
 fn tally_list(text: &mut [u8], used: usize, v: [u64; call_log::TALLY_CELLS]) -> usize {
     let mut u = used;
     let mut i: usize = 0;
-    while i < 8 {
+    while i < CLASSES {
         u = tally(text, u, v, i);
         i += 1;
     }
