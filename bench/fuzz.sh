@@ -8,11 +8,12 @@ calls=${1:-100000} seed=${2:-1}
 rt staticlib gossip >/dev/null
 rustc --edition 2024 -O -o target/bench-fuzz bench/network/fuzz.rs -L target/staticlib -l static=gossip
 for place in before behind; do
-    if (ulimit -c 0; target/bench-fuzz touch $place) >/dev/null 2>&1; then
+    if bash -c "ulimit -c 0; target/bench-fuzz touch $place; exit \$?" >/dev/null 2>&1; then
         echo "the guard pages do not hold: a read $place a slice went through"
         exit 1
     fi
 done
+echo "guard pages: a read of one element before a slice, or behind it, ends the program"
 target/bench-fuzz "$calls" "$seed"
 if command -v valgrind >/dev/null; then
     echo "under valgrind:"
