@@ -19,7 +19,7 @@ use Rattle.table_waiting.specs.Waiting.{copies, onTime}
 use Rattle.spec_network.specs.Lists.{count}
 use Rattle.spec_network.specs.Opening.{latestNow}
 use Rattle.spec_network.specs.Live.{Live}
-use Rattle.spec_network.specs.Flush.{stops, rowOf, lands, rowsOf, dropsOf, handled, due}
+use Rattle.spec_network.specs.Flush.{stops, rowOf, lands, rowsOf, dropsOf, handled, served}
 use Rattle.spec_network.specs.Calls.{flush, movedBy}
 use Rattle.spec_network.specs.Tables.{Tables, cell, live, sizesAt, setupWidth, netWidth, waitingAt, blocksAt}
 use Rattle.spec_network.specs.Writes.{Reply, rowWidth, rowWords, outputOf, callReply}
@@ -250,14 +250,14 @@ module _ (T : Tables) (s n t e w b l : List ℕ) where
 
 module _ (s n n′ t e e′ w w′ b l l′ out out′ : List ℕ) (now k : ℕ) (ek : k ≡ dueCount n w now) (h : Held s n t e w b l) (r : Flushed) (d : Worked (extentsAt s n) k n n′ t e e′ w w′ b l l′ out out′ r) where
   module _ (T : Tables) where
-    is-due : k ≡ length (due now (live (sizesAt s) (lend T s n t e w b l)))
+    is-due : k ≡ length (served now (length out / rowWidth) (live (sizesAt s) (lend T s n t e w b l)))
     unfolding dueCount
     is-due = ek
 
     cs : List Copy
     cs = copies w k
 
-    first : due now (live (sizesAt s) (lend T s n t e w b l)) ≡ copies w k
+    first : served now (length out / rowWidth) (live (sizesAt s) (lend T s n t e w b l)) ≡ copies w k
     unfolding dueCount
     first = due-first w (cell n waitingAt) now k ek
 
@@ -275,7 +275,7 @@ module _ (s n n′ t e e′ w w′ b l l′ out out′ : List ℕ) (now k : ℕ)
       let one = first T in (
         d .reply ∙ ap flushedBy (same-moved T s n t e w b l (copies w k)) ∙ counts T s n t e w b l (copies w k)
             ∙ sym (ap flushedOf told ∙ (λ j. flushedOf (record { number = 0; answer = movedBy (rowsOf L (one j)) (dropsOf L (one j)) }))),
-        reply.steps T₀ (flushCall out now) 0 same refl ∙ flush-tables (sizesAt s) T₀ now k (is-due T) (each-near s n t e w b l h now k ek) ∙ tables T,
+        reply.steps T₀ (flushCall out now) 0 same refl ∙ flush-tables (sizesAt s) T₀ now (length out / rowWidth) k (is-due T) (each-near s n t e w b l h now k ek) ∙ tables T,
         d .out ∙ same-written T s n t e w b l (copies w k) out ∙ written-front L (copies w k) out
             ∙ sym (ap (λ (a : Reply). outputOf (a .answer) ++ drop (length (outputOf (a .answer))) out) told ∙ (λ j. let new = flat rowWords (rowsOf L (one j)) in new ++ drop (length new) out)),
       )

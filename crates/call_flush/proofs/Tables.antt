@@ -19,7 +19,7 @@ use Rattle.table_waiting.specs.Waiting as waiting
 use Rattle.table_waiting.specs.Waiting.{copies, onTime}
 use Rattle.spec_network.specs.Opening.{Sizes}
 use Rattle.spec_network.specs.Live.{Live, isOriginal, idsAt}
-use Rattle.spec_network.specs.Flush.{stops, lands, rowsOf, due, later}
+use Rattle.spec_network.specs.Flush.{stops, lands, rowsOf, served, later}
 use Rattle.spec_network.specs.Tables.{Tables, cell, live, idsStart, waitingAt}
 use Rattle.spec_network.specs.Writes.{rowWords, setSeen, setLog, setWaiting, setNet, marksT, clearT, recordAllT, flushT}
 use Rattle.call_flush_pass.specs.Pass.{unmarked, clearedOne, clearedBy, cleared, recorded, rowForm, written}
@@ -91,18 +91,18 @@ written-front s cs out = ap (λ (i : ℕ). flat rowWords (rowsOf s cs) ++ drop i
 
 -- ---- All tables
 
-module _ (z : Sizes) (T : Tables) (now k : ℕ) (e : k ≡ length (due now (live z T))) (near : Each (λ (c : Copy). c .delivery .to < z .tills) (copies (T .waiting) k)) where
+module _ (z : Sizes) (T : Tables) (now rows k : ℕ) (e : k ≡ length (served now rows (live z T))) (near : Each (λ (c : Copy). c .delivery .to < z .tills) (copies (T .waiting) k)) where
   n : ℕ
   n = cell (T .net) waitingAt
 
-  pub flush-tables : flushT z T now
+  pub flush-tables : flushT z T now rows
       ≡ setLog (setWaiting (setNet (setSeen T (cleared (z .tills) (z .seenSlots) (live z T) (copies (T .waiting) k) (T .seen))) (set (T .net) waitingAt (cell (T .net) waitingAt - k))) (over waiting.form (drop k (copies (T .waiting) (cell (T .net) waitingAt))) (T .waiting)))
       (recorded (z .logSlots) (lands (live z T) (copies (T .waiting) k)) (T .log))
   flush-tables =
       let N : ℕ = cell (T .net) waitingAt in
       let s = live z T in
-      let first : due now s ≡ copies (T .waiting) k = due-first (T .waiting) N now k e in
-      (λ j. let T₁ = clearT z s (first j) T in recordAllT z (setWaiting (setNet T₁ (set (T₁ .net) waitingAt (length (later now s)))) (over waiting.form (later now s) (T₁ .waiting))) (lands s (first j)))
-      ∙ ap (λ (T₁ : Tables). recordAllT z (setWaiting (setNet T₁ (set (T₁ .net) waitingAt (length (later now s)))) (over waiting.form (later now s) (T₁ .waiting))) (lands s (copies (T .waiting) k))) (clears z s (copies (T .waiting) k) T near)
+      let first : served now rows s ≡ copies (T .waiting) k = due-first (T .waiting) N now k e in
+      (λ j. let T₁ = clearT z s (first j) T in recordAllT z (setWaiting (setNet T₁ (set (T₁ .net) waitingAt (length (later now rows s)))) (over waiting.form (later now rows s) (T₁ .waiting))) (lands s (first j)))
+      ∙ ap (λ (T₁ : Tables). recordAllT z (setWaiting (setNet T₁ (set (T₁ .net) waitingAt (length (later now rows s)))) (over waiting.form (later now rows s) (T₁ .waiting))) (lands s (copies (T .waiting) k))) (clears z s (copies (T .waiting) k) T near)
       ∙ (λ j. recordAllT z (setWaiting (setNet (setSeen T (cleared (z .tills) (z .seenSlots) s (copies (T .waiting) k) (T .seen))) (set (T .net) waitingAt (later-count (T .waiting) N now k e j))) (over waiting.form (later-rest (T .waiting) N now k e j) (T .waiting))) (lands s (copies (T .waiting) k)))
       ∙ records z (lands s (copies (T .waiting) k)) _

@@ -15,7 +15,6 @@ use Rattle.table_rows.proofs.Lists.{each-map, length-upTo}
 use Rattle.table_rows.proofs.Rows.{length-rows}
 use Rattle.table_delivery.specs.Delivery as delivery
 use Rattle.table_waiting.specs.Waiting as waiting
-use Rattle.table_waiting.specs.Waiting.{onTime}
 use Rattle.table_waiting.specs.declared.Copy.{Copy}
 use Rattle.table_marks.specs.Marks.{idsOf, removed}
 use Rattle.table_marks.proofs.Ordered.{length-removed}
@@ -31,16 +30,17 @@ use Rattle.spec_network.specs.Opening.{Sizes, Opening, link, global, lastNumber
 use Rattle.spec_network.specs.Lists.{within, below}
 use Rattle.spec_network.specs.Live.{Till, downTill, upTill, Live, isOriginal, idsAt, marked, stopped, tillAt}
 use Rattle.spec_network.specs.Accept.{Message, messageOf, receives, selected, Drawn, drawn, context, copies, Class, deduplicated, partition, loss, fault, sent, classOf, effect, offered}
-use Rattle.spec_network.specs.Flush.{due, later, stops, lands}
+use Rattle.spec_network.specs.Flush.{served, later, stops, lands}
 use Rattle.spec_network.specs.Calls.{Call, withHandlers, accept, flush, takeDown, bringUp, handlers, block, blockDuring, unblock, install, remove, decide, drain, reading}
 use Rattle.spec_network.specs.Questions.{Room, askedIn, asked, firstNo}
 use Rattle.spec_network.specs.Tables.{cell, Tables, live, tillForm, blockForm, idsStart, sequenceAt, waitingAt, rulesAt, installedAt, blocksAt}
 use Rattle.spec_network.specs.Writes.{netT, tillT, marksT, waitingT, blockT, unblockT, installT, removeT, recordT, recordAllT, clearT, flushT, acceptT, offeredT, stepT}
 use Rattle.spec_book.specs.Cells.{Fit, CellsFit, CallFits}
-use Rattle.spec_book.proofs.Each.{both, all-each, each-at, each-keep, each-front, each-behind, each-upTo}
+use Rattle.spec_book.proofs.Each.{both, all-each, each-at, each-keep, each-upTo}
 use Rattle.spec_book.proofs.Asking.{apart-in, room-fits, all-yes, apart}
 use Rattle.spec_book.proofs.Sound.{Below, selected-below, sent-unmarked}
-use Rattle.spec_book.proofs.Fitting.{Limited, Fits, NearMessage, Good, drawn-good, few-copies, Ready, room, effect-fits, effect-length, effect-ready, length-keep, length-behind}
+use Rattle.spec_book.proofs.Serving.{served-each, later-each, later-short}
+use Rattle.spec_book.proofs.Fitting.{Limited, Fits, NearMessage, Good, drawn-good, few-copies, Ready, room, effect-fits, effect-length, effect-ready, length-keep}
 use Rattle.spec_book.proofs.StepFits.{near-message, length-without}
 use Rattle.spec_book.proofs.Formed.{Wrote}
 use Rattle.spec_book.proofs.Simulation.{effect-wrote, ids-few}
@@ -135,17 +135,17 @@ record-cells z h (c ∷ cs) T e f =
     let d : Fit 64 (delivery.words (c .delivery)) = (q .0, (q .1 .0, (q .1 .1 .0, (q .1 .1 .1 .0, (q .1 .1 .1 .1 .0, (q .1 .1 .1 .1 .1 .0, (q .1 .1 .1 .1 .1 .1 .0, (q .1 .1 .1 .1 .1 .1 .1 .0, tt)))))))) in
     record-cells z h cs (recordT z T (c .delivery)) (e .1) (cells-log T f _ (fit-logged (z .logSlots) h (T .log) (c .delivery) (f .log) d))
 
-flush-cells : (z : Sizes) → z .logSlots ≤ 4096 → (now : ℕ) (T : Tables) → CellsFit T → CellsFit (flushT z T now)
-flush-cells z h now T f =
+flush-cells : (z : Sizes) → z .logSlots ≤ 4096 → (now rows : ℕ) (T : Tables) → CellsFit T → CellsFit (flushT z T now rows)
+flush-cells z h now rows T f =
     let s = live z T in
     let all = waiting-fits z T f in
-    let T₁ = clearT z s (due now s) T in
-    let f₁ = clear-cells z s (due now s) T f in
-    let left = later now s in
-    let short : length left < 2 ^ 64 = omega (arith, length-behind (onTime now) (s .waiting), length-rows waiting.width waiting.read (cell (T .net) waitingAt) (T .waiting), cell-fits 64 (T .net) waitingAt (f .net)) in
+    let T₁ = clearT z s (served now rows s) T in
+    let f₁ = clear-cells z s (served now rows s) T f in
+    let left = later now rows s in
+    let short : length left < 2 ^ 64 = omega (arith, later-short now rows s, length-rows waiting.width waiting.read (cell (T .net) waitingAt) (T .waiting), cell-fits 64 (T .net) waitingAt (f .net)) in
     let f₂ = cells-waiting (netT T₁ waitingAt (length left)) (cell-net T₁ f₁ waitingAt (length left) short) _
-    (fit-over 64 waiting.form copy-reads left (T₁ .waiting) (each-behind CopyFit (onTime now) (s .waiting) all) (f₁ .waiting)) in
-    record-cells z h (lands s (due now s)) (waitingT T₁ left) (each-keep CopyFit _ (due now s) (each-front CopyFit (onTime now) (s .waiting) all)) f₂
+    (fit-over 64 waiting.form copy-reads left (T₁ .waiting) (later-each now rows s CopyFit all) (f₁ .waiting)) in
+    record-cells z h (lands s (served now rows s)) (waitingT T₁ left) (each-keep CopyFit _ (served now rows s) (served-each now rows s CopyFit all)) f₂
 
 -- ---- Tills, blocks, rules
 
@@ -277,7 +277,7 @@ module _ (o : Opening) (lim : Limited (o .sizes)) (g : DrawsFit o) where
       few : (ts : List ℕ) → length ts ≤ o .sizes .tills → length ts ≤ 64
       few ts l = omega (arith, lim .tills)
   step-cells room (accept e false) T s w f h fit cells = cells
-  step-cells room (flush now rows) T s w f h fit cells = flush-cells (o .sizes) (lim .log) now T cells
+  step-cells room (flush now rows) T s w f h fit cells = flush-cells (o .sizes) (lim .log) now rows T cells
   step-cells room (takeDown t) T s w f h fit cells =
       marks-cells (o .sizes) (tillT T t downTill) t [] (till-cells T t downTill cells (omega arith, (omega arith, (omega arith, (omega arith, tt))))) tt (omega arith)
   step-cells room (bringUp t shards) T s w f h fit cells =

@@ -10,7 +10,7 @@ use lib.ListN.{length, getD, set, drop, length-set, length-append}
 use lib.Seq.{getD-set-same, getD-set-other}
 use borrow.Author.Tests.{ltb-true, eqb-true, eqb-false, lt-ltb}
 use Rattle.table_rows.specs.Rows.{pick, keep}
-use Rattle.table_rows.specs.Lists.{Each, behind}
+use Rattle.table_rows.specs.Lists.{Each}
 use Rattle.table_ring.specs.Ring.{push}
 use Rattle.table_rows.proofs.Lists.{each-map}
 use Rattle.table_delivery.specs.declared.Delivery.{Delivery}
@@ -46,14 +46,6 @@ module _ {A : Type 0} where
   length-keep q (a ∷ l) = go (q a) (length-keep q l)
     where
       go : (b : Bool) → length (keep q l) ≤ length l → length (pick b (a ∷ keep q l) (keep q l)) ≤ suc (length l)
-      go true h = omega arith
-      go false h = omega arith
-
-  pub length-behind : (q : A → Bool) (l : List A) → length (behind q l) ≤ length l
-  length-behind q [] = le-refl _
-  length-behind q (a ∷ l) = go (q a) (length-behind q l)
-    where
-      go : (b : Bool) → length (behind q l) ≤ length l → length (cond b (behind q l) (a ∷ l)) ≤ suc (length l)
       go true h = omega arith
       go false h = omega arith
 

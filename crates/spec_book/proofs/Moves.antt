@@ -12,7 +12,7 @@ use Rattle.spec_network.specs.Opening.{Opening}
 use Rattle.spec_network.specs.Layout.{plain}
 use Rattle.spec_network.specs.Live.{LiveBy}
 use Rattle.spec_network.specs.Accept.{Message, messageOf, selected, Drawn, drawn, Class, deduplicated, partition, loss, fault, sent, classOf, copies, effect, offered, liveAfter, noCounts}
-use Rattle.spec_network.specs.Flush.{rowOf, due, stops, lands, dropsOf, handled, loggedAll}
+use Rattle.spec_network.specs.Flush.{rowOf, served, stops, lands, dropsOf, handled, loggedAll}
 use Rattle.spec_network.specs.Calls.{Call, Reading, isBlocked, transit, fired, isDown, nextTime, tallyOf, waitingCopies, marksOf, read, firstTime, Answer, rowsIn, deliveredIn, dropsIn, countsIn, accept, flush, takeDown, bringUp, handlers, block, blockDuring, unblock, install, remove, decide, drain, reading}
 use Rattle.spec_book.specs.Book.{Book, Event, landed, dropped, landedIn, droppedIn, flushEvents, eventsOf, offerEvents, eventsAfter, bookStep, expected}
 use Rattle.spec_book.specs.Demand3.{copiesOf, isDrain, logFrom}
@@ -87,7 +87,8 @@ module _ (o : Opening) where
   book-rows b (accept e true) false = accept-still o (messageOf o e) (selected o (b .live) (e .scope) (e .from)) (b .live) (b .past) .lands
   book-rows b (accept e false) false = refl
   book-rows b (flush now rows) false =
-      flushed-lands (b .live) (due now (b .live)) (b .past) ∙ ap (λ (l : List Copy). reverseAux l (landedIn (b .past))) (sym (row-copies (b .live) (lands (b .live) (due now (b .live)))))
+      flushed-lands (b .live) (served now rows (b .live)) (b .past)
+      ∙ ap (λ (l : List Copy). reverseAux l (landedIn (b .past))) (sym (row-copies (b .live) (lands (b .live) (served now rows (b .live)))))
   book-rows b (takeDown t) false = refl
   book-rows b (bringUp t shards) false = refl
   book-rows b (handlers t gossip host) false = refl
@@ -104,7 +105,7 @@ module _ (o : Opening) where
   book-drops b c true = omega arith
   book-drops b (accept e true) false = ap length (accept-still o (messageOf o e) (selected o (b .live) (e .scope) (e .from)) (b .live) (b .past) .drops) ∙ omega arith
   book-drops b (accept e false) false = omega arith
-  book-drops b (flush now rows) false = flushed-drops (b .live) (due now (b .live)) (b .past)
+  book-drops b (flush now rows) false = flushed-drops (b .live) (served now rows (b .live)) (b .past)
   book-drops b (takeDown t) false = omega arith
   book-drops b (bringUp t shards) false = omega arith
   book-drops b (handlers t gossip host) false = omega arith
@@ -154,7 +155,7 @@ module _ (o : Opening) where
   pub book-log : (b : Book) (c : Call) → bookStep o b c false .live .log ≡ logFrom o (isDrain o c) (b .live .log) (expected o b c false)
   book-log b (accept e true) = accept-log o (messageOf o e) (selected o (b .live) (e .scope) (e .from)) (b .live)
   book-log b (accept e false) = refl
-  book-log b (flush now rows) = ap (loggedAll (o .sizes .logSlots) (b .live .log)) (sym (row-copies (b .live) (lands (b .live) (due now (b .live)))))
+  book-log b (flush now rows) = ap (loggedAll (o .sizes .logSlots) (b .live .log)) (sym (row-copies (b .live) (lands (b .live) (served now rows (b .live)))))
   book-log b (takeDown t) = refl
   book-log b (bringUp t shards) = refl
   book-log b (handlers t gossip host) = refl

@@ -23,7 +23,7 @@ use Rattle.spec_network.specs.Opening.{Sizes, Opening, link, global}
 use Rattle.spec_network.specs.Layout.{plain, table, inserted, without, ringOf, withRing, ringsIn}
 use Rattle.spec_network.specs.Live.{Carried, Live, LiveBy, plainly, isOriginal, idsAt, marked, stopped, ringsOf}
 use Rattle.spec_network.specs.Accept.{Entry, Message, messageOf, selected, Drawn, drawn, context, echoesOf, carriedOf, ringFor, copies, insertAll, remembered, Class, deduplicated, partition, loss, fault, sent, firstFit, classOf, effect, offered, liveAfter, Booked, booked, tally}
-use Rattle.spec_network.specs.Flush.{due, stops, unmark, clearing}
+use Rattle.spec_network.specs.Flush.{served, stops, unmark, clearing}
 use Rattle.spec_network.specs.Calls.{Call, Reading, isBlocked, transit, fired, isDown, nextTime, tallyOf, waitingCopies, marksOf, ids, counted, read, liveStep, answerOf, accept, flush, takeDown, bringUp, handlers, block, blockDuring, unblock, install, remove, decide, drain, reading}
 use Rattle.spec_network.specs.Questions.{Room, alone, pooled, ask, ask4, ask5, ask6, ask7, ask8, ask9, ask11, askRoom, askedIn, firstNo}
 use Rattle.spec_book.proofs.Each.{both, each-at, each-set}
@@ -285,7 +285,7 @@ module _ (o : Opening) (lim : Limited (o .sizes)) (s : Live) (r : InOrder (o .si
   same-step (accept e false) h = refl
   same-step (flush now rows) h =
       let x = liveStep o (plainly s) (flush now rows) in
-      (λ j. record { tills = x .tills; seen = same-clearing s (due now s) (s .seen) (r .marks) j; engine = x .engine; rings = x .rings; words = x .words; sequence = x .sequence; waiting = x .waiting; log = x .log })
+      (λ j. record { tills = x .tills; seen = same-clearing s (served now rows s) (s .seen) (r .marks) j; engine = x .engine; rings = x .rings; words = x .words; sequence = x .sequence; waiting = x .waiting; log = x .log })
   same-step (takeDown t) h =
       let x = liveStep o (plainly s) (takeDown t) in
       (λ j. record { tills = x .tills; seen = map-set listed (s .seen) t [] j; engine = x .engine; rings = x .rings; words = x .words; sequence = x .sequence; waiting = x .waiting; log = x .log })

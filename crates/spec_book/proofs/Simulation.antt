@@ -14,7 +14,6 @@ use Rattle.table_rows.proofs.Lists.{each-map, getD-upTo}
 use Rattle.table_rows.proofs.Rows.{length-rows}
 use Rattle.table_delivery.specs.declared.Delivery.{Delivery}
 use Rattle.table_waiting.specs.Waiting as waiting
-use Rattle.table_waiting.specs.Waiting.{onTime}
 use Rattle.table_waiting.specs.declared.Copy.{Copy}
 use Rattle.table_marks.specs.Marks.{idsOf, placed, removed}
 use Rattle.table_marks.proofs.Ordered.{length-placed, length-removed}
@@ -29,17 +28,18 @@ use Rattle.spec_network.specs.Opening.{Sizes, Opening, link}
 use Rattle.spec_network.specs.Layout.{table}
 use Rattle.spec_network.specs.Live.{Till, downTill, upTill, Live, withTills, withSeen, withEngine, withRings, withWaiting, withLog, withBlocks, isOriginal, idsAt, marked, stopped, tillAt, ringsOf}
 use Rattle.spec_network.specs.Accept.{Message, messageOf, selected, Drawn, drawn, carriedOf, Class, deduplicated, partition, loss, fault, sent, classOf, copies, insertAll, ruled, remembered, wordsMoved, effect, offered, liveAfter}
-use Rattle.spec_network.specs.Flush.{due, later, stops, lands, unmark, clearing, loggedAll, flushed}
+use Rattle.spec_network.specs.Flush.{served, later, stops, lands, unmark, clearing, loggedAll, flushed}
 use Rattle.table_log.specs.Log.{logged, emptyLog}
 use Rattle.spec_network.specs.Calls.{Call, liveStep, withHandlers, ruleAdded, ruleRemoved, accept, flush, takeDown, bringUp, handlers, block, blockDuring, unblock, install, remove, decide, drain, reading}
 use Rattle.spec_network.specs.Questions.{Room, askedIn, asked, firstNo}
 use Rattle.spec_network.specs.Lent.{nearDelivery, nearCopy}
 use Rattle.spec_network.specs.Tables.{cell, Tables, live, idsStart, waitingAt, rulesAt, installedAt, blocksAt, blockForm, ruleForm}
 use Rattle.spec_network.specs.Writes.{setRings, wordsT, ruledT, marksT, pushT, rememberT, effectT, offeredT, acceptT, clearT, waitingT, recordT, recordAllT, blockT, tillT, flushT, stepT}
-use Rattle.spec_book.proofs.Each.{both, each-front, all-each}
+use Rattle.spec_book.proofs.Each.{both, all-each}
 use Rattle.spec_book.proofs.Asking.{apart-in, room-fits, all-yes, apart}
 use Rattle.spec_book.proofs.Sound.{Below, selected-below, sent-unmarked}
-use Rattle.spec_book.proofs.Fitting.{Limited, Fits, NearMessage, Good, drawn-good, few-copies, Ready, room, effect-fits, effect-length, effect-ready, length-behind}
+use Rattle.spec_book.proofs.Serving.{served-each, later-short}
+use Rattle.spec_book.proofs.Fitting.{Limited, Fits, NearMessage, Good, drawn-good, few-copies, Ready, room, effect-fits, effect-length, effect-ready}
 use Rattle.spec_book.proofs.StepFits.{near-message, length-without}
 use Rattle.spec_book.proofs.Formed.{Formed, Wrote}
 use Rattle.spec_book.proofs.WriteLaws.{till-wrote, marks-wrote, words-wrote, waiting-wrote, block-wrote, unblock-wrote, install-wrote, remove-wrote, ruled-wrote, ring-wrote, record-wrote, drain-wrote, push-wrote}
@@ -155,22 +155,23 @@ module _ (o : Opening) where
       record-all-wrote cs (recordT (o .sizes) T (c .delivery)) (withLog s (logged (o .sizes .logSlots) (s .log) (c .delivery)))
       (then (o .sizes) T _ s (λ (q : Live). withLog q (logged (o .sizes .logSlots) (q .log) (c .delivery))) (w .holds) (record-wrote (o .sizes) T (w .formed) (c .delivery)))
 
-  flush-wrote : (now : ℕ) (T : Tables) (s : Live) → Wrote (o .sizes) T s → Fits (o .sizes) s → Wrote (o .sizes) (flushT (o .sizes) T now) (flushed o now s)
-  flush-wrote now T s w f =
+  flush-wrote : (now rows : ℕ) (T : Tables) (s : Live) → Wrote (o .sizes) T s → Fits (o .sizes) s → Wrote (o .sizes) (flushT (o .sizes) T now rows) (flushed o now rows s)
+  flush-wrote now rows T s w f =
       let z = o .sizes in
       let s₀ = live z T in
-      let near = subst (λ (q : Live). Each (λ (c : Copy). nearCopy z c ≡ true) (due now q)) (sym (w .holds)) (each-front (λ (c : Copy). nearCopy z c ≡ true) (onTime now) (s .waiting) (f .queue .near)) in
-      let T₁ = clearT z s₀ (due now s₀) T in
-      let x = clear-wrote s₀ (due now s₀) T s w near in
-      let left = later now s₀ in
+      let near = subst (λ (q : Live). Each (λ (c : Copy). nearCopy z c ≡ true) (served now rows q)) (sym (w .holds))
+      (served-each now rows s (λ (c : Copy). nearCopy z c ≡ true) (f .queue .near)) in
+      let T₁ = clearT z s₀ (served now rows s₀) T in
+      let x = clear-wrote s₀ (served now rows s₀) T s w near in
+      let left = later now rows s₀ in
       let y = waiting-wrote z T₁ (x .formed) left
-      (subst (λ (q : Live). length (later now q) ≤ z .waitSlots) (sym (w .holds)) (le-trans (length-behind (onTime now) (s .waiting)) (f .queue .few))) in
-      let v = record-all-wrote (lands s₀ (due now s₀)) (waitingT T₁ left) (withWaiting (withSeen s (clearing s₀ (due now s₀) (s .seen))) (s .sequence) left)
-      (then z T₁ (waitingT T₁ left) (withSeen s (clearing s₀ (due now s₀) (s .seen))) (λ (q : Live). withWaiting q (q .sequence) left) (x .holds) y) in
+      (subst (λ (q : Live). length (later now rows q) ≤ z .waitSlots) (sym (w .holds)) (le-trans (later-short now rows s) (f .queue .few))) in
+      let v = record-all-wrote (lands s₀ (served now rows s₀)) (waitingT T₁ left) (withWaiting (withSeen s (clearing s₀ (served now rows s₀) (s .seen))) (s .sequence) left)
+      (then z T₁ (waitingT T₁ left) (withSeen s (clearing s₀ (served now rows s₀) (s .seen))) (λ (q : Live). withWaiting q (q .sequence) left) (x .holds) y) in
       record {
         formed = v .formed;
         holds = v .holds
-            ∙ ap (λ (q : Live). withLog (withWaiting (withSeen s (clearing q (due now q) (s .seen))) (s .sequence) (later now q)) (loggedAll (z .logSlots) (s .log) (lands q (due now q)))) (w .holds);
+            ∙ ap (λ (q : Live). withLog (withWaiting (withSeen s (clearing q (served now rows q) (s .seen))) (s .sequence) (later now rows q)) (loggedAll (z .logSlots) (s .log) (lands q (served now rows q)))) (w .holds);
       }
 
   -- ---- Every call
@@ -199,7 +200,7 @@ module _ (o : Opening) where
       subst (λ (q : Live). Wrote (o .sizes) (acceptT o m T (selected o q (e .scope) (e .from))) (liveAfter o m s ts)) (sym (w .holds))
       (accept-wrote m (near-message o lim e (y .0) (y .1 .0) (y .1 .1 .0)) ts T s w f (selected-below o s (e .scope) (e .from)) (all-each _ ts (y .1 .1 .1 .1 .1 .1 .0)) (room-fits o room s e (y .1 .1 .1 .1 .1 .1 .1 .0)))
   step-wrote lim room (accept e false) T s w f h = w
-  step-wrote lim room (flush now rows) T s w f h = flush-wrote now T s w f
+  step-wrote lim room (flush now rows) T s w f h = flush-wrote now rows T s w f
   step-wrote lim room (takeDown t) T s w f h =
       let y = all-yes (asked o s (takeDown t)) (apart o s (takeDown t)) h in
       let b = ltb-true t (o .sizes .tills) (y .0) in

@@ -7,11 +7,10 @@ use mathlib.Core.List.{List, [], _∷_}
 use lib.ListN.{length, getD, replicate, length-set, length-replicate}
 use borrow.Author.Tests.{lt-ltb, lt-leb}
 use Rattle.table_rows.specs.Rows.{pick, keep}
-use Rattle.table_rows.specs.Lists.{Each, front, behind}
-use Rattle.table_waiting.specs.Waiting.{ordered, onTime, Sorted}
+use Rattle.table_rows.specs.Lists.{Each}
+use Rattle.table_waiting.specs.Waiting.{ordered, Sorted}
 use Rattle.table_waiting.specs.declared.Copy.{Copy}
-use Rattle.table_waiting.proofs.Order.{sorted-insert, insert-ordered, sorted-drop}
-use Rattle.table_rows.proofs.Lists.{drop-front}
+use Rattle.table_waiting.proofs.Order.{sorted-insert, insert-ordered}
 use Rattle.table_marks.specs.Marks.{member, Rises}
 use Rattle.fault_rule.specs.declared.DropSpec.{DropSpec}
 use Rattle.fault_card.specs.Card.{fieldsOf}
@@ -24,11 +23,12 @@ use Rattle.spec_network.specs.Opening.{Opening}
 use Rattle.spec_network.specs.Layout.{Layout, plain, Marks, inserted}
 use Rattle.spec_network.specs.Live.{LiveBy, isOriginal, marked, idsAt, stopped}
 use Rattle.spec_network.specs.Accept.{Message, messageOf, selected, Drawn, drawn, original, Class, deduplicated, partition, loss, fault, sent, firstFit, classOf, copies, effect, offered, liveAfter, insertAll}
-use Rattle.spec_network.specs.Flush.{due, stops, unmark, clearing}
+use Rattle.spec_network.specs.Flush.{served, stops, unmark, clearing}
 use Rattle.spec_network.specs.Calls.{Call, liveStep, accept, flush, takeDown, bringUp, handlers, block, blockDuring, unblock, install, remove, decide, drain, reading}
 use Rattle.spec_book.specs.Book.{Book, Event, scheduledIn, landedIn, droppedIn, eventsOf, offerEvents, eventsAfter, happened, opened, bookStep}
 use Rattle.spec_book.specs.History.{hasSequence, given, standing}
-use Rattle.spec_book.proofs.Counting.{numbered-count, count-split, count-insertAll, scheduling-scheduled, scheduling-landed, scheduling-dropped, flushing-scheduled, flushing-moved}
+use Rattle.spec_book.proofs.Counting.{numbered-count, count-insertAll, scheduling-scheduled, scheduling-landed, scheduling-dropped, flushing-scheduled, flushing-moved}
+use Rattle.spec_book.proofs.Serving.{later-sorted, served-count}
 use Rattle.spec_book.proofs.Marks.{Apart, Echo, echoes-standing, echoes-apart, member-set, member-empty, rises-inserted, clearing-rises, clearing-agrees, flushing-apart}
 use Rattle.spec_book.proofs.Each.{each-set, each-at, each-replicate, each-upTo}
 use Rattle.spec_book.proofs.Echoing.{drawn-echoes}
@@ -50,9 +50,6 @@ SoundLive o s past = Sound (o .sizes .tills) (s .waiting) (s .sequence) (s .seen
 sorted-insertAll : (cs w : List Copy) → Sorted w → Sorted (insertAll plain cs w)
 sorted-insertAll [] w h = h
 sorted-insertAll (c ∷ cs) w h = sorted-insertAll cs (ordered c w) (subst Sorted (insert-ordered c w h) (sorted-insert c w h))
-
-sorted-behind : (q : Copy → Bool) (w : List Copy) → Sorted w → Sorted (behind q w)
-sorted-behind q w h = subst Sorted (drop-front q w) (sorted-drop (length (front q w)) w h)
 
 -- a decision leaves each rule its place and its id
 ruled-ascends : (v : Decision) (n : ℕ) (rs : List FaultRule) → Ascending 0 n rs → Ascending 0 n (rulesAfter v rs)
@@ -144,14 +141,14 @@ module _ (o : Opening) where
   step-sound s (accept e true) past h = accept-sound o (messageOf o e) (selected o s (e .scope) (e .from)) s past (selected-below o s (e .scope) (e .from)) h
   step-sound s (accept e false) past h = h
   step-sound s (flush now rows) past h = record {
-    places = λ p. rw (flushing-scheduled s (due now s) past)
-        (omega (arith, h .places p, flushing-moved p s (due now s) past, count-split p (onTime now) (s .waiting)));
-    numbers = λ n. rw (flushing-scheduled s (due now s) past) (h .numbers n);
-    marks = clearing-agrees s (due now s) past (s .seen) (h .marks);
-    apart = flushing-apart s (due now s) past (h .apart);
-    order = sorted-behind (onTime now) (s .waiting) (h .order);
-    shape = length-clearing s (due now s) (s .seen) ∙ h .shape;
-    rises = clearing-rises s (due now s) (s .seen) (h .rises);
+    places = λ p. rw (flushing-scheduled s (served now rows s) past)
+        (omega (arith, h .places p, flushing-moved p s (served now rows s) past, served-count now rows s p));
+    numbers = λ n. rw (flushing-scheduled s (served now rows s) past) (h .numbers n);
+    marks = clearing-agrees s (served now rows s) past (s .seen) (h .marks);
+    apart = flushing-apart s (served now rows s) past (h .apart);
+    order = later-sorted now rows s (h .order);
+    shape = length-clearing s (served now rows s) (s .seen) ∙ h .shape;
+    rises = clearing-rises s (served now rows s) (s .seen) (h .rises);
     ids = h .ids;
   }
   step-sound s (takeDown t) past h = record {

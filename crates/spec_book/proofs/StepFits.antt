@@ -14,7 +14,6 @@ use Rattle.table_rows.specs.Lists.{Each}
 use Rattle.table_ring.specs.Ring.{push}
 use Rattle.table_rows.proofs.Lists.{length-upTo}
 use Rattle.table_delivery.specs.declared.Delivery.{Delivery}
-use Rattle.table_waiting.specs.Waiting.{onTime}
 use Rattle.table_waiting.specs.declared.Copy.{Copy}
 use Rattle.table_marks.specs.Marks.{removed, Ordered}
 use Rattle.table_marks.proofs.Ordered.{none-ordered, length-removed}
@@ -28,17 +27,18 @@ use Rattle.table_rings.specs.Rings.{slots}
 use Rattle.spec_network.specs.Layout.{table}
 use Rattle.spec_network.specs.Live.{Carried, Till, downTill, upTill, Engine, Live, openingLive, isOriginal, ringsOf, tillAt, withTills, withEngine, withBlocks}
 use Rattle.spec_network.specs.Accept.{Entry, messageOf, selected}
-use Rattle.spec_network.specs.Flush.{due, stops, lands, unmark, clearing, loggedAll}
+use Rattle.spec_network.specs.Flush.{served, stops, lands, unmark, clearing, loggedAll}
 use Rattle.table_log.specs.Log as log
 use Rattle.table_log.specs.Log.{Log, logged, tallied, wrap, noTally}
 use Rattle.spec_network.specs.Calls.{Call, liveStep, withHandlers, accept, flush, takeDown, bringUp, handlers, block, blockDuring, unblock, install, remove, decide, drain, reading}
 use Rattle.spec_network.specs.Questions.{Room, askedIn, asked, firstNo}
 use Rattle.spec_network.specs.Lent.{nearTill, nearDelivery, nearCopy, nearBlock}
-use Rattle.spec_book.proofs.Each.{both, join, each-set, each-at, each-replicate, each-append, each-push, each-keep, each-front, each-behind, each-upTo, all-each}
+use Rattle.spec_book.proofs.Each.{both, join, each-set, each-at, each-replicate, each-append, each-push, each-keep, each-upTo, all-each}
 use Rattle.spec_book.proofs.Sound.{selected-below, length-clearing}
 use Rattle.spec_book.proofs.Marks.{clearing-ordered}
 use Rattle.spec_book.proofs.Asking.{apart-in, room-fits, all-yes, apart}
-use Rattle.spec_book.proofs.Fitting.{Limited, Small, Fits, EngineFits, NearRing, LogFits, NearMessage, accept-fits, ruled-fits, length-keep, length-behind, length-push}
+use Rattle.spec_book.proofs.Serving.{served-each, later-each, later-short}
+use Rattle.spec_book.proofs.Fitting.{Limited, Small, Fits, EngineFits, NearRing, LogFits, NearMessage, accept-fits, ruled-fits, length-keep, length-push}
 
 -- ---- Flush
 
@@ -156,17 +156,18 @@ module _ (o : Opening) where
   step-fits lim room s (flush now rows) h f = record {
     tills = f .tills;
     masks = f .masks;
-    hosts = length-clearing s (due now s) (s .seen) ∙ f .hosts;
-    seen = clearing-small (o .sizes .seenSlots) s (due now s) (s .seen) (f .seen);
-    ordered = clearing-ordered s (due now s) (s .seen) (f .ordered);
+    hosts = length-clearing s (served now rows s) (s .seen) ∙ f .hosts;
+    seen = clearing-small (o .sizes .seenSlots) s (served now rows s) (s .seen) (f .seen);
+    ordered = clearing-ordered s (served now rows s) (s .seen) (f .ordered);
     engine = f .engine;
     rings = f .rings;
     words = f .words;
     queue = record {
-      few = le-trans (length-behind (onTime now) (s .waiting)) (f .queue .few);
-      near = each-behind (λ (c : Copy). nearCopy (o .sizes) c ≡ true) (onTime now) (s .waiting) (f .queue .near);
+      few = le-trans (later-short now rows s) (f .queue .few);
+      near = later-each now rows s (λ (c : Copy). nearCopy (o .sizes) c ≡ true) (f .queue .near);
     };
-    log = log-fits (o .sizes) (lands s (due now s)) (s .log) (each-keep (λ (c : Copy). nearCopy (o .sizes) c ≡ true) _ (due now s) (each-front (λ (c : Copy). nearCopy (o .sizes) c ≡ true) (onTime now) (s .waiting) (f .queue .near))) (f .log);
+    log = log-fits (o .sizes) (lands s (served now rows s)) (s .log)
+        (each-keep (λ (c : Copy). nearCopy (o .sizes) c ≡ true) _ (served now rows s) (served-each now rows s (λ (c : Copy). nearCopy (o .sizes) c ≡ true) (f .queue .near))) (f .log);
   }
   step-fits lim room s (takeDown t) h f = record {
     tills = length-set (s .tills) t _ ∙ f .tills;

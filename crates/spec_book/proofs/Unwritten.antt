@@ -11,7 +11,7 @@ use Rattle.fault_decide.specs.Decide.{Decision}
 use Rattle.spec_network.specs.Opening.{Sizes, Opening, link}
 use Rattle.spec_network.specs.Live.{Live, isOriginal, idsAt, ringsOf}
 use Rattle.spec_network.specs.Accept.{Message, messageOf, selected, Drawn, drawn, Class, deduplicated, partition, loss, fault, sent, classOf, copies, carriedOf}
-use Rattle.spec_network.specs.Flush.{due, later, stops, lands}
+use Rattle.spec_network.specs.Flush.{served, later, stops, lands}
 use Rattle.spec_network.specs.Calls.{Call, accept, flush, takeDown, bringUp, handlers, block, blockDuring, unblock, install, remove, decide, drain, reading}
 use Rattle.spec_network.specs.Tables.{Tables, live, faultWordsAt}
 use Rattle.spec_network.specs.Real.{openingAt}
@@ -70,10 +70,10 @@ module _ (o : Opening) where
   pub same-step : (T : Tables) (c : Call) → fourOf (stepT o T c) ≡ fourOf T
   same-step T (accept e true) = same-accept (messageOf o e) (selected o (live (o .sizes) T) (e .scope) (e .from)) T
   same-step T (accept e false) = refl
-  same-step T (flush now n) =
+  same-step T (flush now rows) =
       let s = live (o .sizes) T in
-      let T₁ = clearT (o .sizes) s (due now s) T in
-      same-records (o .sizes) (lands s (due now s)) (waitingT T₁ (later now s)) ∙ same-clear (o .sizes) s (due now s) T
+      let T₁ = clearT (o .sizes) s (served now rows s) T in
+      same-records (o .sizes) (lands s (served now rows s)) (waitingT T₁ (later now rows s)) ∙ same-clear (o .sizes) s (served now rows s) T
   same-step T (takeDown t) = refl
   same-step T (bringUp t shards) = refl
   same-step T (handlers t gossip host) = refl

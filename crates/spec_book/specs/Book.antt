@@ -7,7 +7,7 @@ use Rattle.table_waiting.specs.declared.Copy.{Copy}
 use Rattle.spec_network.specs.Layout.{plain}
 use Rattle.spec_network.specs.Live.{LiveBy, openingLive}
 use Rattle.spec_network.specs.Accept.{Message, messageOf, selected, Drawn, drawn, Class, deduplicated, partition, loss, fault, sent, classOf, copies, offered}
-use Rattle.spec_network.specs.Flush.{due, stops}
+use Rattle.spec_network.specs.Flush.{served, stops}
 use Rattle.spec_network.specs.Calls.{Call, Answer, silent, liveStep, answerOf, accept, flush, takeDown, bringUp, handlers, block, blockDuring, unblock, install, remove, decide, drain, reading}
 
 -- What happened to a copy, and take-downs.
@@ -74,7 +74,7 @@ module _ (o : Opening) where
   abbrev pub happened : LiveBy plain → Call → List Event → List Event
   happened s (accept e true) es = eventsAfter (messageOf o e) s (selected o s (e .scope) (e .from)) es
   happened s (accept e false) es = es
-  happened s (flush now rows) es = flushEvents s (due now s) es
+  happened s (flush now rows) es = flushEvents s (served now rows s) es
   happened s (takeDown t) es = down t ∷ es
   happened s (bringUp t shards) es = es
   happened s (handlers t gossip host) es = es

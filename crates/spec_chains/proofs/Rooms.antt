@@ -8,7 +8,6 @@ use mathlib.Core.List.{List, [], _∷_}
 use lib.Dec.{leb}
 use lib.ListN.{length}
 use borrow.Author.Tests.{le-leb, leb-true}
-use Rattle.table_waiting.specs.Waiting.{onTime}
 use Rattle.spec_network.specs.Opening.{Opening, Draws}
 use Rattle.spec_network.specs.Layout.{plain}
 use Rattle.spec_network.specs.Live.{Live, LiveBy}
@@ -24,7 +23,8 @@ use Rattle.spec_book.specs.Demand3.{Item, own, others, reopen, replyTo, tablesA
 use Rattle.spec_book.proofs.Each.{both}
 use Rattle.spec_book.proofs.Asking.{all-yes, apart-in}
 use Rattle.spec_book.proofs.Echoing.{drawn-few}
-use Rattle.spec_book.proofs.Fitting.{length-insertAll, few-copies, length-behind}
+use Rattle.spec_book.proofs.Serving.{later-short}
+use Rattle.spec_book.proofs.Fitting.{length-insertAll, few-copies}
 use Rattle.spec_book.proofs.Drawing.{by}
 use Rattle.spec_book.proofs.Final.{Bears}
 use Rattle.spec_chains.specs.Chains.{placed, InsideCall, Inside}
@@ -91,7 +91,7 @@ module _ (o : Opening) where
       let l = leb-true n free (both (leb n (o .sizes .waitSlots)) (leb n free) (y .1 .1 .1 .1 .1 .1 .1 .0) .1) in
       omega (arith, accept-few (messageOf o e) (selected o s (e .scope) (e .from)) s, l)
   step-few free most s (accept e false) h w f = w
-  step-few free most s (flush now rows) h w f = le-trans (length-behind (onTime now) (s .waiting)) w
+  step-few free most s (flush now rows) h w f = le-trans (later-short now rows s) w
   step-few free most s (takeDown t) h w f = w
   step-few free most s (bringUp t shards) h w f = w
   step-few free most s (handlers t gossip host) h w f = w

@@ -18,7 +18,7 @@ use Rattle.spec_network.specs.Opening.{Opening}
 use Rattle.spec_network.specs.Layout.{Layout, noMarks, idsIn}
 use Rattle.spec_network.specs.Live.{Context, Till, downTill, upTill, LiveBy, Engine, withBlocks, withRules, withTills, withSeen, withEngine, withLog, tillAt, idsAt, isUp, inTransit}
 use Rattle.spec_network.specs.Accept.{Entry, messageOf, selected, liveAfter, booked, Counts, noCounts, tally, ruled}
-use Rattle.spec_network.specs.Flush.{Row, rowsOf, dropsOf, handled, due, flushed}
+use Rattle.spec_network.specs.Flush.{Row, rowsOf, dropsOf, handled, served, flushed}
 
 -- calls that only read; `rows` and `places` are what the lent output has room for
 pub data Reading : Type 0 where
@@ -86,7 +86,7 @@ module _ (o : Opening) where
   abbrev pub liveStep : {k : Layout} → LiveBy k → Call → LiveBy k
   liveStep s (accept e true) = liveAfter o (messageOf o e) s (selected o s (e .scope) (e .from))
   liveStep s (accept e false) = s
-  liveStep s (flush now rows) = flushed o now s
+  liveStep s (flush now rows) = flushed o now rows s
   liveStep s (takeDown t) = takenDown t s
   liveStep s (bringUp t shards) = broughtUp t shards s
   liveStep s (handlers t gossip host) = handling t gossip host s
@@ -137,7 +137,7 @@ module _ (o : Opening) where
   abbrev pub answerOf : {k : Layout} → LiveBy k → Call → Answer
   answerOf s (accept e true) = counted (tally (booked o (messageOf o e) s (selected o s (e .scope) (e .from))))
   answerOf s (accept e false) = counted noCounts
-  answerOf s (flush now rows) = movedBy (rowsOf s (due now s)) (dropsOf s (due now s))
+  answerOf s (flush now rows) = movedBy (rowsOf s (served now rows s)) (dropsOf s (served now rows s))
   answerOf s (takeDown t) = silent
   answerOf s (bringUp t shards) = silent
   answerOf s (handlers t gossip host) = silent

@@ -18,8 +18,12 @@ use Rattle.spec_network.specs.Live.{LiveBy, isOriginal, tillAt, stopped,
 abbrev pub due : {k : Layout} → ℕ → LiveBy k → List Copy
 due now s = front (onTime now) s.waiting
 
-abbrev pub later : {k : Layout} → ℕ → LiveBy k → List Copy
-later now s = behind (onTime now) s.waiting
+-- WHAT A FLUSH SERVES, of now, the rows lent and the live part: every copy due, whatever the rows; and what waits on behind these
+abbrev pub served : {k : Layout} → (now rows : ℕ) → LiveBy k → List Copy
+served now rows s = due now s
+
+abbrev pub later : {k : Layout} → (now rows : ℕ) → LiveBy k → List Copy
+later now rows s = behind (onTime now) s.waiting
 
 -- blocks at the copy's delivery time, down tills as they are now
 abbrev pub stops : {k : Layout} → LiveBy k → Copy → Bool
@@ -68,8 +72,8 @@ abbrev pub loggedAll : ℕ → Log → List Copy → Log
 loggedAll places l [] = l
 loggedAll places l (c ∷ cs) = loggedAll places (logged places l (c .delivery)) cs
 
-abbrev pub flushed : {k : Layout} → Opening → ℕ → LiveBy k → LiveBy k
-flushed o now s =
-    let s₁ = withSeen s (clearing s (due now s) s.seen) in
-    let s₂ = withWaiting s₁ s.sequence (later now s) in
-    withLog s₂ (loggedAll (o .sizes .logSlots) s.log (lands s (due now s)))
+abbrev pub flushed : {k : Layout} → Opening → (now rows : ℕ) → LiveBy k → LiveBy k
+flushed o now rows s =
+    let s₁ = withSeen s (clearing s (served now rows s) s.seen) in
+    let s₂ = withWaiting s₁ s.sequence (later now rows s) in
+    withLog s₂ (loggedAll (o .sizes .logSlots) s.log (lands s (served now rows s)))

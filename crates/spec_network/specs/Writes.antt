@@ -21,7 +21,7 @@ use Rattle.fault_blocks.specs.Blocks.{always, during, blockTable, unblockTable,
 use Rattle.spec_network.specs.Opening.{Sizes, Opening, link}
 use Rattle.spec_network.specs.Live.{Till, downTill, upTill, Live, isOriginal, idsAt, tillAt, ringsOf}
 use Rattle.spec_network.specs.Accept.{Message, messageOf, selected, Drawn, drawn, Class, deduplicated, partition, loss, fault, sent, classOf, copies, carriedOf}
-use Rattle.spec_network.specs.Flush.{Row, due, later, stops, lands}
+use Rattle.spec_network.specs.Flush.{Row, served, later, stops, lands}
 use Rattle.spec_network.specs.Calls as calls
 use Rattle.spec_network.specs.Calls.{Call, Answer, silent, answerOf, accept, flush, takeDown, bringUp, handlers, block, blockDuring, unblock, install, remove, decide, drain, reading, withHandlers}
 use Rattle.spec_network.specs.Questions.{Room, alone, askedIn, firstNo}
@@ -150,12 +150,12 @@ clearT z s (c ∷ cs) T =
     let t = c .delivery .to in
     clearT z s cs (cond (stops s c && isOriginal c) (marksT z T t (removed (c .id) (idsAt (live z T) t))) T)
 
-abbrev pub flushT : Sizes → Tables → ℕ → Tables
-flushT z T now =
+abbrev pub flushT : Sizes → Tables → (now rows : ℕ) → Tables
+flushT z T now rows =
     let s = live z T in
-    let T₁ = clearT z s (due now s) T in
-    let T₂ = waitingT T₁ (later now s) in
-    recordAllT z T₂ (lands s (due now s))
+    let T₁ = clearT z s (served now rows s) T in
+    let T₂ = waitingT T₁ (later now rows s) in
+    recordAllT z T₂ (lands s (served now rows s))
 
 -- ---- Every call
 
@@ -163,7 +163,7 @@ module _ (o : Opening) where
   abbrev pub stepT : Tables → Call → Tables
   stepT T (accept e true) = acceptT o (messageOf o e) T (selected o (live (o .sizes) T) (e .scope) (e .from))
   stepT T (accept e false) = T
-  stepT T (flush now rows) = flushT (o .sizes) T now
+  stepT T (flush now rows) = flushT (o .sizes) T now rows
   stepT T (takeDown t) = marksT (o .sizes) (tillT T t downTill) t []
   stepT T (bringUp t shards) = tillT T t (upTill shards)
   stepT T (handlers t gossip host) = tillT T t (withHandlers (tillAt (live (o .sizes) T) t) gossip host)
