@@ -6,7 +6,7 @@ use Rattle.spec_network.specs.Opening.{Opening}
 use Rattle.table_waiting.specs.declared.Copy.{Copy}
 use Rattle.spec_network.specs.Layout.{plain}
 use Rattle.spec_network.specs.Live.{LiveBy, openingLive}
-use Rattle.spec_network.specs.Accept.{Message, messageOf, selected, Drawn, drawn, Class, deduplicated, partition, loss, fault, sent, classOf, copies, offered}
+use Rattle.spec_network.specs.Accept.{Entry, Message, messageOf, chosen, entered, Drawn, drawn, Class, deduplicated, partition, loss, fault, sent, classOf, copies, offered}
 use Rattle.spec_network.specs.Flush.{served, stops}
 use Rattle.spec_network.specs.Calls.{Call, Answer, silent, liveStep, answerOf, accept, flush, takeDown, bringUp, handlers, block, blockDuring, unblock, install, remove, decide, drain, reading}
 
@@ -71,8 +71,12 @@ module _ (o : Opening) where
     eventsAfter s [] es = es
     eventsAfter s (t ∷ ts) es = eventsAfter (offered o m s t) ts (offerEvents s t es)
 
+  -- what happens before the recipients are judged: nothing
+  abbrev pub entering : LiveBy plain → Entry → List Event → List Event
+  entering s e es = es
+
   abbrev pub happened : LiveBy plain → Call → List Event → List Event
-  happened s (accept e true) es = eventsAfter (messageOf o e) s (selected o s (e .scope) (e .from)) es
+  happened s (accept e true) es = eventsAfter (messageOf o e) (entered o e s) (chosen o s e) (entering s e es)
   happened s (accept e false) es = es
   happened s (flush now rows) es = flushEvents s (served now rows s) es
   happened s (takeDown t) es = down t ∷ es

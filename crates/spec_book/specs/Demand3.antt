@@ -15,7 +15,7 @@ use Rattle.spec_network.specs.Lists.{bit, count, some-of}
 use Rattle.spec_network.specs.Opening.{Settings, Opening}
 use Rattle.spec_network.specs.Live.{plainly, marked}
 use Rattle.table_log.specs.Log.{Log, emptyLog}
-use Rattle.spec_network.specs.Accept.{messageOf, selected, Booked, booked, noCounts, tally, total}
+use Rattle.spec_network.specs.Accept.{messageOf, selected, chosen, entered, Booked, booked, noCounts, tally, total}
 use Rattle.spec_network.specs.Flush.{Row, handled, due, loggedAll}
 use Rattle.spec_network.specs.Calls.{Call, Answer, silent, countsIn, rowsIn, deliveredIn, dropsIn, accept, flush, takeDown, bringUp, handlers, block, blockDuring, unblock, install, remove, decide, drain, reading}
 use Rattle.spec_network.specs.Questions.{Room, askedIn, asked, firstNo, answerTo}
@@ -115,7 +115,7 @@ module _ (o : Opening) where
 
   abbrev pub SumOf : Book → Item → Reply → Type 0
   SumOf b (own room (accept e true)) r =
-      r .number ≡ 0 → FiveCounts b (e .scope) (e .from) (booked o (messageOf o e) (b .live) (selected o (b .live) (e .scope) (e .from))) (r .answer)
+      r .number ≡ 0 → FiveCounts b (e .scope) (e .from) (booked o (messageOf o e) (entered o e (b .live)) (chosen o (b .live) e)) (r .answer)
   SumOf b (own room (accept e false)) r = countsIn (r .answer) ≡ noCounts
   SumOf b (own room (flush now rows)) r = countsIn (r .answer) ≡ noCounts
   SumOf b (own room (takeDown t)) r = countsIn (r .answer) ≡ noCounts

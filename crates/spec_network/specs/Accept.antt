@@ -48,6 +48,14 @@ receives s scope t = eqb scope global || bitAt (tillAt s t .shards) scope
 abbrev pub selected : {k : Layout} → Opening → LiveBy k → ℕ → ℕ → List ℕ
 selected o s scope from = keep (λ t. receives s scope t && not (eqb t from)) (below (o .sizes .tills))
 
+-- those of an entry
+abbrev pub chosen : {k : Layout} → Opening → LiveBy k → Entry → List ℕ
+chosen o s e = selected o s (e .scope) (e .from)
+
+-- WHAT AN ENTRY MEETS, before its recipients are judged: the live part as it stands
+abbrev pub entered : {k : Layout} → Opening → Entry → LiveBy k → LiveBy k
+entered o e s = s
+
 -- ---- The draws for one recipient, in their order
 
 -- echoes with their latencies, and the link's word count after these

@@ -17,7 +17,7 @@ use Rattle.spec_network.specs.Lists.{bit, count}
 use Rattle.spec_network.specs.Opening.{Opening}
 use Rattle.spec_network.specs.Layout.{Layout, noMarks, idsIn}
 use Rattle.spec_network.specs.Live.{Context, Till, downTill, upTill, LiveBy, Engine, withBlocks, withRules, withTills, withSeen, withEngine, withLog, tillAt, idsAt, isUp, inTransit}
-use Rattle.spec_network.specs.Accept.{Entry, messageOf, selected, liveAfter, booked, Counts, noCounts, tally, ruled}
+use Rattle.spec_network.specs.Accept.{Entry, messageOf, chosen, entered, liveAfter, booked, Counts, noCounts, tally, ruled}
 use Rattle.spec_network.specs.Flush.{Row, rowsOf, dropsOf, handled, served, flushed}
 
 -- calls that only read; `rows` and `places` are what the lent output has room for
@@ -84,7 +84,7 @@ ruleRemoved e i = withRules e (without i (e .rules)) (e .installed) (e .words)
 
 module _ (o : Opening) where
   abbrev pub liveStep : {k : Layout} → LiveBy k → Call → LiveBy k
-  liveStep s (accept e true) = liveAfter o (messageOf o e) s (selected o s (e .scope) (e .from))
+  liveStep s (accept e true) = liveAfter o (messageOf o e) (entered o e s) (chosen o s e)
   liveStep s (accept e false) = s
   liveStep s (flush now rows) = flushed o now rows s
   liveStep s (takeDown t) = takenDown t s
@@ -135,7 +135,7 @@ movedBy rows n = moved rows (count handled rows) n
 
 module _ (o : Opening) where
   abbrev pub answerOf : {k : Layout} → LiveBy k → Call → Answer
-  answerOf s (accept e true) = counted (tally (booked o (messageOf o e) s (selected o s (e .scope) (e .from))))
+  answerOf s (accept e true) = counted (tally (booked o (messageOf o e) (entered o e s) (chosen o s e)))
   answerOf s (accept e false) = counted noCounts
   answerOf s (flush now rows) = movedBy (rowsOf s (served now rows s)) (dropsOf s (served now rows s))
   answerOf s (takeDown t) = silent

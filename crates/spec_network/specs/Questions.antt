@@ -12,7 +12,7 @@ use Rattle.spec_network.specs.Lists.{within}
 use Rattle.spec_network.specs.Opening.{Opening, link, global, longestWire, latestNow, mostWords, lastNumber}
 use Rattle.spec_network.specs.Layout.{Layout, slotsOf}
 use Rattle.spec_network.specs.Live.{LiveBy, marked, idsAt}
-use Rattle.spec_network.specs.Accept.{Entry, messageOf, selected}
+use Rattle.spec_network.specs.Accept.{Entry, messageOf, chosen, entered}
 use Rattle.spec_network.specs.Flush.{due}
 use Rattle.spec_network.specs.Calls.{Call, Reading, isBlocked, transit, fired, isDown, nextTime, tallyOf, waitingCopies, marksOf, accept, flush, takeDown, bringUp, handlers, block, blockDuring, unblock, install, remove, decide, drain, reading}
 
@@ -61,28 +61,25 @@ module _ (o : Opening) where
   fresh words = ltb words mostWords
 
   module _ {k : Layout} (s : LiveBy k) (e : Entry) where
-    abbrev pub chosen : List ℕ
-    chosen = selected o s (e .scope) (e .from)
-
     -- 8: have the fault stream, and each link from sender to a selected recipient, given fewer than 2^40 words?
     abbrev pub ask8 : Asked
-    ask8 = ask 8 (fresh (s .engine .words) && allOf (λ t. fresh (getD (s .words) (link (e .from) t) 0)) chosen)
+    ask8 = ask 8 (fresh (s .engine .words) && allOf (λ t. fresh (getD (s .words) (link (e .from) t) 0)) (chosen o s e))
 
     -- 9: does the sequence plus 3 × selected stay at or below 4,294,967,295?
     abbrev pub ask9 : Asked
-    ask9 = ask 9 (leb (s .sequence + 3 * length chosen) lastNumber)
+    ask9 = ask 9 (leb (s .sequence + 3 * length (chosen o s e)) lastNumber)
 
-    -- 10: has each selected till without this id a free seen slot?
+    -- 10: has each selected till without this id a free seen slot? Asked of what the entry meets
     abbrev pub ask10 : Asked
-    ask10 = ask 10 (allOf (λ t. marked s t (messageOf o e .id) || ltb (slotsOf k (idsAt s t)) (o .sizes .seenSlots)) chosen)
+    ask10 = ask 10 (allOf (λ t. marked (entered o e s) t (messageOf o e .id) || ltb (slotsOf k (idsAt (entered o e s) t)) (o .sizes .seenSlots)) (chosen o s e))
 
     -- 11: do waiting plus 3 × selected fit the slots? 23, in its place: do they fit the chain's limit, and what the pool has left to it?
     abbrev pub ask11 : Asked
-    ask11 = ask 11 (leb (length (s .waiting) + 3 * length chosen) (o .sizes .waitSlots))
+    ask11 = ask 11 (leb (length (s .waiting) + 3 * length (chosen o s e)) (o .sizes .waitSlots))
 
     abbrev pub askRoom : Room → Asked
     askRoom alone = ask11
-    askRoom (pooled free) = ask 23 (leb (length (s .waiting) + 3 * length chosen) (o .sizes .waitSlots) && leb (length (s .waiting) + 3 * length chosen) free)
+    askRoom (pooled free) = ask 23 (leb (length (s .waiting) + 3 * length (chosen o s e)) (o .sizes .waitSlots) && leb (length (s .waiting) + 3 * length (chosen o s e)) free)
 
   -- 12: is a block place free? is a rule place free, and were fewer than 4,294,967,295 rules ever installed?
   abbrev pub ask12block : {k : Layout} → LiveBy k → Asked

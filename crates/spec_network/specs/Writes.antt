@@ -20,7 +20,7 @@ use Rattle.fault_blocks.specs.declared.BlockWindow.{BlockWindow}
 use Rattle.fault_blocks.specs.Blocks.{always, during, blockTable, unblockTable, openCount}
 use Rattle.spec_network.specs.Opening.{Sizes, Opening, link}
 use Rattle.spec_network.specs.Live.{Till, downTill, upTill, Live, isOriginal, idsAt, tillAt, ringsOf}
-use Rattle.spec_network.specs.Accept.{Message, messageOf, selected, Drawn, drawn, Class, deduplicated, partition, loss, fault, sent, classOf, copies, carriedOf}
+use Rattle.spec_network.specs.Accept.{Entry, Message, messageOf, chosen, Drawn, drawn, Class, deduplicated, partition, loss, fault, sent, classOf, copies, carriedOf}
 use Rattle.spec_network.specs.Flush.{Row, served, later, stops, lands}
 use Rattle.spec_network.specs.Calls as calls
 use Rattle.spec_network.specs.Calls.{Call, Answer, silent, answerOf, accept, flush, takeDown, bringUp, handlers, block, blockDuring, unblock, install, remove, decide, drain, reading, withHandlers}
@@ -141,6 +141,10 @@ module _ (o : Opening) (m : Message) where
   acceptT T [] = T
   acceptT T (t ∷ ts) = acceptT (offeredT T t) ts
 
+-- what an entry meets: `entered` on the tables
+abbrev pub enteredT : Opening → Entry → Tables → Tables
+enteredT o e T = T
+
 -- ---- Flush
 
 -- what a flush drop clears; s is what the tables held before
@@ -161,7 +165,7 @@ flushT z T now rows =
 
 module _ (o : Opening) where
   abbrev pub stepT : Tables → Call → Tables
-  stepT T (accept e true) = acceptT o (messageOf o e) T (selected o (live (o .sizes) T) (e .scope) (e .from))
+  stepT T (accept e true) = acceptT o (messageOf o e) (enteredT o e T) (chosen o (live (o .sizes) T) e)
   stepT T (accept e false) = T
   stepT T (flush now rows) = flushT (o .sizes) T now rows
   stepT T (takeDown t) = marksT (o .sizes) (tillT T t downTill) t []
