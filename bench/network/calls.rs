@@ -186,7 +186,7 @@ pub struct Opening {
 
 pub const GLOBAL: u64 = 16;
 pub const COPY: usize = 12;
-pub const ROW: usize = 14;
+pub const ROW: usize = COPY + 2;
 pub const RECORD: usize = 8;
 
 /// Where numbers of `setup` and of `net` stand, for readings and hooks of a test.

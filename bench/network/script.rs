@@ -236,7 +236,7 @@ fn flush(n: &mut Network, now: u64, rows: u64, o: &mut String) {
             let _ = writeln!(o, "drop {}", copy(c));
             continue;
         };
-        let by = ["-", "g", "h", "gh"][(r[12] != 0) as usize + 2 * (r[13] != 0) as usize];
+        let by = ["-", "g", "h", "gh"][(r[COPY] != 0) as usize + 2 * (r[COPY + 1] != 0) as usize];
         let _ = writeln!(o, "row {} {by}", copy(c));
     }
     assert!(landed.next().is_none(), "every row is a due copy, in order");

@@ -68,21 +68,14 @@ fn word(due: &[u64], at: usize, k: usize) -> u64 {
 }
 
 // The copy at `at`.
-fn copy_at(due: &[u64], at: usize) -> [u64; 12] {
-    [
-        word(due, at, 0),
-        word(due, at, 1),
-        word(due, at, 2),
-        word(due, at, 3),
-        word(due, at, 4),
-        word(due, at, 5),
-        word(due, at, 6),
-        word(due, at, 7),
-        word(due, at, 8),
-        word(due, at, 9),
-        word(due, at, 10),
-        word(due, at, 11),
-    ]
+fn copy_at(due: &[u64], at: usize) -> [u64; table_waiting::WIDTH] {
+    let mut copy = [0u64; table_waiting::WIDTH];
+    let mut k: usize = 0;
+    while k < table_waiting::WIDTH {
+        copy[k] = word(due, at, k);
+        k += 1;
+    }
+    copy
 }
 
 // A copy that was due, at `at`: landed where it is the row at `row`, else dropped; where the next row stands then.

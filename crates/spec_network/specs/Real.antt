@@ -18,7 +18,7 @@ use Rattle.fault_decide.specs.Decide.{decideOf}
 use Rattle.table_rows.specs.Lists.{upTo}
 use Rattle.spec_network.specs.Opening.{Plan, Settings, Draw, Draws, Opening, global}
 use Rattle.spec_network.specs.Limits.{rateOf}
-use Rattle.spec_network.specs.Tables.{Tables, cell, sizesAt, settingsAt, nameAt, shardAt, textAt}
+use Rattle.spec_network.specs.Tables.{Tables, cell, keyCells, sizesAt, settingsAt, nameAt, shardAt, textAt}
 
 -- ---- A link's key and cost, as the book has them
 
@@ -32,9 +32,8 @@ bookCost x from to bytes = let p = x .plan in planCost (not (eqb (p .planned) 0)
 
 -- ---- The same in the tables: the key of each ordered pair of tills
 
--- a stream's key has 8 words
 abbrev pub keyWidth : ℕ
-keyWidth = 8
+keyWidth = keyCells
 
 unfoldable pub keysOf : Settings → List ℕ
 keysOf x = let n = x .sizes .tills in flat (λ i. linkKey (x .seed) (i / n) (i % n)) (upTo (n * n) (λ i. i))

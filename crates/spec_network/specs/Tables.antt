@@ -20,11 +20,25 @@ cell xs i = getD xs i 0
 
 -- ---- `setup`: the opening's numbers and the fault stream's key; written by the opening alone
 
-abbrev pub setupWidth : ℕ
-setupWidth = 25
+-- part behind part: seven sizes, the config's six numbers, the plan's three, the seed, the key
+abbrev pub configFrom : ℕ
+configFrom = 7
+
+abbrev pub planFrom : ℕ
+planFrom = configFrom + 6
+
+abbrev pub seedAt : ℕ
+seedAt = planFrom + 3
 
 abbrev pub keyAt : ℕ
-keyAt = 17
+keyAt = seedAt + 1
+
+-- a stream's key has 8 words
+abbrev pub keyCells : ℕ
+keyCells = 8
+
+abbrev pub setupWidth : ℕ
+setupWidth = keyAt + keyCells
 
 abbrev pub setupOf : Settings → List ℕ
 setupOf x =
@@ -38,9 +52,16 @@ sizesAt xs = record { tills = cell xs 0; types = cell xs 1; classes = cell xs 2;
 abbrev pub settingsAt : List ℕ → Settings
 settingsAt xs = record {
   sizes = sizesAt xs;
-  config = record { latency = cell xs 7; jitter = cell xs 8; loss = cell xs 9; duplicate = cell xs 10; replay = cell xs 11; spike = cell xs 12 };
-  plan = record { planned = cell xs 13; regions = cell xs 14; seed = cell xs 15 };
-  seed = cell xs 16;
+  config = record {
+    latency = cell xs configFrom;
+    jitter = cell xs (configFrom + 1);
+    loss = cell xs (configFrom + 2);
+    duplicate = cell xs (configFrom + 3);
+    replay = cell xs (configFrom + 4);
+    spike = cell xs (configFrom + 5);
+  };
+  plan = record { planned = cell xs planFrom; regions = cell xs (planFrom + 1); seed = cell xs (planFrom + 2) };
+  seed = cell xs seedAt;
   faultKey = drop keyAt xs;
 }
 

@@ -1,5 +1,5 @@
 -- Document 01, 'The book', on the lent tables: what a call writes, table by table; decisions are taken from what the tables hold. THE CONTRACTS of the public calls are `callTables`, `callReply` and `callOutput`.
-use Prim.Native.Nat.{ℕ, zero, suc, _*_}
+use Prim.Native.Nat.{ℕ, zero, suc, _+_, _*_}
 use mathlib.Core.Bool.{Bool, true, false, cond, _&&_}
 use mathlib.Core.List.{List, [], _∷_, _++_}
 use lib.ListN.{length, set, drop}
@@ -224,7 +224,7 @@ abbrev pub rowWords : Row → List ℕ
 rowWords r = waiting.words (r .copy) ++ (r .gossip ∷ r .host ∷ [])
 
 abbrev pub rowWidth : ℕ
-rowWidth = 14
+rowWidth = waiting.width + 2
 
 -- what an answer puts at the front of the lent output
 abbrev pub outputOf : Answer → List ℕ
