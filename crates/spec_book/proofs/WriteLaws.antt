@@ -43,7 +43,7 @@ use Rattle.spec_network.specs.Layout.{table}
 use Rattle.spec_network.specs.Live.{Carried, Till, Live, withTills, withSeen, withEngine, withRings, withWords, withWaiting, withLog, withBlocks, withRules, ringsOf}
 use Rattle.spec_network.specs.Accept.{insertAll, ruled}
 use Rattle.spec_network.specs.Calls.{ruleAdded, ruleRemoved}
-use Rattle.spec_network.specs.Tables.{cell, Tables, live, tillForm, ruleForm, blockForm, netWidth, sequenceAt, waitingAt, rulesAt, installedAt, faultWordsAt, blocksAt}
+use Rattle.spec_network.specs.Tables.{cell, Tables, queueOf, live, tillForm, ruleForm, blockForm, netWidth, sequenceAt, waitingAt, rulesAt, installedAt, faultWordsAt, blocksAt}
 use Rattle.spec_network.specs.Writes.{setNet, setRings, setRules, setWaiting, setBlocks, netT, tillT, wordsT, marksT, waitingT, blockT, unblockT, installT, removeT, ruledT, recordT, drainT, pushT}
 use Rattle.spec_book.proofs.Fitting.{length-keep}
 use Rattle.spec_book.proofs.Parts.{six, net-plain, net-waiting, net-rules, net-blocks, till-exact, seen-formed, seen-holds}
@@ -78,7 +78,7 @@ module _ (z : Sizes) (T : Tables) (f : Formed z T) where
     holds = λ j. live z (setNet T (set (six (T .net) net-size j) sequenceAt n));
   }
 
-  pub waiting-wrote : (w : List Copy) → length w ≤ z .waitSlots → Wrote z (waitingT T w) (withWaiting (live z T) (live z T .sequence) w)
+  pub waiting-wrote : (w : List Copy) → length w ≤ z .waitSlots → Wrote z (waitingT T w) (withWaiting (live z T) (live z T .sequence) (queueOf z w))
   waiting-wrote w le = record {
     formed =
         let f₁ = formed-net z T f _ (net-waiting z (T .net) (f .net) (length w) le) in

@@ -21,7 +21,7 @@ use Rattle.spec_network.specs.Lists.{every, below, within}
 use Rattle.spec_network.specs.Opening.{Sizes, links, longestWire}
 use Rattle.spec_network.specs.Live.{Carried, Till, ringsOf}
 use Rattle.spec_network.specs.Calls.{Call, Reading, isBlocked, transit, fired, isDown, nextTime, tallyOf, waitingCopies, marksOf, accept, flush, takeDown, bringUp, handlers, block, blockDuring, unblock, install, remove, decide, drain, reading}
-use Rattle.spec_network.specs.Tables.{cell, Tables, setupWidth, settingsAt, netWidth, waitingAt, rulesAt, blocksAt, namesWidth, tillForm, ruleForm, blockForm}
+use Rattle.spec_network.specs.Tables.{cell, Tables, waitingRows, setupWidth, settingsAt, netWidth, waitingAt, rulesAt, blocksAt, namesWidth, tillForm, ruleForm, blockForm}
 use Rattle.spec_network.specs.Limits.{sizeTests, textTests, rangeTests}
 use Rattle.spec_network.specs.Real.{keyWidth, pricesWidth, regionAt}
 
@@ -73,7 +73,7 @@ module _ (z : Sizes) (T : Tables) where
   seenTests = hasLength (T .seen) (z .tills + z .tills * z .seenSlots) ∷ allOf (λ t. leb (cell (T .seen) t) (z .seenSlots)) (below (z .tills)) ∷ []
 
   abbrev pub waitingTests : List Bool
-  waitingTests = hasLength (T .waiting) (z .waitSlots * waiting.width) ∷ allOf (nearCopy z) (rowsOf waiting.form (T .waiting) (cell (T .net) waitingAt)) ∷ []
+  waitingTests = hasLength (T .waiting) (z .waitSlots * waiting.width) ∷ allOf (nearCopy z) (waitingRows T) ∷ []
 
   abbrev pub ringsTests : List Bool
   ringsTests =

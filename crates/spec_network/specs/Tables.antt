@@ -4,6 +4,7 @@ use mathlib.Core.List.{List, [], _∷_}
 use lib.ListN.{getD, take, drop}
 use Rattle.table_rows.specs.Table.{Form, rowsOf}
 use Rattle.table_waiting.specs.Waiting as waiting
+use Rattle.table_waiting.specs.declared.Copy.{Copy}
 use Rattle.table_marks.specs.Marks.{idsOf}
 use Rattle.table_rings.specs.Rings as rings
 use Rattle.table_log.specs.Log as log
@@ -142,6 +143,14 @@ pub record Tables : Type 0 where
   pub blocks : List ℕ
   pub log : List ℕ
 
+-- the waiting rows, as they stand
+abbrev pub waitingRows : Tables → List Copy
+waitingRows T = rowsOf waiting.form (T .waiting) (cell (T .net) waitingAt)
+
+-- THE QUEUE that such rows hold: themselves, since they stand by time, then sequence
+abbrev pub queueOf : Sizes → List Copy → List Copy
+queueOf z rows = rows
+
 -- what of the book the tables hold
 abbrev pub live : Sizes → Tables → Live
 live z T = record {
@@ -156,6 +165,6 @@ live z T = record {
   rings = rings.allRings (ringsOf z) (T .rings);
   words = T .words;
   sequence = cell (T .net) sequenceAt;
-  waiting = rowsOf waiting.form (T .waiting) (cell (T .net) waitingAt);
+  waiting = queueOf z (waitingRows T);
   log = log.logOf (z .logSlots) (T .log);
 }

@@ -25,7 +25,7 @@ use Rattle.spec_network.specs.Flush.{Row, served, later, stops, lands}
 use Rattle.spec_network.specs.Calls as calls
 use Rattle.spec_network.specs.Calls.{Call, Answer, silent, answerOf, accept, flush, takeDown, bringUp, handlers, block, blockDuring, unblock, install, remove, decide, drain, reading, withHandlers}
 use Rattle.spec_network.specs.Questions.{Room, alone, askedIn, firstNo}
-use Rattle.spec_network.specs.Tables.{cell, Tables, live, tillForm, idsStart, sequenceAt, waitingAt, rulesAt, installedAt, faultWordsAt, blocksAt}
+use Rattle.spec_network.specs.Tables.{cell, Tables, waitingRows, live, tillForm, idsStart, sequenceAt, waitingAt, rulesAt, installedAt, faultWordsAt, blocksAt}
 use Rattle.spec_network.specs.Real.{openingAt}
 use Rattle.spec_network.specs.Lent.{question1}
 
@@ -78,6 +78,14 @@ marksT z T t ids = setSeen T (set (putWords (T .seen) (idsStart z t) ids) t (len
 abbrev pub waitingT : Tables → List Copy → Tables
 waitingT T w = setWaiting (netT T waitingAt (length w)) (over waiting.form w (T .waiting))
 
+-- a copy more in the queue, with the next sequence
+abbrev pub queuePush : Sizes → Tables → Copy → Tables
+queuePush z T c = waitingT (netT T sequenceAt (suc (cell (T .net) sequenceAt))) (insertCopy c (waitingRows T))
+
+-- the queue without the copies taken from its front; those left wait on
+abbrev pub queueTake : Sizes → Tables → (taken left : List Copy) → Tables
+queueTake z T taken left = waitingT T left
+
 -- a window more, behind the others
 abbrev pub blockT : Tables → BlockWindow → Tables
 blockT T e = let n = cell (T .net) blocksAt in setBlocks (netT T blocksAt (suc n)) (blockTable (T .blocks) n e)
@@ -116,7 +124,7 @@ drainT T = setLog T (log.clearedAt (T .log))
 -- each copy at its place, with the next sequence
 abbrev pub pushT : Sizes → Tables → List Copy → Tables
 pushT z T [] = T
-pushT z T (c ∷ cs) = pushT z (waitingT (netT T sequenceAt (suc (cell (T .net) sequenceAt))) (insertCopy c (live z T .waiting))) cs
+pushT z T (c ∷ cs) = pushT z (queuePush z T c) cs
 
 module _ (o : Opening) (m : Message) where
   abbrev pub rememberT : Tables → Tables
@@ -158,7 +166,7 @@ abbrev pub flushT : Sizes → Tables → (now rows : ℕ) → Tables
 flushT z T now rows =
     let s = live z T in
     let T₁ = clearT z s (served now rows s) T in
-    let T₂ = waitingT T₁ (later now rows s) in
+    let T₂ = queueTake z T₁ (served now rows s) (later now rows s) in
     recordAllT z T₂ (lands s (served now rows s))
 
 -- ---- Every call
