@@ -12,9 +12,9 @@ use Rattle.spec_network.specs.Lists.{count}
 use Rattle.spec_network.specs.Opening.{Settings, Opening, Draws}
 use Rattle.spec_network.specs.Layout.{plain, table}
 use Rattle.spec_network.specs.Live.{Live, LiveBy, plainly, openingLive, ringsOf}
-use Rattle.spec_network.specs.Accept.{messageOf, selected, booked, noCounts, tally, total}
+use Rattle.spec_network.specs.Accept.{messageOf, chosen, booked, noCounts, tally, total}
 use Rattle.spec_network.specs.Flush.{handled}
-use Rattle.spec_network.specs.Calls.{Call, Answer, liveStep, answerOf, countsIn, rowsIn, deliveredIn, dropsIn, accept, flush, takeDown, bringUp, handlers, block, blockDuring, unblock, install, remove, decide, drain, reading}
+use Rattle.spec_network.specs.Calls.{Call, Answer, liveStep, answerOf, countsIn, rowsIn, deliveredIn, dropsIn, Kind, kindOf, accept, flush, takeDown, drain}
 use Rattle.spec_network.specs.Questions.{Asked, Room, alone, askedIn, asked, firstNo, answerTo}
 use Rattle.spec_network.specs.Tables.{Tables, sizesAt, settingsAt, live}
 use Rattle.spec_network.specs.Real.{keyOf, costAt, openingOf, openingAt}
@@ -24,7 +24,7 @@ use Rattle.spec_network.specs.Open.{askedOpening, openNumber, openTables, openE
 use Rattle.spec_network.proofs.Opened.{keys-are, costs-are, SameDraws, draws-are}
 use Rattle.spec_book.specs.Book.{Book, landedIn, droppedIn, bookStep, expected, opened}
 use Rattle.spec_book.specs.History.{hasSequence}
-use Rattle.spec_book.specs.Demand3.{Item, own, others, reopen, Admitted, AllAdmitted, replyTo, tablesAfter, tablesAtEnd, refused, Kept, copiesOf, bookAfter, expectedOf, bookAtEnd, OnlyNo, NumberIs, SumOf, isDrain, logFrom, LogOf, OutputOf, CallHolds, CallsHold, BookHolds, OpeningHeld, Demand3, Run, Accepted, EveryList}
+use Rattle.spec_book.specs.Demand3.{Item, own, others, reopen, Admitted, AllAdmitted, replyTo, tablesAfter, tablesAtEnd, refused, Kept, copiesOf, bookAfter, expectedOf, bookAtEnd, OnlyNo, NumberIs, SumBy, SumOf, isDrain, logFrom, LogOf, OutputOf, CallHolds, CallsHold, BookHolds, OpeningHeld, Demand3, Run, Accepted, EveryList}
 use Rattle.spec_book.proofs.Marks.{two-originals}
 use Rattle.spec_book.proofs.Sound.{SoundBook, book-sound, opened-sound}
 use Rattle.spec_book.proofs.Plain as layout
@@ -32,7 +32,8 @@ use Rattle.spec_book.proofs.Plain.{InOrder}
 use Rattle.spec_book.proofs.Drawing as drawing
 use Rattle.spec_book.proofs.Drawing.{by}
 use Rattle.spec_book.proofs.Sums.{booked-tills, booked-total}
-use Rattle.spec_book.proofs.Moves.{book-rows, book-drops, book-delivered, book-log, quiet}
+use Rattle.spec_book.proofs.Moves.{book-rows, book-drops, book-delivered, book-log}
+use Rattle.spec_book.proofs.EachKind.{each-kind}
 use Rattle.spec_book.proofs.Asking.{first-no, apart-in, apart, apart-opening}
 use Rattle.spec_book.proofs.Fitting.{Limited}
 use Rattle.spec_book.proofs.StepFits.{step-fits}
@@ -170,33 +171,27 @@ module _ (o : Opening) where
       go false = e
 
   sum : (b : Book) (T : Tables) (i : Item) → Bears o T b → Admitted i → SumOf o b i (replyTo T i)
-  sum b T (own room (accept e true)) h a = λ z.
-      let c = accept e true in
-      let ts = selected o (b .live) (e .scope) (e .from) in
-      let m = messageOf o e in
-      let n : countsIn (roomReply room T c .answer) ≡ tally (booked o m (b .live) ts) =
-      ap countsIn (same-answer b T (own room c) h tt) ∙ ap (λ (k : ℕ). countsIn (expected o b c (isNumber k))) z in
-      record { each-once = booked-tills o m (b .live) ts; counts = n; sum = ap total n ∙ booked-total o m (b .live) ts }
-  sum b T (own room (accept e false)) h a = none room b T (accept e false) h refl
-  sum b T (own room (flush now rows)) h a = none room b T (flush now rows) h refl
-  sum b T (own room (takeDown t)) h a = none room b T (takeDown t) h refl
-  sum b T (own room (bringUp t shards)) h a = none room b T (bringUp t shards) h refl
-  sum b T (own room (handlers t gossip host)) h a = none room b T (handlers t gossip host) h refl
-  sum b T (own room (block from to)) h a = none room b T (block from to) h refl
-  sum b T (own room (blockDuring from to start end)) h a = none room b T (blockDuring from to start end) h refl
-  sum b T (own room (unblock from to)) h a = none room b T (unblock from to) h refl
-  sum b T (own room (install card)) h a = none room b T (install card) h refl
-  sum b T (own room (remove id)) h a = none room b T (remove id) h refl
-  sum b T (own room (decide x)) h a = none room b T (decide x) h refl
-  sum b T (own room (drain rows)) h a = none room b T (drain rows) h refl
-  sum b T (own room (reading x)) h a = none room b T (reading x) h (quiet (b .live) x .counts)
+  sum b T (own room c) h a =
+      each-kind o (b .live) (λ (x : Call). SumBy o b (kindOf x) (roomReply room T x))
+      (λ e z.
+          let x = accept e true in
+          let ts = chosen o (b .live) e in
+          let m = messageOf o e in
+          let n : countsIn (roomReply room T x .answer) ≡ tally (booked o m (b .live) ts) =
+          ap countsIn (same-answer b T (own room x) h tt) ∙ ap (λ (k : ℕ). countsIn (expected o b x (isNumber k))) z in
+          record { each-once = booked-tills o m (b .live) ts; counts = n; sum = ap total n ∙ booked-total o m (b .live) ts })
+      (λ now rows. none room b T (flush now rows) h refl)
+      (λ t. none room b T (takeDown t) h refl)
+      (λ rows. none room b T (drain rows) h refl)
+      (λ x i. subst (λ (k : Kind). SumBy o b k (roomReply room T x)) (sym (i .kind)) (none room b T x h (i .answer .counts)))
+      c
   sum b T (others X c) h a = rw a
   sum b T (reopen X y ms) h a = refl
 
   log-of : (b : Book) (T : Tables) (i : Item) → Bears o T b → Admitted i → LogOf o b (bookAfter o b T i) i (replyTo T i)
   log-of b T (own room c) h a = λ z.
       ap (λ (k : ℕ). bookStep o b c (isNumber k) .live .log) z ∙ book-log o b c
-      ∙ ap (logFrom o (isDrain o c) (b .live .log)) (sym (same-answer b T (own room c) h tt ∙ ap (λ (k : ℕ). expected o b c (isNumber k)) z))
+      ∙ ap (logFrom o (isDrain o (kindOf c)) (b .live .log)) (sym (same-answer b T (own room c) h tt ∙ ap (λ (k : ℕ). expected o b c (isNumber k)) z))
   log-of b T (others X c) h a = rw a
   log-of b T (reopen X y ms) h a = refl
 

@@ -8,7 +8,7 @@ use Rattle.spec_network.specs.Layout.{plain}
 use Rattle.spec_network.specs.Live.{LiveBy, openingLive}
 use Rattle.spec_network.specs.Accept.{Entry, Message, messageOf, chosen, entered, Drawn, drawn, Class, deduplicated, partition, loss, fault, sent, classOf, copies, offered}
 use Rattle.spec_network.specs.Flush.{served, stops}
-use Rattle.spec_network.specs.Calls.{Call, Answer, silent, liveStep, answerOf, accept, flush, takeDown, bringUp, handlers, block, blockDuring, unblock, install, remove, decide, drain, reading}
+use Rattle.spec_network.specs.Calls.{Call, Answer, silent, liveStep, answerOf, Kind, kindOf, accepting, flushing, takingDown, draining, quiet}
 
 -- What happened to a copy, and take-downs.
 pub data Event : Type 0 where
@@ -75,21 +75,15 @@ module _ (o : Opening) where
   abbrev pub entering : LiveBy plain → Entry → List Event → List Event
   entering s e es = es
 
+  abbrev pub happenedBy : LiveBy plain → Kind → List Event → List Event
+  happenedBy s (accepting e) es = eventsAfter (messageOf o e) (entered o e s) (chosen o s e) (entering s e es)
+  happenedBy s (flushing now rows) es = flushEvents s (served now rows s) es
+  happenedBy s (takingDown t) es = down t ∷ es
+  happenedBy s draining es = es
+  happenedBy s quiet es = es
+
   abbrev pub happened : LiveBy plain → Call → List Event → List Event
-  happened s (accept e true) es = eventsAfter (messageOf o e) (entered o e s) (chosen o s e) (entering s e es)
-  happened s (accept e false) es = es
-  happened s (flush now rows) es = flushEvents s (served now rows s) es
-  happened s (takeDown t) es = down t ∷ es
-  happened s (bringUp t shards) es = es
-  happened s (handlers t gossip host) es = es
-  happened s (block from to) es = es
-  happened s (blockDuring from to start end) es = es
-  happened s (unblock from to) es = es
-  happened s (install card) es = es
-  happened s (remove id) es = es
-  happened s (decide x) es = es
-  happened s (drain rows) es = es
-  happened s (reading r) es = es
+  happened s c es = happenedBy s (kindOf c) es
 
   -- ---- The book, fed the call and whether a number refused it
 

@@ -17,7 +17,7 @@ use Rattle.spec_network.specs.Live.{plainly, marked}
 use Rattle.table_log.specs.Log.{Log, emptyLog}
 use Rattle.spec_network.specs.Accept.{messageOf, selected, chosen, entered, Booked, booked, noCounts, tally, total}
 use Rattle.spec_network.specs.Flush.{Row, handled, due, loggedAll}
-use Rattle.spec_network.specs.Calls.{Call, Answer, silent, countsIn, rowsIn, deliveredIn, dropsIn, accept, flush, takeDown, bringUp, handlers, block, blockDuring, unblock, install, remove, decide, drain, reading}
+use Rattle.spec_network.specs.Calls.{Call, Answer, silent, countsIn, rowsIn, deliveredIn, dropsIn, Kind, kindOf, accepting, flushing, takingDown, draining, quiet}
 use Rattle.spec_network.specs.Questions.{Room, askedIn, asked, firstNo, answerTo}
 use Rattle.spec_network.specs.Tables.{Tables, sizesAt, settingsAt, live}
 use Rattle.spec_network.specs.Real.{keyOf, costAt, bookKey, bookCost, openingOf, openingAt}
@@ -113,47 +113,32 @@ module _ (o : Opening) where
     pub counts : countsIn a ≡ tally bs
     pub sum : total (countsIn a) ≡ length (selected o (b .live) scope from)
 
+  abbrev pub SumBy : Book → Kind → Reply → Type 0
+  SumBy b (accepting e) r = r .number ≡ 0 → FiveCounts b (e .scope) (e .from) (booked o (messageOf o e) (entered o e (b .live)) (chosen o (b .live) e)) (r .answer)
+  SumBy b (flushing now rows) r = countsIn (r .answer) ≡ noCounts
+  SumBy b (takingDown t) r = countsIn (r .answer) ≡ noCounts
+  SumBy b draining r = countsIn (r .answer) ≡ noCounts
+  SumBy b quiet r = countsIn (r .answer) ≡ noCounts
+
   abbrev pub SumOf : Book → Item → Reply → Type 0
-  SumOf b (own room (accept e true)) r =
-      r .number ≡ 0 → FiveCounts b (e .scope) (e .from) (booked o (messageOf o e) (entered o e (b .live)) (chosen o (b .live) e)) (r .answer)
-  SumOf b (own room (accept e false)) r = countsIn (r .answer) ≡ noCounts
-  SumOf b (own room (flush now rows)) r = countsIn (r .answer) ≡ noCounts
-  SumOf b (own room (takeDown t)) r = countsIn (r .answer) ≡ noCounts
-  SumOf b (own room (bringUp t shards)) r = countsIn (r .answer) ≡ noCounts
-  SumOf b (own room (handlers t gossip host)) r = countsIn (r .answer) ≡ noCounts
-  SumOf b (own room (block from to)) r = countsIn (r .answer) ≡ noCounts
-  SumOf b (own room (blockDuring from to start end)) r = countsIn (r .answer) ≡ noCounts
-  SumOf b (own room (unblock from to)) r = countsIn (r .answer) ≡ noCounts
-  SumOf b (own room (install card)) r = countsIn (r .answer) ≡ noCounts
-  SumOf b (own room (remove id)) r = countsIn (r .answer) ≡ noCounts
-  SumOf b (own room (decide x)) r = countsIn (r .answer) ≡ noCounts
-  SumOf b (own room (drain rows)) r = countsIn (r .answer) ≡ noCounts
-  SumOf b (own room (reading x)) r = countsIn (r .answer) ≡ noCounts
+  SumOf b (own room c) r = SumBy b (kindOf c) r
   SumOf b (others X c) r = r .answer ≡ silent
   SumOf b (reopen X y ms) r = r .answer ≡ silent
 
   -- the log follows from the rows: each row's delivery goes in, in their order; a drain empties it
-  abbrev pub isDrain : Call → Bool
-  isDrain (drain rows) = true
-  isDrain (accept e opens) = false
-  isDrain (flush now rows) = false
-  isDrain (takeDown t) = false
-  isDrain (bringUp t shards) = false
-  isDrain (handlers t gossip host) = false
-  isDrain (block from to) = false
-  isDrain (blockDuring from to start end) = false
-  isDrain (unblock from to) = false
-  isDrain (install card) = false
-  isDrain (remove id) = false
-  isDrain (decide x) = false
-  isDrain (reading r) = false
+  abbrev pub isDrain : Kind → Bool
+  isDrain draining = true
+  isDrain (accepting e) = false
+  isDrain (flushing now rows) = false
+  isDrain (takingDown t) = false
+  isDrain quiet = false
 
   abbrev pub logFrom : Bool → Log → Answer → Log
   logFrom true l a = emptyLog
   logFrom false l a = loggedAll (o .sizes .logSlots) l (copiesOf (rowsIn a))
 
   abbrev pub LogOf : Book → Book → Item → Reply → Type 0
-  LogOf b b′ (own room c) r = r .number ≡ 0 → b′ .live .log ≡ logFrom (isDrain c) (b .live .log) (r .answer)
+  LogOf b b′ (own room c) r = r .number ≡ 0 → b′ .live .log ≡ logFrom (isDrain (kindOf c)) (b .live .log) (r .answer)
   LogOf b b′ (others X c) r = b′ .live .log ≡ b .live .log
   LogOf b b′ (reopen X y ms) r = b′ .live .log ≡ b .live .log
 

@@ -8,11 +8,12 @@ use mathlib.Core.List.{List, [], _∷_}
 use lib.Dec.{leb}
 use lib.ListN.{length}
 use borrow.Author.Tests.{le-leb, leb-true}
+use Rattle.table_waiting.specs.declared.Copy.{Copy}
 use Rattle.spec_network.specs.Opening.{Opening, Draws}
 use Rattle.spec_network.specs.Layout.{plain}
 use Rattle.spec_network.specs.Live.{Live, LiveBy}
-use Rattle.spec_network.specs.Accept.{Message, messageOf, selected, drawn, Class, deduplicated, partition, loss, fault, sent, classOf, copies, effect, offered, liveAfter}
-use Rattle.spec_network.specs.Calls.{Call, liveStep, accept, flush, takeDown, bringUp, handlers, block, blockDuring, unblock, install, remove, decide, drain, reading}
+use Rattle.spec_network.specs.Accept.{Message, messageOf, chosen, drawn, Class, deduplicated, partition, loss, fault, sent, classOf, copies, effect, offered, liveAfter}
+use Rattle.spec_network.specs.Calls.{Call, liveStep, accept}
 use Rattle.spec_network.specs.Questions.{alone, pooled, firstNo, askedIn}
 use Rattle.spec_network.specs.Tables.{Tables, live}
 use Rattle.spec_network.specs.Real.{openingAt}
@@ -23,6 +24,7 @@ use Rattle.spec_book.specs.Demand3.{Item, own, others, reopen, replyTo, tablesA
 use Rattle.spec_book.proofs.Each.{both}
 use Rattle.spec_book.proofs.Asking.{all-yes, apart-in}
 use Rattle.spec_book.proofs.Echoing.{drawn-few}
+use Rattle.spec_book.proofs.EachKind.{each-kind}
 use Rattle.spec_book.proofs.Serving.{later-short}
 use Rattle.spec_book.proofs.Fitting.{length-insertAll, few-copies}
 use Rattle.spec_book.proofs.Drawing.{by}
@@ -33,24 +35,18 @@ use Rattle.spec_chains.specs.Chains.{placed, InsideCall, Inside}
 
 module _ (o : Opening) (share free : ℕ) (in-limit : share ≤ o .sizes .waitSlots) (in-pool : share ≤ free) where
   pub same-number : (d : Draws) (s : Live) (c : Call) → InsideCall o share s c → firstNo (askedIn (by o d) (pooled free) s c) ≡ firstNo (askedIn (by o d) alone s c)
-  same-number d s (accept e true) h =
-      let n : ℕ = length (s .waiting) + 3 * length (selected o s (e .scope) (e .from)) in
-      let l : leb n (o .sizes .waitSlots) ≡ true = le-leb n (o .sizes .waitSlots) (le-trans h in-limit) in
-      let p : leb n free ≡ true = le-leb n free (le-trans h in-pool) in
-      rw (l, p)
-  same-number d s (accept e false) h = refl
-  same-number d s (flush now rows) h = refl
-  same-number d s (takeDown t) h = refl
-  same-number d s (bringUp t shards) h = refl
-  same-number d s (handlers t gossip host) h = refl
-  same-number d s (block from to) h = refl
-  same-number d s (blockDuring from to start end) h = refl
-  same-number d s (unblock from to) h = refl
-  same-number d s (install card) h = refl
-  same-number d s (remove id) h = refl
-  same-number d s (decide x) h = refl
-  same-number d s (drain rows) h = refl
-  same-number d s (reading r) h = refl
+  same-number d s c =
+      each-kind (by o d) s (λ (x : Call). InsideCall o share s x → firstNo (askedIn (by o d) (pooled free) s x) ≡ firstNo (askedIn (by o d) alone s x))
+      (λ e h.
+          let n : ℕ = length (s .waiting) + 3 * length (chosen o s e) in
+          let l : leb n (o .sizes .waitSlots) ≡ true = le-leb n (o .sizes .waitSlots) (le-trans h in-limit) in
+          let p : leb n free ≡ true = le-leb n free (le-trans h in-pool) in
+          rw (l, p))
+      (λ now rows h. refl)
+      (λ t h. refl)
+      (λ rows h. refl)
+      (λ x i h. ap firstNo (i .questions (pooled free)))
+      c
 
   number-alone : (d : Draws) (T : Tables) (c : Call) → InsideCall o share (live (o .sizes) T) c → numberIn (by o d) (pooled free) T c ≡ numberIn (by o d) alone T c
   number-alone d T c h = ap (λ (n : ℕ). cond (question1 (o .sizes) T c) n 1) (same-number d (live (o .sizes) T) c h)
@@ -85,24 +81,18 @@ module _ (o : Opening) where
 
   -- no more than there were, or than it found room for
   pub step-few : (free most : ℕ) (s : LiveBy plain) (c : Call) → firstNo (askedIn o (pooled free) s c) ≡ 0 → length (s .waiting) ≤ most → free ≤ most → length (liveStep o s c .waiting) ≤ most
-  step-few free most s (accept e true) h w f =
-      let y = all-yes (askedIn o (pooled free) s (accept e true)) (apart-in o (pooled free) s (accept e true)) h in
-      let n : ℕ = length (s .waiting) + 3 * length (selected o s (e .scope) (e .from)) in
-      let l = leb-true n free (both (leb n (o .sizes .waitSlots)) (leb n free) (y .1 .1 .1 .1 .1 .1 .1 .0) .1) in
-      omega (arith, accept-few (messageOf o e) (selected o s (e .scope) (e .from)) s, l)
-  step-few free most s (accept e false) h w f = w
-  step-few free most s (flush now rows) h w f = le-trans (later-short now rows s) w
-  step-few free most s (takeDown t) h w f = w
-  step-few free most s (bringUp t shards) h w f = w
-  step-few free most s (handlers t gossip host) h w f = w
-  step-few free most s (block from to) h w f = w
-  step-few free most s (blockDuring from to start end) h w f = w
-  step-few free most s (unblock from to) h w f = w
-  step-few free most s (install card) h w f = w
-  step-few free most s (remove id) h w f = w
-  step-few free most s (decide x) h w f = w
-  step-few free most s (drain rows) h w f = w
-  step-few free most s (reading r) h w f = w
+  step-few free most s c h w f =
+      each-kind o s (λ (x : Call). firstNo (askedIn o (pooled free) s x) ≡ 0 → length (liveStep o s x .waiting) ≤ most)
+      (λ e q.
+          let y = all-yes (askedIn o (pooled free) s (accept e true)) (apart-in o (pooled free) s (accept e true)) q in
+          let n : ℕ = length (s .waiting) + 3 * length (chosen o s e) in
+          let l = leb-true n free (both (leb n (o .sizes .waitSlots)) (leb n free) (y .1 .1 .1 .1 .1 .1 .1 .0) .1) in
+          omega (arith, accept-few (messageOf o e) (chosen o s e) s, l))
+      (λ now rows q. le-trans (later-short now rows s) w)
+      (λ t q. w)
+      (λ rows q. w)
+      (λ x i q. subst (λ (l : List Copy). length l ≤ most) (sym (i .waiting)) w)
+      c h
 
   pub book-few : (free most : ℕ) (b : Book) (c : Call) (n : ℕ) → n ≡ firstNo (askedIn o (pooled free) (b .live) c) → length (b .live .waiting) ≤ most → free ≤ most → length (bookStep o b c (isNumber n) .live .waiting) ≤ most
   book-few free most b c zero e w f = step-few free most (b .live) c (sym e) w f

@@ -7,8 +7,8 @@ use lib.Dec.{eqb}
 use lib.ListN.{length}
 use Rattle.spec_network.specs.Opening.{Opening}
 use Rattle.spec_network.specs.Live.{Live}
-use Rattle.spec_network.specs.Accept.{selected}
-use Rattle.spec_network.specs.Calls.{Call, accept, flush, takeDown, bringUp, handlers, block, blockDuring, unblock, install, remove, decide, drain, reading}
+use Rattle.spec_network.specs.Accept.{chosen}
+use Rattle.spec_network.specs.Calls.{Call, Kind, kindOf, accepting, flushing, takingDown, draining, quiet}
 use Rattle.spec_network.specs.Questions.{Room, alone, pooled}
 use Rattle.spec_network.specs.Tables.{cell, Tables, live, waitingAt}
 use Rattle.spec_network.specs.Writes.{Reply}
@@ -102,21 +102,15 @@ pub record BenchHolds (B : Bench) (acts : List Act) : Type 0 where
 -- ---- Inside the share
 
 -- an accept that opens: waiting plus 3 × selected stay within `share`; any other call is inside
+abbrev pub InsideBy : Opening → (share : ℕ) → Live → Kind → Type 0
+InsideBy o share s (accepting e) = length (s .waiting) + 3 * length (chosen o s e) ≤ share
+InsideBy o share s (flushing now rows) = Unit {0}
+InsideBy o share s (takingDown t) = Unit {0}
+InsideBy o share s draining = Unit {0}
+InsideBy o share s quiet = Unit {0}
+
 abbrev pub InsideCall : Opening → (share : ℕ) → Live → Call → Type 0
-InsideCall o share s (accept e true) = length (s .waiting) + 3 * length (selected o s (e .scope) (e .from)) ≤ share
-InsideCall o share s (accept e false) = Unit {0}
-InsideCall o share s (flush now rows) = Unit {0}
-InsideCall o share s (takeDown t) = Unit {0}
-InsideCall o share s (bringUp t shards) = Unit {0}
-InsideCall o share s (handlers t gossip host) = Unit {0}
-InsideCall o share s (block from to) = Unit {0}
-InsideCall o share s (blockDuring from to start end) = Unit {0}
-InsideCall o share s (unblock from to) = Unit {0}
-InsideCall o share s (install card) = Unit {0}
-InsideCall o share s (remove id) = Unit {0}
-InsideCall o share s (decide x) = Unit {0}
-InsideCall o share s (drain rows) = Unit {0}
-InsideCall o share s (reading r) = Unit {0}
+InsideCall o share s c = InsideBy o share s (kindOf c)
 
 abbrev pub Inside : Opening → (share : ℕ) → Tables → Item → Type 0
 Inside o share T (own room c) = InsideCall o share (live (o .sizes) T) c

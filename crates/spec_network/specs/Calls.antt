@@ -46,6 +46,30 @@ pub data Call : Type 0 where
   drain : (rows : ℕ) → Call
   reading : Reading → Call
 
+-- ---- Calls by what they do to copies, marks and log: an entry that opened, a flush, a take-down, a drain; every other call is quiet
+
+pub data Kind : Type 0 where
+  accepting : Entry → Kind
+  flushing : (now rows : ℕ) → Kind
+  takingDown : (t : ℕ) → Kind
+  draining quiet : Kind
+
+abbrev pub kindOf : Call → Kind
+kindOf (accept e true) = accepting e
+kindOf (accept e false) = quiet
+kindOf (flush now rows) = flushing now rows
+kindOf (takeDown t) = takingDown t
+kindOf (bringUp t shards) = quiet
+kindOf (handlers t gossip host) = quiet
+kindOf (block from to) = quiet
+kindOf (blockDuring from to start end) = quiet
+kindOf (unblock from to) = quiet
+kindOf (install card) = quiet
+kindOf (remove id) = quiet
+kindOf (decide x) = quiet
+kindOf (drain rows) = draining
+kindOf (reading r) = quiet
+
 -- ---- Tills
 
 -- the till is down; its marks, handlers and shards go, its waiting copies stay
@@ -150,43 +174,38 @@ module _ (o : Opening) where
   answerOf s (drain rows) = drained s.log
   answerOf s (reading r) = read s r
 
--- the counts, rows, handled rows and drops of an answer; none where it has none
+-- ---- Every answer shown the same way; where it has no such part, that part is empty
+
+pub record Shown : Type 0 where
+  pub counts : Counts
+  pub rows : List Row
+  pub delivered : ℕ
+  pub drops : ℕ
+  pub found : ℕ
+  pub value : ℕ
+  pub tally : Tally
+  pub log : Log
+  pub copies : List Copy
+  pub ids : List ℕ
+
+abbrev pub shown : Answer → Shown
+shown silent = record { counts = noCounts; rows = []; delivered = 0; drops = 0; found = 0; value = 0; tally = noTally; log = emptyLog; copies = []; ids = [] }
+shown (counted n) = record { counts = n; rows = []; delivered = 0; drops = 0; found = 0; value = 0; tally = noTally; log = emptyLog; copies = []; ids = [] }
+shown (moved rows delivered n) = record { counts = noCounts; rows = rows; delivered = delivered; drops = n; found = 0; value = 0; tally = noTally; log = emptyLog; copies = []; ids = [] }
+shown (number found value) = record { counts = noCounts; rows = []; delivered = 0; drops = 0; found = found; value = value; tally = noTally; log = emptyLog; copies = []; ids = [] }
+shown (tallied t) = record { counts = noCounts; rows = []; delivered = 0; drops = 0; found = 0; value = 0; tally = t; log = emptyLog; copies = []; ids = [] }
+shown (drained l) = record { counts = noCounts; rows = []; delivered = 0; drops = 0; found = 0; value = 0; tally = noTally; log = l; copies = []; ids = [] }
+shown (copies cs) = record { counts = noCounts; rows = []; delivered = 0; drops = 0; found = 0; value = 0; tally = noTally; log = emptyLog; copies = cs; ids = [] }
+shown (ids is) = record { counts = noCounts; rows = []; delivered = 0; drops = 0; found = 0; value = 0; tally = noTally; log = emptyLog; copies = []; ids = is }
+
 abbrev pub countsIn : Answer → Counts
-countsIn (counted n) = n
-countsIn silent = noCounts
-countsIn (moved rows delivered drops) = noCounts
-countsIn (number found value) = noCounts
-countsIn (tallied t) = noCounts
-countsIn (drained l) = noCounts
-countsIn (copies cs) = noCounts
-countsIn (ids is) = noCounts
+countsIn a = shown a .counts
 
 abbrev pub rowsIn : Answer → List Row
-rowsIn (moved rows delivered drops) = rows
-rowsIn silent = []
-rowsIn (counted n) = []
-rowsIn (number found value) = []
-rowsIn (tallied t) = []
-rowsIn (drained l) = []
-rowsIn (copies cs) = []
-rowsIn (ids is) = []
+rowsIn a = shown a .rows
 
 abbrev pub deliveredIn : Answer → ℕ
-deliveredIn (moved rows delivered drops) = delivered
-deliveredIn silent = 0
-deliveredIn (counted n) = 0
-deliveredIn (number found value) = 0
-deliveredIn (tallied t) = 0
-deliveredIn (drained l) = 0
-deliveredIn (copies cs) = 0
-deliveredIn (ids is) = 0
+deliveredIn a = shown a .delivered
 
 abbrev pub dropsIn : Answer → ℕ
-dropsIn (moved rows delivered drops) = drops
-dropsIn silent = 0
-dropsIn (counted n) = 0
-dropsIn (number found value) = 0
-dropsIn (tallied t) = 0
-dropsIn (drained l) = 0
-dropsIn (copies cs) = 0
-dropsIn (ids is) = 0
+dropsIn a = shown a .drops
