@@ -153,7 +153,7 @@ module _ (T : Tables) (e : Entry) (lends : acceptLent (T .setup) (T .net) (T .na
         ≡ allOf (freeAt (T .setup) (T .seen) m) (left (T .setup) (T .tills) m 0) =
         all-same (λ u. receives (live (sizesAt (T .setup)) T) (e .scope) u && not (eqb u (e .from))) (λ (u : ℕ). marked (live (sizesAt (T .setup)) T) u (messageOf (openingAt T) e .id) || ltb (length (idsAt (live (sizesAt (T .setup)) T) u)) (sizesAt (T .setup) .seenSlots)) (freeAt (T .setup) (T .seen) m) (sizesAt (T .setup) .tills) (λ i. i) free-same
         ∙ ap (allOf (freeAt (T .setup) (T .seen) m)) c in
-        let long : length (live (sizesAt (T .setup)) T .waiting) ≡ cell (T .net) waitingAt = length-rows queue.width queue.read (cell (T .net) waitingAt) (T .waiting) in
+        let long : length (live (sizesAt (T .setup)) T .queue .waiting) ≡ cell (T .net) waitingAt = length-rows queue.width queue.read (cell (T .net) waitingAt) (T .waiting) in
         r
         ∙ sym (λ j. cond (ltb (cell (T .net) faultWordsAt) mostWords && allOf (λ (u : ℕ). ltb (cell (T .words) (link (sym from j) u)) mostWords) (c j)) (cond (leb (cell (T .net) sequenceAt + 3 * length (c j)) lastNumber) (cond (free j) (cond (leb (long j + 3 * length (c j)) (sizesAt (T .setup) .waitSlots)) 0 11) 10) 9) 8)
         ∙ sym (λ j. ladder (g .0 j) (g .1 j) (g .2 j) (g .3 j) late)

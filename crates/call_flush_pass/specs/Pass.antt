@@ -38,8 +38,7 @@ ground z tills blocks = record {
   engine = record { blocks = rowsOf blockForm blocks (z .windows); rules = []; installed = 0; words = 0 };
   rings = [];
   words = [];
-  sequence = 0;
-  waiting = [];
+  queue = record { sequence = 0; waiting = [] };
   log = emptyLog;
 }
 

@@ -162,13 +162,13 @@ module _ (setup net names tills words keys prices seen waiting rings rules block
       decisions′ = omega (arith, ap (λ (x : Live). x .engine .words) here, decided T (told m) to (classOf o (told m) s to), G .state .rulesUsed)
 
       numbers′ : cell (T′ .net) sequenceAt ≤ cell net sequenceAt + 3
-      numbers′ = omega (arith, ap (λ (x : Live). x .sequence) here, step .sequence)
+      numbers′ = omega (arith, ap (λ (x : Live). x .queue .sequence) here, step .sequence)
 
       slots′ : cell (T′ .net) waitingAt ≤ cell net waitingAt + 3
       slots′ =
           let a = length-rows queue.width queue.read (cell (T′ .net) waitingAt) (T′ .waiting) in
           let c = length-rows queue.width queue.read (cell net waitingAt) waiting in
-          omega (arith, ap (λ (x : Live). length (x .waiting)) here, step .waiting)
+          omega (arith, ap (λ (x : Live). length (x .queue .waiting)) here, step .waiting)
 
       -- the marks of another till
       other : (t : ℕ) → t < z .tills → (t ≡ to → ⊥) → idsOf (T′ .seen) (idsStart z t) (cell (T′ .seen) t) ≡ idsOf seen (idsStart z t) (cell seen t)

@@ -72,8 +72,8 @@ set-any P d x (a ∷ l) (suc at) (suc r) p q = set-any P d x l at r p q
 pub record Step (o : Opening) (m : Message) (s s′ : Live) (t : ℕ) : Type 0 where
   pub words : (u : ℕ) → (u ≡ t → ⊥) → getD (s′ .words) (link (m .from) u) 0 ≡ getD (s .words) (link (m .from) u) 0
   pub seen : (u : ℕ) → (u ≡ t → ⊥) → idsAt s′ u ≡ idsAt s u
-  pub sequence : s′ .sequence ≤ s .sequence + 3
-  pub waiting : length (s′ .waiting) ≤ length (s .waiting) + 3
+  pub sequence : s′ .queue .sequence ≤ s .queue .sequence + 3
+  pub waiting : length (s′ .queue .waiting) ≤ length (s .queue .waiting) + 3
   pub near : (W : ℕ) → m .wire ≤ W → ((r k : ℕ) → getD (getD (s .rings) r []) k none .wire ≤ W) → (r k : ℕ) → getD (getD (s′ .rings) r []) k none .wire ≤ W
 
 abbrev wires : ℕ → Carried → Type 0
@@ -110,7 +110,7 @@ module _ (o : Opening) (m : Message) (s : Live) (t : ℕ) where
         words = λ u h. other-link u _ h;
         seen = λ u h. getD-set-other (s .seen) t u _ [] h;
         sequence = omega arith;
-        waiting = omega (arith, length-insertAll table (copies o m s d t) (s .waiting));
+        waiting = omega (arith, length-insertAll table (copies o m s d t) (s .queue .waiting));
         near = ring-near;
       }
 

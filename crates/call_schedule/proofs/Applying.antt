@@ -151,7 +151,7 @@ module _ (o : Opening) (m : accept.Message) (T : Tables) (t : ℕ) where
       let t₁ : netT (wordsT T (link (m .from) t) (x .echoes .words)) faultWordsAt (x .fault) ≡ ruledT (wordsT T (link (m .from) t) (d .echoes .words)) (d .verdict) =
       (λ j. netT (wordsT T (link (m .from) t) (words j)) faultWordsAt (sym (h .words) j)) ∙ unruled (wordsT T (link (m .from) t) (d .echoes .words)) (d .verdict) (h .passed) in (
         sym (a .0),
-        (λ j. rememberT o m (pushT (o .sizes) (marksT (o .sizes) (t₁ j) t (placed (m .id) (idsAt s t))) (numbered (s .sequence) (original m t (sym (h .latency) j) ∷ sym (h .echoes .copies) j)))) ∙ by-class _ (a .0),
+        (λ j. rememberT o m (pushT (o .sizes) (marksT (o .sizes) (t₁ j) t (placed (m .id) (idsAt s t))) (numbered (s .queue .sequence) (original m t (sym (h .latency) j) ∷ sym (h .echoes .copies) j)))) ∙ by-class _ (a .0),
       )
 
 -- ---- The counts

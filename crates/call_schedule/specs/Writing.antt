@@ -86,7 +86,7 @@ sentT o m T t x =
     let s = live (o .sizes) T in
     let T₁ = netT (wordsT T (link (m .from) t) (x .echoes .words)) faultWordsAt (x .fault) in
     let T₂ = marksT (o .sizes) T₁ t (placed (m .id) (idsAt s t)) in
-    rememberT o m (pushT (o .sizes) T₂ (numbered (s .sequence) (original m t (x .latency) ∷ echoesIn m t (x .echoes))))
+    rememberT o m (pushT (o .sizes) T₂ (numbered (s .queue .sequence) (original m t (x .latency) ∷ echoesIn m t (x .echoes))))
 
 unfoldable pub offerT : Opening → accept.Message → Tables → ℕ → Offer → Tables
 offerT o m T t Deduplicated = T

@@ -99,9 +99,9 @@ pub apart : (o : Opening) {k : Layout} (s : LiveBy k) (c : Call) → numbersApar
 apart o s c = apart-in o alone s c
 
 -- wherever the slots come from, there is room in the network's own limit
-pub room-fits : (o : Opening) (room : Room) {k : Layout} (s : LiveBy k) (e : Entry) → askRoom o s e room .yes ≡ true → length (s .waiting) + 3 * length (selected o s (e .scope) (e .from)) ≤ o .sizes .waitSlots
+pub room-fits : (o : Opening) (room : Room) {k : Layout} (s : LiveBy k) (e : Entry) → askRoom o s e room .yes ≡ true → length (s .queue .waiting) + 3 * length (selected o s (e .scope) (e .from)) ≤ o .sizes .waitSlots
 room-fits o alone s e h = leb-true _ _ h
-room-fits o (pooled free) s e h = leb-true _ _ (both (leb (length (s .waiting) + 3 * length (selected o s (e .scope) (e .from))) (o .sizes .waitSlots)) (leb (length (s .waiting) + 3 * length (selected o s (e .scope) (e .from))) free) h .0)
+room-fits o (pooled free) s e h = leb-true _ _ (both (leb (length (s .queue .waiting) + 3 * length (selected o s (e .scope) (e .from))) (o .sizes .waitSlots)) (leb (length (s .queue .waiting) + 3 * length (selected o s (e .scope) (e .from))) free) h .0)
 
 pub apart-opening : (x : Settings) (masks : List ℕ) (T : Tables) → numbersApart (askedOpening x masks T) ≡ true
 apart-opening x masks T = refl

@@ -55,7 +55,7 @@ In v = v < 2 ^ 64
 
 module _ (o : Opening) (lim : Limited (o .sizes)) (g : DrawsFit o) (m : Message) (k : NearMessage (o .sizes) m) (q : MessageFits m) where
   -- what an effect does to sequence, words and fault words
-  effect-sequence : (c : Class) (s : Live) (d : Drawn) (t : ℕ) → length (d .echoes .copies) ≤ 2 → effect o m c s d t .sequence ≤ s .sequence + 3
+  effect-sequence : (c : Class) (s : Live) (d : Drawn) (t : ℕ) → length (d .echoes .copies) ≤ 2 → effect o m c s d t .queue .sequence ≤ s .queue .sequence + 3
   effect-sequence deduplicated s d t h = omega arith
   effect-sequence partition s d t h = omega arith
   effect-sequence loss s d t h = omega arith
@@ -76,8 +76,8 @@ module _ (o : Opening) (lim : Limited (o .sizes)) (g : DrawsFit o) (m : Message)
   effect-fault fault s d t B h v = v
   effect-fault sent s d t B h v = v
 
-  accept-cells : (ts : List ℕ) (T : Tables) (s : Live) → Wrote (o .sizes) T s → Fits (o .sizes) s → Below (o .sizes .tills) ts → Each (Ready o m s) ts → length (s .waiting) + 3 * length ts ≤ o .sizes .waitSlots
-      → CellsFit T → s .sequence + 3 * length ts ≤ lastNumber → (W : ℕ) → Each (λ (t : ℕ). getD (s .words) (link (m .from) t) 0 ≤ W) ts → W + 26 * length ts ≤ 2 ^ 41 → s .engine .words + 128 * length ts ≤ 2 ^ 41
+  accept-cells : (ts : List ℕ) (T : Tables) (s : Live) → Wrote (o .sizes) T s → Fits (o .sizes) s → Below (o .sizes .tills) ts → Each (Ready o m s) ts → length (s .queue .waiting) + 3 * length ts ≤ o .sizes .waitSlots
+      → CellsFit T → s .queue .sequence + 3 * length ts ≤ lastNumber → (W : ℕ) → Each (λ (t : ℕ). getD (s .words) (link (m .from) t) 0 ≤ W) ts → W + 26 * length ts ≤ 2 ^ 41 → s .engine .words + 128 * length ts ≤ 2 ^ 41
       → CellsFit (acceptT o m T ts)
   unfolding offered drawn
   accept-cells [] T s w f b r l cells n W ws e v = cells
@@ -87,14 +87,14 @@ module _ (o : Opening) (lim : Limited (o .sizes)) (g : DrawsFit o) (m : Message)
       let c = classOf o m s t in
       let gd = drawn-good o m k s t (b .0) f in
       let free : c ≡ sent → marked s t (m .id) ≡ false = sent-unmarked (marked s t (m .id)) (stopped s (m .from) t (m .now)) (d .loss .value) (d .verdict .drops) in
-      let many : length (s .waiting) ≡ cell (T .net) waitingAt = sym (ap (λ (x : Live). length (x .waiting)) (w .holds)) ∙ length-rows waiting.width waiting.read (cell (T .net) waitingAt) (T .waiting) in
+      let many : length (s .queue .waiting) ≡ cell (T .net) waitingAt = sym (ap (λ (x : Live). length (x .queue .waiting)) (w .holds)) ∙ length-rows waiting.width waiting.read (cell (T .net) waitingAt) (T .waiting) in
       let slot : c ≡ sent → length (idsAt s t) < z .seenSlots = λ x. room o m s t (r .0) (free x) in
       let x = effect-wrote o m k (classOf o m (live z T) t) T (drawn o m t (live z T)) t (w .formed)
       (subst (λ (y : Live). Good o m (drawn o m t y)) (sym (w .holds)) gd .few) (b .0)
       (subst (λ (y : Live). classOf o m y t ≡ sent → length (idsAt y t) < z .seenSlots) (sym (w .holds)) slot) (omega (arith, many)) in
       let y : Wrote z (offeredT o m T t) (effect o m c s d t) =
       record { formed = x .formed; holds = x .holds ∙ ap (λ (y : Live). effect o m (classOf o m y t) y (drawn o m t y) t) (w .holds) } in
-      let given : cell (T .net) sequenceAt ≡ s .sequence = ap (λ (y : Live). y .sequence) (w .holds) in
+      let given : cell (T .net) sequenceAt ≡ s .queue .sequence = ap (λ (y : Live). y .queue .sequence) (w .holds) in
       let counted : getD (T .words) (link (m .from) t) 0 ≤ W = subst (λ (y : Live). getD (y .words) (link (m .from) t) 0 ≤ W) (sym (w .holds)) (ws .0) in
       let verdict : d .verdict .words ≤ s .engine .words + 128 = omega (arith, g .decide (context o m t) (s .engine .rules) (s .engine .words), f .engine .rules) in
       let verdict′ : drawn o m t (live z T) .verdict .words ≤ s .engine .words + 128 = subst (λ (y : Live). drawn o m t y .verdict .words ≤ s .engine .words + 128) (sym (w .holds)) verdict in

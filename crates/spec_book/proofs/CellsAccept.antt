@@ -82,7 +82,7 @@ copy-reads l e =
     let c : (i : ℕ) → getD l i 0 < 2 ^ 64 = λ i. cell-fits 64 l i e in
     (c 0, (c 1, (c 2, (c 3, (c 4, (c 5, (c 6, (c 7, (c 8, (c 9, (c 10, (c 11, tt))))))))))))
 
-pub waiting-fits : (z : Sizes) (T : Tables) → CellsFit T → Each CopyFit (live z T .waiting)
+pub waiting-fits : (z : Sizes) (T : Tables) → CellsFit T → Each CopyFit (live z T .queue .waiting)
 waiting-fits z T f = rows-fit 64 waiting.form copy-reads (cell (T .net) waitingAt) (T .waiting) (f .waiting)
 
 -- a list anew for the marks of a till
@@ -119,7 +119,7 @@ numbered-fit n (c ∷ cs) h e =
 pub push-cells : (z : Sizes) (cs : List Copy) (T : Tables) (B : ℕ) → CellsFit T → Each CopyFit cs → cell (T .net) waitingAt ≤ B → cell (T .net) sequenceAt ≤ B → B + length cs < 2 ^ 64 → CellsFit (pushT z T cs)
 push-cells z [] T B f e w s h = f
 push-cells z (c ∷ cs) T B f e w s h =
-    let q = live z T .waiting in
+    let q = live z T .queue .waiting in
     let n : ℕ = cell (T .net) sequenceAt in
     let many : length (insertCopy c q) ≡ suc (cell (T .net) waitingAt) = length-insert c q ∙ ap suc (length-rows waiting.width waiting.read (cell (T .net) waitingAt) (T .waiting)) in
     let T₁ = netT T sequenceAt (suc n) in
@@ -289,7 +289,7 @@ module _ (o : Opening) (lim : Limited (o .sizes)) (g : DrawsFit o) (m : Message)
       let f₂ = marks-cells z T₁ t ids f₁ (placed-fit (m .id) (idsAt q₀ t) (q .id) (ids-fit z T t f)) (omega (arith, length-placed (m .id) (idsAt q₀ t))) in
       let echoes = drawn-each o m t CopyFit Good echo-fit own-good q₀ (subst (λ (y : Live). Each Good (ringFor y m)) (sym h) (ring-good z T refl f s h fits)) in
       let cs = copies o m q₀ d t in
-      let fit = numbered-fit (q₀ .sequence) (original m t (d .latency .value) ∷ d .echoes .copies) (omega (arith, drawn-few o m t q₀)) (original-fit (d .loss .words), echoes) in
+      let fit = numbered-fit (q₀ .queue .sequence) (original m t (d .latency .value) ∷ d .echoes .copies) (omega (arith, drawn-few o m t q₀)) (original-fit (d .loss .words), echoes) in
       let same : (j : ℕ) → (faultWordsAt ≡ j → ⊥) → cell (T₂ .net) j ≡ cell (T .net) j = λ j ne. net-ruled (wordsT T (link (m .from) t) (d .echoes .words)) (d .verdict) j ne in
       let f₃ = push-cells z cs T₂ (2 ^ 33) f₂ fit (omega (arith, same waitingAt (λ e. omega arith))) (omega (arith, same sequenceAt (λ e. omega arith))) (omega (arith, few-copies o m q₀ d t (drawn-few o m t q₀))) in
       remember-cells (pushT z T₂ cs) f₃

@@ -36,7 +36,7 @@ module _ {k : Layout} (s : LiveBy k) where
   bare-reading (transit t) = bare-number 1 _
   bare-reading (fired id) = bare-number _ _
   bare-reading (isDown t) = bare-number 1 _
-  bare-reading nextTime = bare-first (s .waiting)
+  bare-reading nextTime = bare-first (s .queue .waiting)
   bare-reading (tallyOf class) = record { rows = refl; drops = refl; delivered = refl; counts = refl }
   bare-reading (waitingCopies rows) = record { rows = refl; drops = refl; delivered = refl; counts = refl }
   bare-reading (marksOf t places) = record { rows = refl; drops = refl; delivered = refl; counts = refl }
@@ -46,7 +46,7 @@ module _ {k : Layout} (o : Opening) (s : LiveBy k) where
     pub kind : kindOf c ≡ quiet
     pub answer : Bare (answerOf o s c)
     pub log : liveStep o s c .log ≡ s .log
-    pub waiting : liveStep o s c .waiting ≡ s .waiting
+    pub waiting : liveStep o s c .queue .waiting ≡ s .queue .waiting
     pub questions : (room : Room) → askedIn o room s c ≡ askedIn o alone s c
 
   -- what holds of the four kinds, and of every quiet call, holds of each call

@@ -57,7 +57,7 @@ pub record Bears (o : Opening) (T : Tables) (b : Book) : Type 0 where
 in-order : (o : Opening) (T : Tables) (b : Book) (h : Bears o T b) → InOrder (o .sizes) (h .kept)
 in-order o T b h = record {
   marks = h .held .fits .ordered;
-  queue = subst Sorted (sym (ap (λ (q : LiveBy plain). q .waiting) (h .same))) (h .sound .order);
+  queue = subst Sorted (sym (ap (λ (q : LiveBy plain). q .queue .waiting) (h .same))) (h .sound .order);
   rings = h .held .fits .rings .many;
 }
 
@@ -174,12 +174,12 @@ module _ (o : Opening) where
   sum b T (own room c) h a =
       each-kind o (b .live) (λ (x : Call). SumBy o b (kindOf x) (roomReply room T x))
       (λ e z.
-          let x = accept e true in
-          let ts = chosen o (b .live) e in
-          let m = messageOf o e in
-          let n : countsIn (roomReply room T x .answer) ≡ tally (booked o m (b .live) ts) =
-          ap countsIn (same-answer b T (own room x) h tt) ∙ ap (λ (k : ℕ). countsIn (expected o b x (isNumber k))) z in
-          record { each-once = booked-tills o m (b .live) ts; counts = n; sum = ap total n ∙ booked-total o m (b .live) ts })
+      let x = accept e true in
+      let ts = chosen o (b .live) e in
+      let m = messageOf o e in
+      let n : countsIn (roomReply room T x .answer) ≡ tally (booked o m (b .live) ts) =
+      ap countsIn (same-answer b T (own room x) h tt) ∙ ap (λ (k : ℕ). countsIn (expected o b x (isNumber k))) z in
+      record { each-once = booked-tills o m (b .live) ts; counts = n; sum = ap total n ∙ booked-total o m (b .live) ts })
       (λ now rows. none room b T (flush now rows) h refl)
       (λ t. none room b T (takeDown t) h refl)
       (λ rows. none room b T (drain rows) h refl)
@@ -257,7 +257,7 @@ module _ (o : Opening) where
     marks-each = k .shape;
     marks-rise = k .rises;
     sorted = k .order;
-    due-all = λ now. front-all now (b .live .waiting) (k .order);
+    due-all = λ now. front-all now (b .live .queue .waiting) (k .order);
     rule-ids = k .ids;
   }
 
@@ -278,8 +278,7 @@ open-bears x masks lent n =
         engine = s .engine;
         rings = λ kind scope. layout.no-rings (ringsOf (x .sizes)) kind scope j;
         words = s .words;
-        sequence = s .sequence;
-        waiting = s .waiting;
+        queue = s .queue;
         log = s .log;
       });
       sound = opened-sound (openingOf x (lent .names)) masks;

@@ -142,7 +142,7 @@ module _ (z : Sizes) where
     pub engine : EngineFits (s .engine)
     pub rings : RingsFit (s .rings)
     pub words : length (s .words) ≡ links
-    pub queue : QueueFits (s .waiting)
+    pub queue : QueueFits (s .queue .waiting)
     pub log : LogFits (s .log)
 
   -- a message whose sender, type, class, ring and wire length are in range
@@ -160,7 +160,7 @@ ruled-fits z e v f = record { blocks = f .blocks; rules = rw (length-ruled v (e 
 
 module _ (o : Opening) (m : Message) where
   pub few-copies : {k : Layout} (s : LiveBy k) (d : Drawn) (t : ℕ) → length (d .echoes .copies) ≤ 2 → length (copies o m s d t) ≤ 3
-  few-copies s d t h = omega (arith, length-numbered (s .sequence) (original m t (d .latency .value) ∷ d .echoes .copies))
+  few-copies s d t h = omega (arith, length-numbered (s .queue .sequence) (original m t (d .latency .value) ∷ d .echoes .copies))
 
   abbrev pub NearCopy : Copy → Type 0
   NearCopy c = nearCopy (o .sizes) c ≡ true
@@ -222,7 +222,7 @@ module _ (o : Opening) (m : Message) where
       go false = f
 
   module _ (k : NearMessage (o .sizes) m) (s : Live) (d : Drawn) (t : ℕ) (f : Fits (o .sizes) s) (g : Good d) where
-    pub effect-fits : (c : Class) → (c ≡ sent → marked s t (m .id) ≡ false) → t < o .sizes .tills → Ready s t → length (s .waiting) + 3 ≤ o .sizes .waitSlots → Fits (o .sizes) (effect o m c s d t)
+    pub effect-fits : (c : Class) → (c ≡ sent → marked s t (m .id) ≡ false) → t < o .sizes .tills → Ready s t → length (s .queue .waiting) + 3 ≤ o .sizes .waitSlots → Fits (o .sizes) (effect o m c s d t)
     effect-fits deduplicated h b r w = f
     effect-fits partition h b r w = f
     effect-fits loss h b r w = record { tills = f .tills; masks = f .masks; hosts = f .hosts; seen = f .seen; ordered = f .ordered; engine = f .engine; rings = f .rings; words = length-set (s .words) _ _ ∙ f .words; queue = f .queue; log = f .log }
@@ -237,19 +237,19 @@ module _ (o : Opening) (m : Message) where
       rings = remembered-fits k s (f .rings);
       words = length-set (s .words) _ _ ∙ f .words;
       queue = record {
-        few = omega (arith, length-insertAll table (copies o m s d t) (s .waiting), few-copies s d t (g .few));
-        near = each-insertAll (λ (c : Copy). nearCopy (o .sizes) c ≡ true) (copies o m s d t) (s .waiting)
-            (near-numbered (s .sequence) (original m t (d .latency .value) ∷ d .echoes .copies) (near-original k t (d .latency .value) b, g .near)) (f .queue .near);
+        few = omega (arith, length-insertAll table (copies o m s d t) (s .queue .waiting), few-copies s d t (g .few));
+        near = each-insertAll (λ (c : Copy). nearCopy (o .sizes) c ≡ true) (copies o m s d t) (s .queue .waiting)
+            (near-numbered (s .queue .sequence) (original m t (d .latency .value) ∷ d .echoes .copies) (near-original k t (d .latency .value) b, g .near)) (f .queue .near);
       };
       log = f .log;
     }
 
-    pub effect-length : (c : Class) → length (effect o m c s d t .waiting) ≤ length (s .waiting) + 3
+    pub effect-length : (c : Class) → length (effect o m c s d t .queue .waiting) ≤ length (s .queue .waiting) + 3
     effect-length deduplicated = omega arith
     effect-length partition = omega arith
     effect-length loss = omega arith
     effect-length fault = omega arith
-    effect-length sent = omega (arith, length-insertAll table (copies o m s d t) (s .waiting), few-copies s d t (g .few))
+    effect-length sent = omega (arith, length-insertAll table (copies o m s d t) (s .queue .waiting), few-copies s d t (g .few))
 
     pub effect-ready : (c : Class) → (c ≡ sent → marked s t (m .id) ≡ false) → t < o .sizes .tills → (u : ℕ) → Ready s u → Ready (effect o m c s d t) u
     effect-ready deduplicated h b u r = r
@@ -268,7 +268,7 @@ module _ (o : Opening) (m : Message) where
             there = ap (λ (x : ℕ). getD (mark table t (m .id) (s .seen)) x []) (eqb-true u t p) ∙ getD-set-same (s .seen) t (placed (m .id) (idsAt s t)) [] (omega (arith, f .hosts))
         go false p = rw (getD-set-other (s .seen) t u (placed (m .id) (idsAt s t)) [] (eqb-false u t p)) r
 
-  pub accept-fits : NearMessage (o .sizes) m → (ts : List ℕ) (s : Live) → Below (o .sizes .tills) ts → Each (Ready s) ts → length (s .waiting) + 3 * length ts ≤ o .sizes .waitSlots → Fits (o .sizes) s → Fits (o .sizes) (liveAfter o m s ts)
+  pub accept-fits : NearMessage (o .sizes) m → (ts : List ℕ) (s : Live) → Below (o .sizes .tills) ts → Each (Ready s) ts → length (s .queue .waiting) + 3 * length ts ≤ o .sizes .waitSlots → Fits (o .sizes) s → Fits (o .sizes) (liveAfter o m s ts)
   unfolding offered
   accept-fits k [] s b r w f = f
   accept-fits k (t ∷ ts) s b r w f =

@@ -56,7 +56,7 @@ module _ (o : Opening) (T : Tables) (s : Live) (h : Held o T s) where
       )
 
   waits : Passed (waitingTests z T)
-  waits = each-every (waitingTests z T) (eq-eqb _ _ (h .wrote .formed .waiting), (held (λ (q : Live). q .waiting) (nearCopy z) (h .fits .queue .near), tt))
+  waits = each-every (waitingTests z T) (eq-eqb _ _ (h .wrote .formed .waiting), (held (λ (q : Live). q .queue .waiting) (nearCopy z) (h .fits .queue .near), tt))
 
   ring : Passed (ringsTests z T)
   ring =

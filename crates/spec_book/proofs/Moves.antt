@@ -124,5 +124,5 @@ module _ (o : Opening) where
       (λ t. refl)
       (λ rows. refl)
       (λ x i. i .log ∙ ap (λ (l : List Row). loggedAll (o .sizes .logSlots) (s .log) (copiesOf l)) (sym (i .answer .rows))
-          ∙ ap (λ (k : Kind). logFrom o (isDrain o k) (s .log) (answerOf o s x)) (sym (i .kind)))
+      ∙ ap (λ (k : Kind). logFrom o (isDrain o k) (s .log) (answerOf o s x)) (sym (i .kind)))
       c

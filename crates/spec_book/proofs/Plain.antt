@@ -162,7 +162,7 @@ no-rings n kind scope = go (ltb scope scopes)
 
 pub record InOrder (z : Sizes) (s : Live) : Type 0 where
   pub marks : Each Ordered (s .seen)
-  pub queue : Sorted (s .waiting)
+  pub queue : Sorted (s .queue .waiting)
   pub rings : length (s .rings) ≡ ringsOf z
 
 -- a message whose ring is one of them
@@ -216,7 +216,7 @@ module _ (o : Opening) (m : Message) (q : HasRing (o .sizes) m) where
     same-effect d t fault f = refl
     same-effect d t sent f =
         let x = effect o m sent (plainly s) d t in
-        (λ j. record { tills = x .tills; seen = set-placed (s .seen) (r .marks) t (m .id) (f refl) j; engine = x .engine; rings = same-remembered j; words = x .words; sequence = x .sequence; waiting = same-insertAll (copies o m s d t) (s .waiting) (r .queue) j; log = x .log })
+        (λ j. record { tills = x .tills; seen = set-placed (s .seen) (r .marks) t (m .id) (f refl) j; engine = x .engine; rings = same-remembered j; words = x .words; queue = record { sequence = x .queue .sequence; waiting = same-insertAll (copies o m s d t) (s .queue .waiting) (r .queue) j }; log = x .log })
 
     remembered-many : length (remembered o m s) ≡ ringsOf (o .sizes)
     remembered-many = go (o .draws .echoing)
@@ -232,7 +232,7 @@ module _ (o : Opening) (m : Message) (q : HasRing (o .sizes) m) where
     effect-order d t fault f = record { marks = r .marks; queue = r .queue; rings = r .rings }
     effect-order d t sent f = record {
       marks = each-set Ordered (s .seen) t (placed (m .id) (idsAt s t)) (r .marks) (ordered-placed (m .id) (idsAt s t) (f refl) (here (s .seen) (r .marks) t));
-      queue = sorted-insertAll (copies o m s d t) (s .waiting) (r .queue);
+      queue = sorted-insertAll (copies o m s d t) (s .queue .waiting) (r .queue);
       rings = remembered-many;
     }
 
@@ -285,10 +285,10 @@ module _ (o : Opening) (lim : Limited (o .sizes)) (s : Live) (r : InOrder (o .si
   same-step (accept e false) h = refl
   same-step (flush now rows) h =
       let x = liveStep o (plainly s) (flush now rows) in
-      (λ j. record { tills = x .tills; seen = same-clearing s (served now rows s) (s .seen) (r .marks) j; engine = x .engine; rings = x .rings; words = x .words; sequence = x .sequence; waiting = x .waiting; log = x .log })
+      (λ j. record { tills = x .tills; seen = same-clearing s (served now rows s) (s .seen) (r .marks) j; engine = x .engine; rings = x .rings; words = x .words; queue = x .queue; log = x .log })
   same-step (takeDown t) h =
       let x = liveStep o (plainly s) (takeDown t) in
-      (λ j. record { tills = x .tills; seen = map-set listed (s .seen) t [] j; engine = x .engine; rings = x .rings; words = x .words; sequence = x .sequence; waiting = x .waiting; log = x .log })
+      (λ j. record { tills = x .tills; seen = map-set listed (s .seen) t [] j; engine = x .engine; rings = x .rings; words = x .words; queue = x .queue; log = x .log })
   same-step (bringUp t shards) h = refl
   same-step (handlers t gossip host) h = refl
   same-step (block from to) h = refl

@@ -27,18 +27,18 @@ length-behind q (c ∷ l) = go (q c) (length-behind q l)
     go false h = omega arith
 
 module _ {k : Layout} (now rows : ℕ) (s : LiveBy k) where
-  pub served-each : (P : Copy → Type 0) → Each P (s .waiting) → Each P (served now rows s)
-  served-each P e = each-front P (onTime now) (s .waiting) e
+  pub served-each : (P : Copy → Type 0) → Each P (s .queue .waiting) → Each P (served now rows s)
+  served-each P e = each-front P (onTime now) (s .queue .waiting) e
 
-  pub later-each : (P : Copy → Type 0) → Each P (s .waiting) → Each P (later now rows s)
-  later-each P e = each-behind P (onTime now) (s .waiting) e
+  pub later-each : (P : Copy → Type 0) → Each P (s .queue .waiting) → Each P (later now rows s)
+  later-each P e = each-behind P (onTime now) (s .queue .waiting) e
 
-  pub later-short : length (later now rows s) ≤ length (s .waiting)
-  later-short = length-behind (onTime now) (s .waiting)
+  pub later-short : length (later now rows s) ≤ length (s .queue .waiting)
+  later-short = length-behind (onTime now) (s .queue .waiting)
 
-  pub later-sorted : Sorted (s .waiting) → Sorted (later now rows s)
-  later-sorted h = subst Sorted (drop-front (onTime now) (s .waiting)) (sorted-drop (length (front (onTime now) (s .waiting))) (s .waiting) h)
+  pub later-sorted : Sorted (s .queue .waiting) → Sorted (later now rows s)
+  later-sorted h = subst Sorted (drop-front (onTime now) (s .queue .waiting)) (sorted-drop (length (front (onTime now) (s .queue .waiting))) (s .queue .waiting) h)
 
   -- each copy once: served, or waiting on
-  pub served-count : (p : Copy → Bool) → count p (served now rows s) + count p (later now rows s) ≡ count p (s .waiting)
-  served-count p = count-split p (onTime now) (s .waiting)
+  pub served-count : (p : Copy → Bool) → count p (served now rows s) + count p (later now rows s) ≡ count p (s .queue .waiting)
+  served-count p = count-split p (onTime now) (s .queue .waiting)

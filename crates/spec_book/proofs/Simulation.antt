@@ -82,7 +82,7 @@ module _ (o : Opening) where
         let x₁ = decided-wrote T f (d .verdict) t (d .echoes .words) in
         let x₂ = marks-wrote z T₁ (x₁ .formed) t ids b (omega (arith, length-placed (m .id) (idsAt s t), r refl)) in
         let T₂ = marksT z T₁ t ids in
-        let same : live z T₂ .waiting ≡ s .waiting = ap (λ (q : Live). q .waiting) (x₂ .holds) ∙ ap (λ (q : Live). q .waiting) (x₁ .holds) in
+        let same : live z T₂ .queue .waiting ≡ s .queue .waiting = ap (λ (q : Live). q .queue .waiting) (x₂ .holds) ∙ ap (λ (q : Live). q .queue .waiting) (x₁ .holds) in
         let count : cell (T₂ .net) waitingAt ≡ cell (T .net) waitingAt =
         sym (length-rows waiting.width waiting.read (cell (T₂ .net) waitingAt) (T₂ .waiting)) ∙ ap length same ∙ length-rows waiting.width waiting.read (cell (T .net) waitingAt) (T .waiting) in
         let x₃ = push-wrote z cs T₂ (x₂ .formed) (omega (arith, count, few-copies o m s d t g)) in
@@ -91,11 +91,11 @@ module _ (o : Opening) where
           formed = x₄ .formed;
           holds = x₄ .holds
               ∙ ap (λ (q : Live). withRings q (remembered o m q))
-              (x₃ .holds ∙ ap (λ (q : Live). withWaiting q (length cs + q .sequence) (insertAll table cs (q .waiting)))
+              (x₃ .holds ∙ ap (λ (q : Live). withWaiting q (length cs + q .queue .sequence) (insertAll table cs (q .queue .waiting)))
               (x₂ .holds ∙ ap (λ (q : Live). withSeen q (set (q .seen) t ids)) (x₁ .holds)));
         }
 
-    accept-wrote : (ts : List ℕ) (T : Tables) (s : Live) → Wrote (o .sizes) T s → Fits (o .sizes) s → Below (o .sizes .tills) ts → Each (Ready o m s) ts → length (s .waiting) + 3 * length ts ≤ o .sizes .waitSlots
+    accept-wrote : (ts : List ℕ) (T : Tables) (s : Live) → Wrote (o .sizes) T s → Fits (o .sizes) s → Below (o .sizes .tills) ts → Each (Ready o m s) ts → length (s .queue .waiting) + 3 * length ts ≤ o .sizes .waitSlots
         → Wrote (o .sizes) (acceptT o m T ts) (liveAfter o m s ts)
     unfolding offered
     accept-wrote [] T s w f b r l = w
@@ -105,7 +105,7 @@ module _ (o : Opening) where
         let c = classOf o m s t in
         let g = drawn-good o m k s t (b .0) f in
         let free : c ≡ sent → marked s t (m .id) ≡ false = sent-unmarked (marked s t (m .id)) (stopped s (m .from) t (m .now)) (d .loss .value) (d .verdict .drops) in
-        let many : length (s .waiting) ≡ cell (T .net) waitingAt = sym (ap (λ (q : Live). length (q .waiting)) (w .holds)) ∙ length-rows waiting.width waiting.read (cell (T .net) waitingAt) (T .waiting) in
+        let many : length (s .queue .waiting) ≡ cell (T .net) waitingAt = sym (ap (λ (q : Live). length (q .queue .waiting)) (w .holds)) ∙ length-rows waiting.width waiting.read (cell (T .net) waitingAt) (T .waiting) in
         let slot : c ≡ sent → length (idsAt s t) < z .seenSlots = λ e. room o m s t (r .0) (free e) in
         let x = effect-wrote (classOf o m (live z T) t) T (drawn o m t (live z T)) t (w .formed)
         (subst (λ (q : Live). Good o m (drawn o m t q)) (sym (w .holds)) g .few) (b .0)
@@ -166,12 +166,12 @@ module _ (o : Opening) where
       let left = later now rows s₀ in
       let y = waiting-wrote z T₁ (x .formed) left
       (subst (λ (q : Live). length (later now rows q) ≤ z .waitSlots) (sym (w .holds)) (le-trans (later-short now rows s) (f .queue .few))) in
-      let v = record-all-wrote (lands s₀ (served now rows s₀)) (waitingT T₁ left) (withWaiting (withSeen s (clearing s₀ (served now rows s₀) (s .seen))) (s .sequence) left)
-      (then z T₁ (waitingT T₁ left) (withSeen s (clearing s₀ (served now rows s₀) (s .seen))) (λ (q : Live). withWaiting q (q .sequence) left) (x .holds) y) in
+      let v = record-all-wrote (lands s₀ (served now rows s₀)) (waitingT T₁ left) (withWaiting (withSeen s (clearing s₀ (served now rows s₀) (s .seen))) (s .queue .sequence) left)
+      (then z T₁ (waitingT T₁ left) (withSeen s (clearing s₀ (served now rows s₀) (s .seen))) (λ (q : Live). withWaiting q (q .queue .sequence) left) (x .holds) y) in
       record {
         formed = v .formed;
         holds = v .holds
-            ∙ ap (λ (q : Live). withLog (withWaiting (withSeen s (clearing q (served now rows q) (s .seen))) (s .sequence) (later now rows q)) (loggedAll (z .logSlots) (s .log) (lands q (served now rows q)))) (w .holds);
+            ∙ ap (λ (q : Live). withLog (withWaiting (withSeen s (clearing q (served now rows q) (s .seen))) (s .queue .sequence) (later now rows q)) (loggedAll (z .logSlots) (s .log) (lands q (served now rows q)))) (w .holds);
       }
 
   -- ---- Every call

@@ -45,7 +45,7 @@ pub record Sound (tills : ℕ) (waiting : List Copy) (sequence : ℕ) (seen : Li
   pub ids : Ascending 0 installed rules
 
 abbrev pub SoundLive : Opening → LiveBy plain → List Event → Type 0
-SoundLive o s past = Sound (o .sizes .tills) (s .waiting) (s .sequence) (s .seen) (s .engine .installed) (s .engine .rules) past
+SoundLive o s past = Sound (o .sizes .tills) (s .queue .waiting) (s .queue .sequence) (s .seen) (s .engine .installed) (s .engine .rules) past
 
 sorted-insertAll : (cs w : List Copy) → Sorted w → Sorted (insertAll plain cs w)
 sorted-insertAll [] w h = h
@@ -85,11 +85,11 @@ module _ (o : Opening) (m : Message) (s : LiveBy plain) (d : Drawn) (t : ℕ) (p
       let es = d .echoes .copies in
       record {
         places = λ p. rw (scheduling-landed cs past, scheduling-dropped cs past)
-            (omega (arith, scheduling-scheduled p cs past, count-insertAll p cs (s .waiting), h .places p));
-        numbers = λ n. omega (arith, scheduling-scheduled (hasSequence n) cs past, numbered-count (original m t (d .latency .value) ∷ es) (s .sequence) n, h .numbers n);
-        marks = λ u j. echoes-standing u j (suc (s .sequence)) es _ e ∙ rw (h .marks u j) (sym (member-set (s .seen) t (m .id) u j (omega (arith, h .shape))));
-        apart = echoes-apart (suc (s .sequence)) es _ e (λ z. h .marks t (m .id) ∙ f refl, h .apart);
-        order = sorted-insertAll cs (s .waiting) (h .order);
+            (omega (arith, scheduling-scheduled p cs past, count-insertAll p cs (s .queue .waiting), h .places p));
+        numbers = λ n. omega (arith, scheduling-scheduled (hasSequence n) cs past, numbered-count (original m t (d .latency .value) ∷ es) (s .queue .sequence) n, h .numbers n);
+        marks = λ u j. echoes-standing u j (suc (s .queue .sequence)) es _ e ∙ rw (h .marks u j) (sym (member-set (s .seen) t (m .id) u j (omega (arith, h .shape))));
+        apart = echoes-apart (suc (s .queue .sequence)) es _ e (λ z. h .marks t (m .id) ∙ f refl, h .apart);
+        order = sorted-insertAll cs (s .queue .waiting) (h .order);
         shape = length-set (s .seen) t _ ∙ h .shape;
         rises = each-set Rises (s .seen) t (inserted (m .id) (idsAt s t)) (h .rises) (rises-inserted (m .id) (idsAt s t) (f refl) (each-at Rises (s .seen) t [] (h .rises) tt));
         ids = ruled-ascends (d .verdict) (s .engine .installed) (s .engine .rules) (h .ids);
@@ -134,7 +134,7 @@ install-next : (n : ℕ) (rs : List FaultRule) (d : DropSpec) → Ascending 0 n 
 install-next n rs d h = let z : n + 1 ≡ suc n = omega arith in subst (λ (k : ℕ). Ascending 0 k (withRule n d rs)) z (install-ascends 0 n rs d (omega arith) h)
 
 module _ (o : Opening) where
-  with-ids : (s : LiveBy plain) (past : List Event) → SoundLive o s past → (n : ℕ) (rs : List FaultRule) → Ascending 0 n rs → Sound (o .sizes .tills) (s .waiting) (s .sequence) (s .seen) n rs past
+  with-ids : (s : LiveBy plain) (past : List Event) → SoundLive o s past → (n : ℕ) (rs : List FaultRule) → Ascending 0 n rs → Sound (o .sizes .tills) (s .queue .waiting) (s .queue .sequence) (s .seen) n rs past
   with-ids s past h n rs a = record { places = h .places; numbers = h .numbers; marks = h .marks; apart = h .apart; order = h .order; shape = h .shape; rises = h .rises; ids = a }
 
   pub step-sound : (s : LiveBy plain) (c : Call) (past : List Event) → SoundLive o s past → SoundLive o (liveStep o s c) (happened o s c past)

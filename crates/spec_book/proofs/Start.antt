@@ -163,8 +163,7 @@ module _ (x : Settings) (masks : List ℕ) (lent : Tables) (accepted : openNumbe
     engine = record { blocks = []; rules = []; installed = 0; words = 0 };
     rings = all-empty (ringsOf z) (rings.entries (ringsOf z) (opened .rings)) ring-empty j;
     words = replicate links 0;
-    sequence = 0;
-    waiting = [];
+    queue = record { sequence = 0; waiting = [] };
     log = drained-log (z .logSlots) (lent .log) j;
   }
 

@@ -72,19 +72,19 @@ module _ (z : Sizes) (T : Tables) (f : Formed z T) where
     holds = λ j. withSeen (live z T) (seen-holds z (T .seen) (f .seen) t ids b le j);
   }
 
-  pub sequence-wrote : (n : ℕ) → Wrote z (netT T sequenceAt n) (withWaiting (live z T) n (live z T .waiting))
+  pub sequence-wrote : (n : ℕ) → Wrote z (netT T sequenceAt n) (withWaiting (live z T) n (live z T .queue .waiting))
   sequence-wrote n = record {
     formed = formed-net z T f _ (net-plain z (T .net) (f .net) sequenceAt n (λ e. omega arith) (λ e. omega arith) (λ e. omega arith));
     holds = λ j. live z (setNet T (set (six (T .net) net-size j) sequenceAt n));
   }
 
-  pub waiting-wrote : (w : List Copy) → length w ≤ z .waitSlots → Wrote z (waitingT T w) (withWaiting (live z T) (live z T .sequence) (queueOf z w))
+  pub waiting-wrote : (w : List Copy) → length w ≤ z .waitSlots → Wrote z (waitingT T w) (withWaiting (live z T) (live z T .queue .sequence) (queueOf z w))
   waiting-wrote w le = record {
     formed =
         let f₁ = formed-net z T f _ (net-waiting z (T .net) (f .net) (length w) le) in
         formed-waiting z _ f₁ _ (length-over waiting.form waiting-laws.exact w (T .waiting) (rw (f .waiting) (mul-le-mul-right waiting.width le)) ∙ f .waiting);
     holds = (λ j. live z (setWaiting (setNet T (set (six (T .net) net-size j) waitingAt (length w))) (over waiting.form w (T .waiting))))
-        ∙ (λ j. withWaiting (live z T) (live z T .sequence) (rows-over waiting.form waiting-laws.exact w (T .waiting) j));
+        ∙ (λ j. withWaiting (live z T) (live z T .queue .sequence) (rows-over waiting.form waiting-laws.exact w (T .waiting) j));
   }
 
   -- ---- Blocks
@@ -266,22 +266,22 @@ module _ (z : Sizes) (T : Tables) (f : Formed z T) where
 
 -- the copies one after the other
 pub push-wrote : (z : Sizes) (cs : List Copy) (T : Tables) → Formed z T → cell (T .net) waitingAt + length cs ≤ z .waitSlots
-    → Wrote z (pushT z T cs) (withWaiting (live z T) (length cs + live z T .sequence) (insertAll table cs (live z T .waiting)))
+    → Wrote z (pushT z T cs) (withWaiting (live z T) (length cs + live z T .queue .sequence) (insertAll table cs (live z T .queue .waiting)))
 push-wrote z [] T f l = let e : 0 + cell (T .net) sequenceAt ≡ cell (T .net) sequenceAt = omega arith in rw e (record { formed = f; holds = refl })
 push-wrote z (c ∷ cs) T f l =
-    let w = live z T .waiting in
+    let w = live z T .queue .waiting in
     let n : ℕ = cell (T .net) sequenceAt in
     let many : length (insertCopy c w) ≡ suc (cell (T .net) waitingAt) = length-insert c w ∙ ap suc (length-rows waiting.width waiting.read (cell (T .net) waitingAt) (T .waiting)) in
     let T₁ = netT T sequenceAt (suc n) in
     let x = sequence-wrote z T f (suc n) in
     let y = waiting-wrote z T₁ (x .formed) (insertCopy c w) (omega (arith, many)) in
     let T₂ = waitingT T₁ (insertCopy c w) in
-    let one : live z T₂ ≡ withWaiting (live z T) (suc n) (insertCopy c w) = y .holds ∙ ap (λ (s : Live). withWaiting s (s .sequence) (insertCopy c w)) (x .holds) in
+    let one : live z T₂ ≡ withWaiting (live z T) (suc n) (insertCopy c w) = y .holds ∙ ap (λ (s : Live). withWaiting s (s .queue .sequence) (insertCopy c w)) (x .holds) in
     let count : cell (T₂ .net) waitingAt ≡ suc (cell (T .net) waitingAt) =
-    sym (length-rows waiting.width waiting.read (cell (T₂ .net) waitingAt) (T₂ .waiting)) ∙ ap (λ (s : Live). length (s .waiting)) one ∙ many in
+    sym (length-rows waiting.width waiting.read (cell (T₂ .net) waitingAt) (T₂ .waiting)) ∙ ap (λ (s : Live). length (s .queue .waiting)) one ∙ many in
     let rest = push-wrote z cs T₂ (y .formed) (omega (arith, count)) in
     let e : length cs + suc n ≡ suc (length cs) + n = omega arith in
     record {
       formed = rest .formed;
-      holds = rest .holds ∙ ap (λ (s : Live). withWaiting s (length cs + s .sequence) (insertAll table cs (s .waiting))) one ∙ ap (λ (k : ℕ). withWaiting (live z T) k (insertAll table cs (insertCopy c w))) e;
+      holds = rest .holds ∙ ap (λ (s : Live). withWaiting s (length cs + s .queue .sequence) (insertAll table cs (s .queue .waiting))) one ∙ ap (λ (k : ℕ). withWaiting (live z T) k (insertAll table cs (insertCopy c w))) e;
     }

@@ -171,8 +171,8 @@ module _ (o : Opening) where
 
 pub record BookHolds (o : Opening) (b : Book) : Type 0 where
   -- every copy scheduled is in one place, waiting, one row or one flush drop, and nothing else is in any of these
-  pub same-copies : (p : Copy → Bool) → count p (scheduledIn (b .past)) ≡ count p (b .live .waiting) + (count p (landedIn (b .past)) + count p (droppedIn (b .past)))
-  pub one-place : (n : ℕ) → count (hasSequence n) (b .live .waiting) + (count (hasSequence n) (landedIn (b .past)) + count (hasSequence n) (droppedIn (b .past))) ≡ bit (given n (b .live .sequence))
+  pub same-copies : (p : Copy → Bool) → count p (scheduledIn (b .past)) ≡ count p (b .live .queue .waiting) + (count p (landedIn (b .past)) + count p (droppedIn (b .past)))
+  pub one-place : (n : ℕ) → count (hasSequence n) (b .live .queue .waiting) + (count (hasSequence n) (landedIn (b .past)) + count (hasSequence n) (droppedIn (b .past))) ≡ bit (given n (b .live .queue .sequence))
   -- no two originals of one id are scheduled for one till without, in between, a take-down of that till or a flush drop of such an original to it
   pub two-apart : (after between before : List Event) (c d : Copy) (t i : ℕ) → b .past ≡ after ++ scheduled d ∷ (between ++ scheduled c ∷ before)
       → T (originalOf t i c) → T (originalOf t i d) → T (some-of (clears t i) between)
@@ -182,8 +182,8 @@ pub record BookHolds (o : Opening) (b : Book) : Type 0 where
   pub marks-each : length (b .live .seen) ≡ o .sizes .tills
   pub marks-rise : Each Rises (b .live .seen)
   -- waiting stands by time, then sequence, and a flush takes all the copies with a time at or before now
-  pub sorted : Sorted (b .live .waiting)
-  pub due-all : (now : ℕ) → due now (b .live) ≡ keep (onTime now) (b .live .waiting)
+  pub sorted : Sorted (b .live .queue .waiting)
+  pub due-all : (now : ℕ) → due now (b .live) ≡ keep (onTime now) (b .live .queue .waiting)
   -- no two rules have one id, and none an id that is still to come
   pub rule-ids : Ascending 0 (b .live .engine .installed) (b .live .engine .rules)
 

@@ -42,11 +42,11 @@ pub record Opened (B : Bench) : Type 0 where
   pub few : B .chains ≤ mostChains
 
 -- the counts of the tables are the books'
-pub held-count : (o : Opening) (T : Tables) (s : Live) → Held o T s → cell (T .net) waitingAt ≡ length (s .waiting)
-held-count o T s h = sym (length-rows (waiting.form .width) (waiting.form .read) (cell (T .net) waitingAt) (T .waiting)) ∙ ap (λ (q : Live). length (q .waiting)) (h .wrote .holds)
+pub held-count : (o : Opening) (T : Tables) (s : Live) → Held o T s → cell (T .net) waitingAt ≡ length (s .queue .waiting)
+held-count o T s h = sym (length-rows (waiting.form .width) (waiting.form .read) (cell (T .net) waitingAt) (T .waiting)) ∙ ap (λ (q : Live). length (q .queue .waiting)) (h .wrote .holds)
 
-pub waiting-count : (o : Opening) (T : Tables) (b : Book) → Bears o T b → cell (T .net) waitingAt ≡ length (b .live .waiting)
-waiting-count o T b h = held-count (by o (h .draws)) T (h .kept) (h .held) ∙ ap (λ (q : LiveBy plain). length (q .waiting)) (h .same)
+pub waiting-count : (o : Opening) (T : Tables) (b : Book) → Bears o T b → cell (T .net) waitingAt ≡ length (b .live .queue .waiting)
+waiting-count o T b h = held-count (by o (h .draws)) T (h .kept) (h .held) ∙ ap (λ (q : LiveBy plain). length (q .queue .waiting)) (h .same)
 
 pub admitted-placed : (room : Room) (i : Item) → Admitted i → Admitted (placed room i)
 admitted-placed room (own r c) a = tt
@@ -54,9 +54,9 @@ admitted-placed room (others X c) a = a
 admitted-placed room (reopen X y ms) a = a
 
 -- one call of a chain leaves its copies within what it had, or found room for
-pub item-few : (o : Opening) (T : Tables) (b : Book) → Bears o T b → (free most : ℕ) (i : Item) → Admitted i → length (b .live .waiting) ≤ most → free ≤ most → length (bookAfter o b T (placed (pooled free) i) .live .waiting) ≤ most
+pub item-few : (o : Opening) (T : Tables) (b : Book) → Bears o T b → (free most : ℕ) (i : Item) → Admitted i → length (b .live .queue .waiting) ≤ most → free ≤ most → length (bookAfter o b T (placed (pooled free) i) .live .queue .waiting) ≤ most
 item-few o T b h free most (own r c) a w f =
-    subst (λ (q : Opening). length (bookStep o b c (isNumber (numberIn q (pooled free) T c)) .live .waiting) ≤ most) (sym (h .held .fixed .opening))
+    subst (λ (q : Opening). length (bookStep o b c (isNumber (numberIn q (pooled free) T c)) .live .queue .waiting) ≤ most) (sym (h .held .fixed .opening))
     (book-few o free most b c (numberIn (by o (h .draws)) (pooled free) T c) (number-is o (pooled free) T b h c) w f)
 item-few o T b h free most (others X c) a w f = rw a w
 item-few o T b h free most (reopen X y ms) a w f = w
@@ -109,7 +109,7 @@ module _ (B : Bench) (ok : Opened B) where
     abbrev rest : ℕ
     rest = othersBelow k i (λ j. takes (B .share j) (inBooks b j))
 
-    few : length (bookAfter o (b i) (T i) it .live .waiting) ≤ B .slots - rest
+    few : length (bookAfter o (b i) (T i) it .live .queue .waiting) ≤ B .slots - rest
     few =
         item-few o (T i) (b i) (v .held i l) (freeFor B (counted T) i) (B .slots - rest) (a .item) p
         (omega (arith, v .sum, one-and-others k i (λ j. takes (B .share j) (inBooks b j)) l))
@@ -118,7 +118,7 @@ module _ (B : Bench) (ok : Opened B) where
     same-rest : othersBelow k i (λ j. takes (B .share j) (inBooks (booksNext B b T a) j)) ≡ rest
     same-rest = others-same k i (λ j. takes (B .share j) (inBooks (booksNext B b T a) j)) (λ j. takes (B .share j) (inBooks b j)) (λ j e. rw e)
 
-    own-now : inBooks (booksNext B b T a) i ≡ length (bookAfter o (b i) (T i) it .live .waiting)
+    own-now : inBooks (booksNext B b T a) i ≡ length (bookAfter o (b i) (T i) it .live .queue .waiting)
     own-now = rw (eq-eqb i i refl)
 
     sum-next : sumBelow k (λ j. takes (B .share j) (inBooks (booksNext B b T a) j)) ≤ B .slots

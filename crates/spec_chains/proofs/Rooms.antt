@@ -38,10 +38,10 @@ module _ (o : Opening) (share free : ℕ) (in-limit : share ≤ o .sizes .waitSl
   same-number d s c =
       each-kind (by o d) s (λ (x : Call). InsideCall o share s x → firstNo (askedIn (by o d) (pooled free) s x) ≡ firstNo (askedIn (by o d) alone s x))
       (λ e h.
-          let n : ℕ = length (s .waiting) + 3 * length (chosen o s e) in
-          let l : leb n (o .sizes .waitSlots) ≡ true = le-leb n (o .sizes .waitSlots) (le-trans h in-limit) in
-          let p : leb n free ≡ true = le-leb n free (le-trans h in-pool) in
-          rw (l, p))
+      let n : ℕ = length (s .queue .waiting) + 3 * length (chosen o s e) in
+      let l : leb n (o .sizes .waitSlots) ≡ true = le-leb n (o .sizes .waitSlots) (le-trans h in-limit) in
+      let p : leb n free ≡ true = le-leb n free (le-trans h in-pool) in
+      rw (l, p))
       (λ now rows h. refl)
       (λ t h. refl)
       (λ rows h. refl)
@@ -67,33 +67,33 @@ module _ (o : Opening) (share free : ℕ) (in-limit : share ≤ o .sizes .waitSl
 -- ---- How many copies wait after a call
 
 module _ (o : Opening) where
-  effect-few : (m : Message) (s : LiveBy plain) (t : ℕ) (k : Class) → length (effect o m k s (drawn o m t s) t .waiting) ≤ length (s .waiting) + 3
+  effect-few : (m : Message) (s : LiveBy plain) (t : ℕ) (k : Class) → length (effect o m k s (drawn o m t s) t .queue .waiting) ≤ length (s .queue .waiting) + 3
   effect-few m s t deduplicated = omega arith
   effect-few m s t partition = omega arith
   effect-few m s t loss = omega arith
   effect-few m s t fault = omega arith
-  effect-few m s t sent = omega (arith, length-insertAll plain (copies o m s (drawn o m t s) t) (s .waiting), few-copies o m s (drawn o m t s) t (drawn-few o m t s))
+  effect-few m s t sent = omega (arith, length-insertAll plain (copies o m s (drawn o m t s) t) (s .queue .waiting), few-copies o m s (drawn o m t s) t (drawn-few o m t s))
 
-  accept-few : (m : Message) (ts : List ℕ) (s : LiveBy plain) → length (liveAfter o m s ts .waiting) ≤ length (s .waiting) + 3 * length ts
+  accept-few : (m : Message) (ts : List ℕ) (s : LiveBy plain) → length (liveAfter o m s ts .queue .waiting) ≤ length (s .queue .waiting) + 3 * length ts
   unfolding offered
   accept-few m [] s = omega arith
   accept-few m (t ∷ ts) s = omega (arith, accept-few m ts (offered o m s t), effect-few m s t (classOf o m s t))
 
   -- no more than there were, or than it found room for
-  pub step-few : (free most : ℕ) (s : LiveBy plain) (c : Call) → firstNo (askedIn o (pooled free) s c) ≡ 0 → length (s .waiting) ≤ most → free ≤ most → length (liveStep o s c .waiting) ≤ most
+  pub step-few : (free most : ℕ) (s : LiveBy plain) (c : Call) → firstNo (askedIn o (pooled free) s c) ≡ 0 → length (s .queue .waiting) ≤ most → free ≤ most → length (liveStep o s c .queue .waiting) ≤ most
   step-few free most s c h w f =
-      each-kind o s (λ (x : Call). firstNo (askedIn o (pooled free) s x) ≡ 0 → length (liveStep o s x .waiting) ≤ most)
+      each-kind o s (λ (x : Call). firstNo (askedIn o (pooled free) s x) ≡ 0 → length (liveStep o s x .queue .waiting) ≤ most)
       (λ e q.
-          let y = all-yes (askedIn o (pooled free) s (accept e true)) (apart-in o (pooled free) s (accept e true)) q in
-          let n : ℕ = length (s .waiting) + 3 * length (chosen o s e) in
-          let l = leb-true n free (both (leb n (o .sizes .waitSlots)) (leb n free) (y .1 .1 .1 .1 .1 .1 .1 .0) .1) in
-          omega (arith, accept-few (messageOf o e) (chosen o s e) s, l))
+      let y = all-yes (askedIn o (pooled free) s (accept e true)) (apart-in o (pooled free) s (accept e true)) q in
+      let n : ℕ = length (s .queue .waiting) + 3 * length (chosen o s e) in
+      let l = leb-true n free (both (leb n (o .sizes .waitSlots)) (leb n free) (y .1 .1 .1 .1 .1 .1 .1 .0) .1) in
+      omega (arith, accept-few (messageOf o e) (chosen o s e) s, l))
       (λ now rows q. le-trans (later-short now rows s) w)
       (λ t q. w)
       (λ rows q. w)
       (λ x i q. subst (λ (l : List Copy). length l ≤ most) (sym (i .waiting)) w)
       c h
 
-  pub book-few : (free most : ℕ) (b : Book) (c : Call) (n : ℕ) → n ≡ firstNo (askedIn o (pooled free) (b .live) c) → length (b .live .waiting) ≤ most → free ≤ most → length (bookStep o b c (isNumber n) .live .waiting) ≤ most
+  pub book-few : (free most : ℕ) (b : Book) (c : Call) (n : ℕ) → n ≡ firstNo (askedIn o (pooled free) (b .live) c) → length (b .live .queue .waiting) ≤ most → free ≤ most → length (bookStep o b c (isNumber n) .live .queue .waiting) ≤ most
   book-few free most b c zero e w f = step-few free most (b .live) c (sym e) w f
   book-few free most b c (suc n) e w f = w

@@ -80,29 +80,29 @@ put-back k f counts h ws i l =
 
 -- ---- Copies brought into another table
 
-pub held-brought : (o : Opening) (T : Tables) (s : Live) → Held o T s → (work : List ℕ) → length work ≡ o .sizes .waitSlots * waiting.width → Held o (setWaiting T (over waiting.form (s .waiting) work)) s
+pub held-brought : (o : Opening) (T : Tables) (s : Live) → Held o T s → (work : List ℕ) → length work ≡ o .sizes .waitSlots * waiting.width → Held o (setWaiting T (over waiting.form (s .queue .waiting) work)) s
 held-brought o T s h work e = record {
   fixed = h .fixed;
   wrote = record {
-    formed = formed-waiting (o .sizes) T (h .wrote .formed) (over waiting.form (s .waiting) work)
-        (length-over waiting.form exact (s .waiting) work (rw e (mul-le-mul-right waiting.width (h .fits .queue .few))) ∙ e);
+    formed = formed-waiting (o .sizes) T (h .wrote .formed) (over waiting.form (s .queue .waiting) work)
+        (length-over waiting.form exact (s .queue .waiting) work (rw e (mul-le-mul-right waiting.width (h .fits .queue .few))) ∙ e);
     holds = (λ j. withRows (h .wrote .holds j) (rows j));
   };
   fits = h .fits;
 }
   where
     withRows : Live → List Copy → Live
-    withRows q w = record { tills = q .tills; seen = q .seen; engine = q .engine; rings = q .rings; words = q .words; sequence = q .sequence; waiting = w; log = q .log }
+    withRows q w = record { tills = q .tills; seen = q .seen; engine = q .engine; rings = q .rings; words = q .words; queue = record { sequence = q .queue .sequence; waiting = w }; log = q .log }
 
-    rows : rowsOf waiting.form (over waiting.form (s .waiting) work) (cell (T .net) waitingAt) ≡ s .waiting
-    rows = ap (rowsOf waiting.form (over waiting.form (s .waiting) work)) (held-count o T s h) ∙ rows-over waiting.form exact (s .waiting) work
+    rows : rowsOf waiting.form (over waiting.form (s .queue .waiting) work) (cell (T .net) waitingAt) ≡ s .queue .waiting
+    rows = ap (rowsOf waiting.form (over waiting.form (s .queue .waiting) work)) (held-count o T s h) ∙ rows-over waiting.form exact (s .queue .waiting) work
 
-pub bears-brought : (o : Opening) (T : Tables) (b : Book) → Bears o T b → (work : List ℕ) → length work ≡ o .sizes .waitSlots * waiting.width → Bears o (setWaiting T (over waiting.form (b .live .waiting) work)) b
+pub bears-brought : (o : Opening) (T : Tables) (b : Book) → Bears o T b → (work : List ℕ) → length work ≡ o .sizes .waitSlots * waiting.width → Bears o (setWaiting T (over waiting.form (b .live .queue .waiting) work)) b
 bears-brought o T b h work e = record {
   draws = h .draws;
   agree = h .agree;
   kept = h .kept;
-  held = subst (λ (q : LiveBy plain). Held (by o (h .draws)) (setWaiting T (over waiting.form (q .waiting) work)) (h .kept)) (h .same) (held-brought (by o (h .draws)) T (h .kept) (h .held) work e);
+  held = subst (λ (q : LiveBy plain). Held (by o (h .draws)) (setWaiting T (over waiting.form (q .queue .waiting) work)) (h .kept)) (h .same) (held-brought (by o (h .draws)) T (h .kept) (h .held) work e);
   same = h .same;
   sound = h .sound;
   limits = h .limits;
@@ -134,7 +134,7 @@ module _ (B : Bench) (ok : Opened B) where
   blank i = replicate (limit B i * waiting.width) 0
 
   -- a chain's copies in the pool are its book's
-  copies-are : (S : Stand) (b : ℕ → Book) → Inv S b → (i : ℕ) → i < n → poolOf S i ≡ b i .live .waiting
+  copies-are : (S : Stand) (b : ℕ → Book) → Inv S b → (i : ℕ) → i < n → poolOf S i ≡ b i .live .queue .waiting
   unfolding copiesIn
   copies-are S b v i l =
       let h = v .held i l (blank i) (length-replicate (limit B i * waiting.width) 0) in
@@ -142,7 +142,7 @@ module _ (B : Bench) (ok : Opened B) where
       let c : counts (S .ledger) i ≡ cell (S .tables i .net) waitingAt = v .told .count i l ∙ sym (waiting-count (chainOpening B i) (brought S i (blank i)) (b i) h) in
       sym (rows-over waiting.form exact (poolOf S i) (blank i))
       ∙ ap (rowsOf waiting.form (over waiting.form (poolOf S i) (blank i))) (e ∙ c)
-      ∙ ap (λ (q : Live). q .waiting) (h .held .wrote .holds) ∙ ap (λ (q : LiveBy plain). q .waiting) (h .same)
+      ∙ ap (λ (q : Live). q .queue .waiting) (h .held .wrote .holds) ∙ ap (λ (q : LiveBy plain). q .queue .waiting) (h .same)
 
   same-free : (S : Stand) (b : ℕ → Book) → Inv S b → (i : ℕ) → freeIn (S .ledger) i ≡ freeFor B (inBooks b) i
   same-free S b v i =
@@ -179,8 +179,8 @@ module _ (B : Bench) (ok : Opened B) where
     abbrev new : List Copy
     new = rowsOf waiting.form (worked B S m .waiting) (cell (worked B S m .net) waitingAt)
 
-    new-is : new ≡ b′ .live .waiting
-    new-is = ap (λ (q : Live). q .waiting) (held-own .held .wrote .holds) ∙ ap (λ (q : LiveBy plain). q .waiting) (held-own .same)
+    new-is : new ≡ b′ .live .queue .waiting
+    new-is = ap (λ (q : Live). q .queue .waiting) (held-own .held .wrote .holds) ∙ ap (λ (q : LiveBy plain). q .queue .waiting) (held-own .same)
 
     abbrev parts : ℕ → List Copy
     parts = put i new (poolOf S)
@@ -214,7 +214,7 @@ module _ (B : Bench) (ok : Opened B) where
       count = λ j q. go j q (eqb j i) refl;
     }
       where
-        go : (j : ℕ) → j < n → (c : Bool) → eqb j i ≡ c → counts ledger′ j ≡ length (cond c b′ (b j) .live .waiting)
+        go : (j : ℕ) → j < n → (c : Bool) → eqb j i ≡ c → counts ledger′ j ≡ length (cond c b′ (b j) .live .queue .waiting)
         go j q true d = ap (counts ledger′) (eqb-true j i d) ∙ count-own ∙ waiting-count o (worked B S m) b′ held-own
         go j q false d = count-other j (eqb-false j i d) ∙ v .told .count j q
 
@@ -235,7 +235,7 @@ module _ (B : Bench) (ok : Opened B) where
     abbrev rest : ℕ
     rest = othersBelow n i (λ j. takes (B .share j) (inBooks b j))
 
-    few : length (b′ .live .waiting) ≤ B .slots - rest
+    few : length (b′ .live .queue .waiting) ≤ B .slots - rest
     few =
         item-few o T (b i) here (freeIn (S .ledger) i) (B .slots - rest) (m .item) p
         (omega (arith, v .sum, one-and-others n i (λ j. takes (B .share j) (inBooks b j)) l))
@@ -244,7 +244,7 @@ module _ (B : Bench) (ok : Opened B) where
     same-rest : othersBelow n i (λ j. takes (B .share j) (inBooks (booksAlong B b S m) j)) ≡ rest
     same-rest = others-same n i (λ j. takes (B .share j) (inBooks (booksAlong B b S m) j)) (λ j. takes (B .share j) (inBooks b j)) (λ j e. rw e)
 
-    own-now : inBooks (booksAlong B b S m) i ≡ length (b′ .live .waiting)
+    own-now : inBooks (booksAlong B b S m) i ≡ length (b′ .live .queue .waiting)
     own-now = rw (eq-eqb i i refl)
 
     sum-next : sumBelow n (λ j. takes (B .share j) (inBooks (booksAlong B b S m) j)) ≤ B .slots

@@ -34,7 +34,7 @@ abbrev pub counted : (ℕ → Tables) → ℕ → ℕ
 counted T j = cell (T j .net) waitingAt
 
 abbrev pub inBooks : (ℕ → Book) → ℕ → ℕ
-inBooks b j = length (b j .live .waiting)
+inBooks b j = length (b j .live .queue .waiting)
 
 module _ (B : Bench) where
   -- ---- Along the bench's list: every chain's tables, and every chain's book
@@ -103,7 +103,7 @@ pub record BenchHolds (B : Bench) (acts : List Act) : Type 0 where
 
 -- an accept that opens: waiting plus 3 × selected stay within `share`; any other call is inside
 abbrev pub InsideBy : Opening → (share : ℕ) → Live → Kind → Type 0
-InsideBy o share s (accepting e) = length (s .waiting) + 3 * length (chosen o s e) ≤ share
+InsideBy o share s (accepting e) = length (s .queue .waiting) + 3 * length (chosen o s e) ≤ share
 InsideBy o share s (flushing now rows) = Unit {0}
 InsideBy o share s (takingDown t) = Unit {0}
 InsideBy o share s draining = Unit {0}

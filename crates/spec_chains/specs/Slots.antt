@@ -123,7 +123,7 @@ module _ (B : Bench) where
 pub record PoolHolds (B : Bench) (pool : List ℕ) (ms : List Move) : Type 0 where
   pub calls : MovesHold B (openedBooks B) (openStand B pool) ms
   -- a chain's waiting copies are those it has in the pool, and all else that it holds is its book's
-  pub in-pool : (i : ℕ) → i < B .chains → poolOf (standLast B (openStand B pool) ms) i ≡ booksThen B (openedBooks B) (openStand B pool) ms i .live .waiting
+  pub in-pool : (i : ℕ) → i < B .chains → poolOf (standLast B (openStand B pool) ms) i ≡ booksThen B (openedBooks B) (openStand B pool) ms i .live .queue .waiting
   pub same-live : (i : ℕ) → i < B .chains → (work : List ℕ) → length work ≡ limit B i * waiting.width
       → plainly (live (B .settings i .sizes) (brought (standLast B (openStand B pool) ms) i work)) ≡ booksThen B (openedBooks B) (openStand B pool) ms i .live
   pub books : (i : ℕ) → BookHolds (chainOpening B i) (booksThen B (openedBooks B) (openStand B pool) ms i)

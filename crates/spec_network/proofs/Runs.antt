@@ -205,9 +205,9 @@ abbrev kindOf : Copy → ℕ
 kindOf c = 10 * c .delivery .to + c .original
 
 pub record Echoes : Type 0 where
-  pub kinds : map kindOf (held echoing (hello ∷ []) .waiting) ≡ 11 ∷ 10 ∷ 21 ∷ 20 ∷ 20 ∷ []
-  pub sequences : map (λ (c : Copy). c .sequence) (held echoing (hello ∷ []) .waiting) ≡ 1 ∷ 2 ∷ 3 ∷ 4 ∷ 5 ∷ []
-  pub ids : map (λ (c : Copy). c .id) (held echoing (hello ∷ []) .waiting) ≡ 116005 ∷ 0 ∷ 116005 ∷ 0 ∷ 0 ∷ []
+  pub kinds : map kindOf (held echoing (hello ∷ []) .queue .waiting) ≡ 11 ∷ 10 ∷ 21 ∷ 20 ∷ 20 ∷ []
+  pub sequences : map (λ (c : Copy). c .sequence) (held echoing (hello ∷ []) .queue .waiting) ≡ 1 ∷ 2 ∷ 3 ∷ 4 ∷ 5 ∷ []
+  pub ids : map (λ (c : Copy). c .id) (held echoing (hello ∷ []) .queue .waiting) ≡ 116005 ∷ 0 ∷ 116005 ∷ 0 ∷ 0 ∷ []
   -- latency 2, duplicate 2, replay 2, the echo's latency 2; the second has a ring index and one more latency
   pub first-words : cell (tables echoing (hello ∷ []) .words) 1 ≡ 8
   pub second-words : cell (tables echoing (hello ∷ []) .words) 2 ≡ 11
@@ -240,7 +240,7 @@ pub record Flushes : Type 0 where
   pub unhandled : deliveredIn (reply (handlers 1 2 0 ∷ hello ∷ takeDown 1 ∷ bringUp 1 1 ∷ []) flying .answer) ≡ 0
   pub sender-gone : rowsTo (reply (hello ∷ takeDown 0 ∷ []) flying) ≡ []
   -- two originals of one id wait at one till: accept, down, up, accept; the flush drop of the first clears the mark that the second set
-  pub two-wait : map kindOf (held plain (hello ∷ takeDown 1 ∷ bringUp 1 1 ∷ hello ∷ []) .waiting) ≡ 11 ∷ 21 ∷ 11 ∷ []
+  pub two-wait : map kindOf (held plain (hello ∷ takeDown 1 ∷ bringUp 1 1 ∷ hello ∷ []) .queue .waiting) ≡ 11 ∷ 21 ∷ 11 ∷ []
   pub second-unmarked : held plain (hello ∷ takeDown 1 ∷ bringUp 1 1 ∷ accept (entry 0 5000 global 5) true ∷ blockDuring 0 1 1001001 1001002 ∷ flush 1002000 3 ∷ []) .seen ≡ [] ∷ [] ∷ (116005 ∷ []) ∷ []
   -- a host handler takes a global entry, and none for a shard
   pub host-shard : deliveredIn (reply (handlers 1 0 2 ∷ accept (entry 0 1000 0 5) true ∷ []) flying .answer) ≡ 0

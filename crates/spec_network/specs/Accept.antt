@@ -175,7 +175,7 @@ module _ (o : Opening) (m : Message) where
 
   -- the copies of a sent recipient: the original, then its echoes; each takes the next sequence
   abbrev pub copies : {k : Layout} → LiveBy k → Drawn → ℕ → List Copy
-  copies s d t = numbered (s .sequence) (original m t (d .latency .value) ∷ d .echoes .copies)
+  copies s d t = numbered (s .queue .sequence) (original m t (d .latency .value) ∷ d .echoes .copies)
 
   abbrev pub wordsMoved : {k : Layout} → LiveBy k → ℕ → ℕ → LiveBy k
   wordsMoved s t n = withWords s (set (s .words) (link (m .from) t) n)
@@ -194,7 +194,7 @@ module _ (o : Opening) (m : Message) where
       let cs = copies s d t in
       let s₁ = withEngine (wordsMoved s t (d .echoes .words)) (ruled (s .engine) (d .verdict)) in
       let s₂ = withSeen s₁ (mark k t (m .id) (s .seen)) in
-      let s₃ = withWaiting s₂ (length cs + s .sequence) (insertAll k cs (s .waiting)) in
+      let s₃ = withWaiting s₂ (length cs + s .queue .sequence) (insertAll k cs (s .queue .waiting)) in
       withRings s₃ (remembered s)
 
   unfoldable pub offered : {k : Layout} → LiveBy k → ℕ → LiveBy k

@@ -149,9 +149,9 @@ read s (isBlocked from to now) = number 1 (bit (blocked from to now (s .engine .
 read s (transit t) = number 1 (inTransit s t)
 read s (fired id) = firedOf (readingOf id (s .engine .rules))
 read s (isDown t) = number 1 (bit (not (isUp s t)))
-read s nextTime = firstTime (s .waiting)
+read s nextTime = firstTime (s .queue .waiting)
 read s (tallyOf class) = tallied (getD (s .log .tallies) class noTally)
-read s (waitingCopies rows) = copies (s .waiting)
+read s (waitingCopies rows) = copies (s .queue .waiting)
 read {k} s (marksOf t places) = ids (idsIn k (idsAt s t))
 
 abbrev pub movedBy : List Row → ℕ → Answer

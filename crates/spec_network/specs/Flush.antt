@@ -16,14 +16,14 @@ use Rattle.spec_network.specs.Live.{LiveBy, isOriginal, tillAt, stopped,
 
 -- the waiting copies with a time at or before now: a front part, since they stand by time, then sequence
 abbrev pub due : {k : Layout} → ℕ → LiveBy k → List Copy
-due now s = front (onTime now) s.waiting
+due now s = front (onTime now) (s .queue .waiting)
 
 -- WHAT A FLUSH SERVES, of now, the rows lent and the live part: every copy due, whatever the rows; and what waits on behind these
 abbrev pub served : {k : Layout} → (now rows : ℕ) → LiveBy k → List Copy
 served now rows s = due now s
 
 abbrev pub later : {k : Layout} → (now rows : ℕ) → LiveBy k → List Copy
-later now rows s = behind (onTime now) s.waiting
+later now rows s = behind (onTime now) (s .queue .waiting)
 
 -- blocks at the copy's delivery time, down tills as they are now
 abbrev pub stops : {k : Layout} → LiveBy k → Copy → Bool
@@ -75,5 +75,5 @@ loggedAll places l (c ∷ cs) = loggedAll places (logged places l (c .delivery))
 abbrev pub flushed : {k : Layout} → Opening → (now rows : ℕ) → LiveBy k → LiveBy k
 flushed o now rows s =
     let s₁ = withSeen s (clearing s (served now rows s) s.seen) in
-    let s₂ = withWaiting s₁ s.sequence (later now rows s) in
+    let s₂ = withWaiting s₁ (s .queue .sequence) (later now rows s) in
     withLog s₂ (loggedAll (o .sizes .logSlots) s.log (lands s (served now rows s)))

@@ -72,14 +72,17 @@ withRules e x installed words = record { blocks = e .blocks; rules = x; installe
 
 -- ---- The live part
 
+pub record Queue : Type 0 where
+  pub sequence : ℕ  -- the last one given
+  pub waiting : List Copy  -- by time, then sequence
+
 pub record LiveBy (k : Layout) : Type 0 where
   pub tills : List Till
   pub seen : List (Marks k)  -- the marks of each till
   pub engine : Engine
   pub rings : Rings k
   pub words : List ℕ  -- the word count of each link
-  pub sequence : ℕ  -- the last one given
-  pub waiting : List Copy  -- by time, then sequence
+  pub queue : Queue
   pub log : Log
 
 -- as the tables hold it
@@ -87,30 +90,33 @@ abbrev pub Live : Type 0
 Live = LiveBy table
 
 abbrev pub withTills : {k : Layout} → LiveBy k → List Till → LiveBy k
-withTills s x = record { tills = x; seen = s .seen; engine = s .engine; rings = s .rings; words = s .words; sequence = s .sequence; waiting = s .waiting; log = s .log }
+withTills s x = record { tills = x; seen = s .seen; engine = s .engine; rings = s .rings; words = s .words; queue = s .queue; log = s .log }
 
 abbrev pub withSeen : {k : Layout} → LiveBy k → List (Marks k) → LiveBy k
-withSeen s x = record { tills = s .tills; seen = x; engine = s .engine; rings = s .rings; words = s .words; sequence = s .sequence; waiting = s .waiting; log = s .log }
+withSeen s x = record { tills = s .tills; seen = x; engine = s .engine; rings = s .rings; words = s .words; queue = s .queue; log = s .log }
 
 abbrev pub withEngine : {k : Layout} → LiveBy k → Engine → LiveBy k
-withEngine s x = record { tills = s .tills; seen = s .seen; engine = x; rings = s .rings; words = s .words; sequence = s .sequence; waiting = s .waiting; log = s .log }
+withEngine s x = record { tills = s .tills; seen = s .seen; engine = x; rings = s .rings; words = s .words; queue = s .queue; log = s .log }
 
 abbrev pub withRings : {k : Layout} → LiveBy k → Rings k → LiveBy k
-withRings s x = record { tills = s .tills; seen = s .seen; engine = s .engine; rings = x; words = s .words; sequence = s .sequence; waiting = s .waiting; log = s .log }
+withRings s x = record { tills = s .tills; seen = s .seen; engine = s .engine; rings = x; words = s .words; queue = s .queue; log = s .log }
 
 abbrev pub withWords : {k : Layout} → LiveBy k → List ℕ → LiveBy k
-withWords s x = record { tills = s .tills; seen = s .seen; engine = s .engine; rings = s .rings; words = x; sequence = s .sequence; waiting = s .waiting; log = s .log }
+withWords s x = record { tills = s .tills; seen = s .seen; engine = s .engine; rings = s .rings; words = x; queue = s .queue; log = s .log }
+
+abbrev pub withQueue : {k : Layout} → LiveBy k → Queue → LiveBy k
+withQueue s x = record { tills = s .tills; seen = s .seen; engine = s .engine; rings = s .rings; words = s .words; queue = x; log = s .log }
 
 abbrev pub withWaiting : {k : Layout} → LiveBy k → ℕ → List Copy → LiveBy k
-withWaiting s n x = record { tills = s .tills; seen = s .seen; engine = s .engine; rings = s .rings; words = s .words; sequence = n; waiting = x; log = s .log }
+withWaiting s n x = withQueue s (record { sequence = n; waiting = x })
 
 abbrev pub withLog : {k : Layout} → LiveBy k → Log → LiveBy k
-withLog s x = record { tills = s .tills; seen = s .seen; engine = s .engine; rings = s .rings; words = s .words; sequence = s .sequence; waiting = s .waiting; log = x }
+withLog s x = record { tills = s .tills; seen = s .seen; engine = s .engine; rings = s .rings; words = s .words; queue = s .queue; log = x }
 
 -- ---- What the book holds of it: marks and rings plain
 
 abbrev pub plainly : Live → LiveBy plain
-plainly s = record { tills = s .tills; seen = map (idsIn table) (s .seen); engine = s .engine; rings = ringsIn (s .rings); words = s .words; sequence = s .sequence; waiting = s .waiting; log = s .log }
+plainly s = record { tills = s .tills; seen = map (idsIn table) (s .seen); engine = s .engine; rings = ringsIn (s .rings); words = s .words; queue = s .queue; log = s .log }
 
 -- ---- Readings
 
@@ -133,7 +139,7 @@ stopped s from to at = not (isUp s from) || not (isUp s to) || blocked from to a
 
 -- in transit to a till is the number of copies waiting for it
 abbrev pub inTransit : {k : Layout} → LiveBy k → ℕ → ℕ
-inTransit s t = count (λ (c : Copy). eqb (c .delivery .to) t) s.waiting
+inTransit s t = count (λ (c : Copy). eqb (c .delivery .to) t) (s .queue .waiting)
 
 -- a ring for each type and scope
 abbrev pub ringsOf : Sizes → ℕ
@@ -151,7 +157,6 @@ openingLive k z masks = record {
   engine = record { blocks = []; rules = []; installed = 0; words = 0 };
   rings = noRings k (ringsOf z);
   words = replicate links 0;
-  sequence = 0;
-  waiting = [];
+  queue = record { sequence = 0; waiting = [] };
   log = emptyLog;
 }

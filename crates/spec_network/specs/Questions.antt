@@ -67,7 +67,7 @@ module _ (o : Opening) where
 
     -- 9: does the sequence plus 3 × selected stay at or below 4,294,967,295?
     abbrev pub ask9 : Asked
-    ask9 = ask 9 (leb (s .sequence + 3 * length (chosen o s e)) lastNumber)
+    ask9 = ask 9 (leb (s .queue .sequence + 3 * length (chosen o s e)) lastNumber)
 
     -- 10: has each selected till without this id a free seen slot? Asked of what the entry meets
     abbrev pub ask10 : Asked
@@ -75,11 +75,11 @@ module _ (o : Opening) where
 
     -- 11: do waiting plus 3 × selected fit the slots? 23, in its place: do they fit the chain's limit, and what the pool has left to it?
     abbrev pub ask11 : Asked
-    ask11 = ask 11 (leb (length (s .waiting) + 3 * length (chosen o s e)) (o .sizes .waitSlots))
+    ask11 = ask 11 (leb (length (s .queue .waiting) + 3 * length (chosen o s e)) (o .sizes .waitSlots))
 
     abbrev pub askRoom : Room → Asked
     askRoom alone = ask11
-    askRoom (pooled free) = ask 23 (leb (length (s .waiting) + 3 * length (chosen o s e)) (o .sizes .waitSlots) && leb (length (s .waiting) + 3 * length (chosen o s e)) free)
+    askRoom (pooled free) = ask 23 (leb (length (s .queue .waiting) + 3 * length (chosen o s e)) (o .sizes .waitSlots) && leb (length (s .queue .waiting) + 3 * length (chosen o s e)) free)
 
   -- 12: is a block place free? is a rule place free, and were fewer than 4,294,967,295 rules ever installed?
   abbrev pub ask12block : {k : Layout} → LiveBy k → Asked

@@ -164,7 +164,6 @@ live z T = record {
   };
   rings = rings.allRings (ringsOf z) (T .rings);
   words = T .words;
-  sequence = cell (T .net) sequenceAt;
-  waiting = queueOf z (waitingRows T);
+  queue = record { sequence = cell (T .net) sequenceAt; waiting = queueOf z (waitingRows T) };
   log = log.logOf (z .logSlots) (T .log);
 }

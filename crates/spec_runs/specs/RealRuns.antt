@@ -34,7 +34,7 @@ copy time sequence original id = record { delivery = record { from = 0; to = 1; 
 pub record Drawn : Type 0 where
   pub opens : openNumber rates masks (lent rates) ≡ 0
   pub counts : countsIn (callReply start hello .answer) ≡ five 1 0 0 1 0
-  pub waits : live (rates .sizes) (callTables start hello) .waiting ≡ copy 2056089545 2 0 0 ∷ copy 6210416564 1 1 0x747abf483f28d7f6 ∷ []
+  pub waits : live (rates .sizes) (callTables start hello) .queue .waiting ≡ copy 2056089545 2 0 0 ∷ copy 6210416564 1 1 0x747abf483f28d7f6 ∷ []
   pub words : (cell (callTables start hello .words) 1 ≡ 18) × (cell (callTables start hello .words) 2 ≡ 2)
 
 -- Two regions and a rule with probability 0.5 that draws and passes:
@@ -79,5 +79,5 @@ ended = live (planned .sizes) (callTables ruled sends)
 pub record Planned : Type 0 where
   pub opens : openNumber planned (1 ∷ 1 ∷ []) (keyed (lent planned)) ≡ 0
   pub counts : countsIn (callReply ruled sends .answer) ≡ five 1 0 0 0 0
-  pub waits : ended .waiting ≡ record { delivery = record { from = 1; to = 0; kind = 0; class = 1; sent = 2000; time = 132846368; scope = 0; wire = 2 }; sequence = 1; original = 1; id = 0xd443a05c92551b9c; tag = 78 } ∷ []
+  pub waits : ended .queue .waiting ≡ record { delivery = record { from = 1; to = 0; kind = 0; class = 1; sent = 2000; time = 132846368; scope = 0; wire = 2 }; sequence = 1; original = 1; id = 0xd443a05c92551b9c; tag = 78 } ∷ []
   pub words : (cell (ended .words) 64 ≡ 2) × (ended .engine .words ≡ 2)
