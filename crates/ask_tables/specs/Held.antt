@@ -6,11 +6,14 @@ use lib.Dec.{ltb}
 use Rattle.fault_blocks.specs.declared.BlockWindow.{BlockWindow}
 use Rattle.spec_network.specs.Live.{Till}
 use Rattle.spec_network.specs.Lists.{every}
-use Rattle.spec_network.specs.Tables.{sizesAt, settingsAt}
+use Rattle.spec_network.specs.Tables.{Tables, sizesAt, settingsAt}
 use Rattle.spec_network.specs.Limits.{sizeTests, rangeTests}
 use Rattle.spec_network.specs.Lent.{setupTests, netTests, namesTests, tillsTests, wordsTests, keysTests, pricesTests, seenTests, waitingTests, ringsTests, rulesTests, blocksTests, logTests}
-use Rattle.spec_network.specs.Writes.{setNet, setTills, setWords, setSeen, setWaiting, setRings, setRules, setBlocks, setLog}
-use Rattle.ask_tables.specs.Lending.{alone, setNames, setKeys, setPrices}
+use Rattle.spec_network.specs.Lending.{noTables, setSetup, setNet, setNames, setTills, setWords, setKeys, setPrices, setSeen, setWaiting, setRings, setRules, setBlocks, setLog}
+
+-- `setup` alone
+abbrev pub alone : (setup : List ℕ) → Tables
+alone setup = setSetup noTables setup
 
 -- question 2's limits, of the numbers that they speak of
 unfoldable pub sizesWithin : (tills types classes shards seen waiting log regions : ℕ) → Bool

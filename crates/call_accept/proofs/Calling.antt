@@ -14,7 +14,7 @@ use Rattle.spec_network.specs.Tables.{Tables, live, sizesAt}
 use Rattle.spec_network.specs.Real.{idOf, drawsOf, openingAt}
 use Rattle.spec_network.specs.Writes.{acceptT, callTables, callReply}
 use Rattle.call_reply.proofs.Laws.{silenced, stays, answered, steps}
-use Rattle.ask_tables.specs.Lending.{tablesOf}
+use Rattle.spec_network.specs.Lending.{tablesOf}
 use Rattle.call_offer.specs.declared.Message.{Message}
 use Rattle.call_offer.specs.Offering.{told}
 use Rattle.call_offer.specs.Needed.{SeenHeld}

@@ -7,7 +7,7 @@ use lib.Dec.{eqb}
 use Rattle.spec_network.specs.Accept.{Entry, Counts}
 use Rattle.spec_network.specs.Calls.{Call, accept, countsIn}
 use Rattle.spec_network.specs.Writes.{Reply, callTables, callReply}
-use Rattle.ask_tables.specs.Lending.{tablesOf}
+use Rattle.spec_network.specs.Lending.{tablesOf}
 use Rattle.call_accept.specs.declared.Accepted.{Accepted}
 
 -- the arguments as `Accept` has them; `opens` is 0 for a payload that does not open

@@ -16,7 +16,7 @@ use Rattle.table_rings.specs.Rings.{none}
 use Rattle.fault_blocks.specs.Blocks.{blocked, blocksOf}
 use Rattle.table_waiting.specs.declared.Copy.{Copy}
 use Rattle.link_draws.specs.Drawing.{delayDraw}
-use Rattle.ask_tables.specs.Lending.{tablesOf}
+use Rattle.spec_network.specs.Lending.{tablesOf}
 use Rattle.spec_network.specs.Lists.{bitAt}
 use Rattle.spec_network.specs.Opening.{Draw, Opening, Settings, global, longestWire}
 use Rattle.spec_network.specs.Live.{Carried, Live, marked, stopped}

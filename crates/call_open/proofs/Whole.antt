@@ -19,7 +19,7 @@ use Rattle.ask_opening.specs.Given.{settingsOf, keyWords, keyBytes}
 use Rattle.ask_opening.specs.Asked.{numberOf}
 use Rattle.ask_opening.proofs.Number.{Passed, passed, lengthsIn, number-is}
 use Rattle.ask_opening.proofs.Sums.{key-other}
-use Rattle.ask_tables.specs.Lending.{tablesOf}
+use Rattle.spec_network.specs.Lending.{tablesOf}
 use Rattle.call_open.specs.Opens.{openedOf, Does, Settled, Begun, begunNet, begunTills, begunSeen, begunRings, begunLog}
 
 -- the questions do not ask the seed

@@ -4,7 +4,7 @@ ghost use lib.ListN.{replicate};
 ghost use Rattle.spec_network.specs.Opening.{links};
 ghost use Rattle.spec_network.specs.Tables.{setupOf};
 ghost use Rattle.spec_network.specs.Real.{keysOf, pricedBy};
-ghost use Rattle.ask_tables.specs.Lending.{tablesOf};
+ghost use Rattle.spec_network.specs.Lending.{tablesOf};
 ghost use Rattle.ask_opening.specs.Given.{settingsOf};
 ghost use Rattle.call_open.specs.Opens.{Does, Settled, Begun, begunNet, begunTills, begunSeen, begunRings, begunLog};
 use ask_opening::NetworkConfig;

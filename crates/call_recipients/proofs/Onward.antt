@@ -23,7 +23,7 @@ use Rattle.spec_network.specs.Writes.{setLog, offeredT}
 use Rattle.spec_book.proofs.Formed.{Formed}
 use Rattle.spec_book.proofs.Fitting.{NearMessage}
 use Rattle.spec_book.proofs.Sound.{sent-unmarked}
-use Rattle.ask_tables.specs.Lending.{tablesOf}
+use Rattle.spec_network.specs.Lending.{tablesOf}
 use Rattle.call_offer.specs.declared.Message.{Message}
 use Rattle.call_offer.specs.declared.Offer.the-variants.{Sent}
 use Rattle.call_offer.specs.declared.Sending.{Sending}

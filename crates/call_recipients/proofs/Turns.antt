@@ -11,7 +11,7 @@ use Rattle.spec_network.specs.Tables.{Tables, live, sizesAt}
 use Rattle.spec_network.specs.Real.{openingAt}
 use Rattle.spec_network.specs.Accept.{Class, deduplicated, partition, loss, fault, sent, classOf, offered, Counts, booked, tally, noCounts, add, isClass, total}
 use Rattle.spec_network.specs.Writes.{offeredT, acceptT}
-use Rattle.ask_tables.specs.Lending.{tablesOf}
+use Rattle.spec_network.specs.Lending.{tablesOf}
 use Rattle.call_offer.specs.declared.Message.{Message}
 use Rattle.call_offer.specs.declared.Offer.{Offer}
 use Rattle.call_offer.specs.Needed.{Fixed, Ranged}

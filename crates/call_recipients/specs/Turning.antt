@@ -14,7 +14,7 @@ use Rattle.spec_network.specs.Tables.{cell, live, sizesAt, idsStart, sequenceAt
 use Rattle.spec_network.specs.Real.{openingAt}
 use Rattle.spec_network.specs.Accept.{classOf, booked, tally, add}
 use Rattle.spec_network.specs.Writes.{offeredT, acceptT}
-use Rattle.ask_tables.specs.Lending.{tablesOf}
+use Rattle.spec_network.specs.Lending.{tablesOf}
 use Rattle.call_offer.specs.declared.Message.{Message}
 use Rattle.call_offer.specs.Needed.{State}
 use Rattle.call_offer.specs.Offering.{told, selectsAt}

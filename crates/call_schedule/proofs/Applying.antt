@@ -19,7 +19,7 @@ use Rattle.spec_network.specs.Real.{drawsOf, openingAt}
 use Rattle.spec_network.specs.Accept as accept
 use Rattle.spec_network.specs.Accept.{Drawn, drawn, original, echo, carriedOf, Class, sent, classOf, add}
 use Rattle.spec_network.specs.Writes.{setRings, setRules, wordsT, netT, ruledT, marksT, pushT, rememberT, effectT, offeredT}
-use Rattle.ask_tables.specs.Lending.{tablesOf}
+use Rattle.spec_network.specs.Lending.{tablesOf}
 use Rattle.call_offer.specs.declared.Message.{Message}
 use Rattle.call_offer.specs.declared.Faulted.{Faulted}
 use Rattle.call_offer.specs.declared.Sending.{Sending}

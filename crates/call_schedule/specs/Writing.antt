@@ -18,7 +18,7 @@ use Rattle.spec_network.specs.Accept as accept
 use Rattle.spec_network.specs.Accept.{original, carriedOf, Class, deduplicated, partition, loss, fault, sent}
 use Rattle.spec_network.specs.Writes.{wordsT, netT, ruledT, marksT, pushT, rememberT}
 use Rattle.spec_network.specs.Real.{openingAt}
-use Rattle.ask_tables.specs.Lending.{tablesOf}
+use Rattle.spec_network.specs.Lending.{tablesOf}
 use Rattle.call_offer.specs.declared.Message.{Message}
 use Rattle.call_offer.specs.declared.Sending.{Sending}
 use Rattle.call_offer.specs.declared.Offer.{Offer}

@@ -6,7 +6,7 @@ use lib.ListN.{length}
 use Rattle.spec_network.specs.Calls.{Call, takeDown, bringUp, handlers, reading, isDown, marksOf, Answer, silent, counted, moved, number, tallied, drained, copies, ids}
 use Rattle.spec_network.specs.Tables.{Tables}
 use Rattle.spec_network.specs.Writes.{Reply, setTills, setSeen, callTables, callReply, callOutput}
-use Rattle.ask_tables.specs.Lending.{setSetup}
+use Rattle.spec_network.specs.Lending.{setSetup}
 use Rattle.call_reply.specs.declared.Done.{Done}
 use Rattle.call_reply.specs.declared.Value.{Value}
 use Rattle.call_reply.specs.Reply.{doneOf, valueOf}

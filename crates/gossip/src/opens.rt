@@ -5,7 +5,7 @@ use ask_opening::RegionPlan;
 use ask_opening::TableSizes;
 use call_reply::Done;
 ghost use mathlib.Core.Path.{_≡_};
-ghost use Rattle.ask_tables.specs.Lending.{tablesOf};
+ghost use Rattle.spec_network.specs.Lending.{tablesOf};
 ghost use Rattle.call_open.specs.Opens.{Does};
 ghost use Rattle.ask_opening.specs.Given.{settingsOf};
 ghost use Rattle.ask_opening.specs.Sizes.{tableSizes};

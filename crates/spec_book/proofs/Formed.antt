@@ -15,7 +15,7 @@ use Rattle.spec_network.specs.Live.{Live, ringsOf}
 use Rattle.spec_network.specs.Tables.{cell, Tables, live, netWidth, waitingAt, rulesAt, blocksAt, tillForm, ruleForm, blockForm}
 use Rattle.spec_network.specs.Real.{openingAt}
 use Rattle.spec_network.specs.Lent.{setupTests, namesTests, keysTests, pricesTests}
-use Rattle.spec_network.specs.Writes.{setNet, setTills, setWords, setSeen, setWaiting, setRings, setRules, setBlocks, setLog}
+use Rattle.spec_network.specs.Lending.{noTables, setSetup, setNet, setNames, setTills, setWords, setKeys, setPrices, setSeen, setWaiting, setRings, setRules, setBlocks, setLog}
 
 -- the tables that the opening alone writes
 pub record Four : Type 0 where
@@ -28,7 +28,7 @@ abbrev pub fourOf : Tables → Four
 fourOf T = record { setup = T .setup; names = T .names; keys = T .keys; prices = T .prices }
 
 abbrev pub bare : Four → Tables
-bare q = record { setup = q .setup; net = []; names = q .names; tills = []; words = []; keys = q .keys; prices = q .prices; seen = []; waiting = []; rings = []; rules = []; blocks = []; log = [] }
+bare q = setPrices (setKeys (setNames (setSetup noTables (q .setup)) (q .names)) (q .keys)) (q .prices)
 
 -- they are in range, and the opening is the book's
 pub record Fixed (o : Opening) (q : Four) : Type 0 where

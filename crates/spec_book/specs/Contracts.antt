@@ -7,8 +7,9 @@ use Rattle.spec_network.specs.Opening.{Settings}
 use Rattle.spec_network.specs.Calls.{Call, silent}
 use Rattle.spec_network.specs.Questions.{alone}
 use Rattle.spec_network.specs.Tables.{Tables}
-use Rattle.spec_network.specs.Open.{openNumber, openTables, openCall}
-use Rattle.spec_network.specs.Writes.{Reply, callTables, callReply, callOutput, roomOutput}
+use Rattle.spec_network.specs.Open.{openTables}
+use Rattle.spec_network.specs.Writes.{Reply, roomOutput}
+use Rattle.spec_network.specs.Contract.{DoesOut, Opens}
 use Rattle.spec_book.specs.Demand3.{Item, own, others, reopen, repliesTo, endTables, Demand3, tablesAfter}
 
 pub record Called : Type 0 where
@@ -19,11 +20,9 @@ pub record Called : Type 0 where
   pub left : List ℕ
   pub reply : Reply
 
--- what the contract of a call ensures
-pub record Meets (a : Called) : Type 0 where
-  pub replied : a .reply ≡ callReply (a .entry) (a .call)
-  pub tables : a .exit ≡ callTables (a .entry) (a .call)
-  pub output : a .left ≡ callOutput (a .entry) (a .call) (a .lent)
+-- what the contract of a call ensures, in the form of every call's
+abbrev pub Meets : Called → Type 0
+Meets a = DoesOut (λ (q : Reply). q) (a .entry) (a .exit) (a .call) (a .reply) (a .lent) (a .left)
 
 pub record Opened : Type 0 where
   pub settings : Settings
@@ -33,9 +32,8 @@ pub record Opened : Type 0 where
   pub number : ℕ
 
 -- and that of the opening
-pub record MeetsOpening (r : Opened) : Type 0 where
-  pub replied : r .number ≡ openNumber (r .settings) (r .masks) (r .entry)
-  pub tables : r .exit ≡ openCall (r .settings) (r .masks) (r .entry)
+abbrev pub MeetsOpening : Opened → Type 0
+MeetsOpening r = Opens (λ (n : ℕ). n) (r .entry) (r .exit) (r .settings) (r .masks) (r .number)
 
 -- a call on the tables of the list; one that was lent others; an opening that a number refuses
 pub data Done : Type 0 where

@@ -9,7 +9,8 @@ use Rattle.table_rings.specs.Rings as rings
 use Rattle.table_log.specs.Log as log
 use Rattle.spec_network.specs.Opening.{Sizes, links}
 use Rattle.spec_network.specs.Tables.{Tables, netWidth}
-use Rattle.spec_book.proofs.Formed.{Four, fourOf, Formed}
+use Rattle.spec_network.specs.Lending.{setNine}
+use Rattle.spec_book.proofs.Formed.{Four, fourOf, bare, Formed}
 use Rattle.spec_book.proofs.Fitting.{Limited}
 use Rattle.spec_names.specs.Keeping.{stored, restored, needWords, tillsWords, seenWords, waitingWords, ringsWords, rulesWords, blocksWords, bytesNeeded, mostBytes}
 
@@ -27,7 +28,7 @@ drop-exact (x ∷ a) b n h = rw (← h) (drop-exact a b (length a) refl)
 
 -- the four tables of T that no call writes, and the nine of K
 abbrev pub mixed : Tables → Tables → Tables
-mixed T K = record { setup = T .setup; net = K .net; names = T .names; tills = K .tills; words = K .words; keys = T .keys; prices = T .prices; seen = K .seen; waiting = K .waiting; rings = K .rings; rules = K .rules; blocks = K .blocks; log = K .log }
+mixed T K = setNine T (K .net) (K .tills) (K .words) (K .seen) (K .waiting) (K .rings) (K .rules) (K .blocks) (K .log)
 
 module _ (z : Sizes) (K T : Tables) (f : Formed z K) (rest : List ℕ) where
   abbrev r₈ : List ℕ
@@ -77,21 +78,7 @@ module _ (z : Sizes) (K T : Tables) (f : Formed z K) (rest : List ℕ) where
       let t₆ = ap (take rulesWords) d₆ ∙ take-exact (K .rules) r₇ rulesWords (f .rules) in
       let t₇ = ap (take blocksWords) d₇ ∙ take-exact (K .blocks) r₈ blocksWords (f .blocks) in
       let t₈ = ap (take (log.sizeOf (z .logSlots))) d₈ ∙ take-exact (K .log) rest (log.sizeOf (z .logSlots)) (f .log .size) in
-      λ j. record {
-        setup = T .setup;
-        net = t₀ j;
-        names = T .names;
-        tills = t₁ j;
-        words = t₂ j;
-        keys = T .keys;
-        prices = T .prices;
-        seen = t₃ j;
-        waiting = t₄ j;
-        rings = t₅ j;
-        rules = t₆ j;
-        blocks = t₇ j;
-        log = t₈ j;
-      }
+      λ j. setNine T (t₀ j) (t₁ j) (t₂ j) (t₃ j) (t₄ j) (t₅ j) (t₆ j) (t₇ j) (t₈ j)
 
   -- THE CENTRAL LEMMA: a memory that begins with K's nine tables gives them back
   pub restore-stored : restored z (stored K ++ rest) T ≡ mixed T K
@@ -111,10 +98,7 @@ pub restore-back : (z : Sizes) (K T : Tables) → Formed z K → fourOf T ≡ fo
 restore-back z K T f e m h =
     ap (λ (l : List ℕ). restored z l T) (sym (take-append-drop (needWords z) m) ∙ ap (λ (l : List ℕ). l ++ drop (needWords z) m) h)
     ∙ restore-stored z K T f (drop (needWords z) m)
-    ∙ ap back e
-  where
-    back : Four → Tables
-    back q = record { setup = q .setup; net = K .net; names = q .names; tills = K .tills; words = K .words; keys = q .keys; prices = q .prices; seen = K .seen; waiting = K .waiting; rings = K .rings; rules = K .rules; blocks = K .blocks; log = K .log }
+    ∙ ap (λ (q : Four). mixed (bare q) K) e
 
 -- ---- The reading
 

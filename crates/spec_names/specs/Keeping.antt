@@ -14,6 +14,7 @@ use Rattle.spec_network.specs.Opening.{Sizes, links}
 use Rattle.spec_network.specs.Live.{ringsOf}
 use Rattle.spec_network.specs.Questions.{Asked, ask, firstNo}
 use Rattle.spec_network.specs.Tables.{cell, Tables, sizesAt, netWidth, tillForm, ruleForm, blockForm}
+use Rattle.spec_network.specs.Lending.{setNine}
 use Rattle.spec_network.specs.Lent.{hasLength, setupTests, netTests, tillsTests, wordsTests, seenTests, waitingTests, ringsTests, rulesTests, blocksTests, logTests, everyOf}
 use Rattle.spec_network.specs.Writes.{isNumber}
 
@@ -68,21 +69,16 @@ restored z m T =
     let m₆ = drop (ringsWords z) m₅ in
     let m₇ = drop rulesWords m₆ in
     let m₈ = drop blocksWords m₇ in
-    record {
-      setup = T .setup;
-      net = take netWidth m;
-      names = T .names;
-      tills = take (tillsWords z) m₁;
-      words = take links m₂;
-      keys = T .keys;
-      prices = T .prices;
-      seen = take (seenWords z) m₃;
-      waiting = take (waitingWords z) m₄;
-      rings = take (ringsWords z) m₅;
-      rules = take rulesWords m₆;
-      blocks = take blocksWords m₇;
-      log = take (log.sizeOf (z .logSlots)) m₈;
-    }
+    setNine T
+    (take netWidth m)
+    (take (tillsWords z) m₁)
+    (take links m₂)
+    (take (seenWords z) m₃)
+    (take (waitingWords z) m₄)
+    (take (ringsWords z) m₅)
+    (take rulesWords m₆)
+    (take blocksWords m₇)
+    (take (log.sizeOf (z .logSlots)) m₈)
 
 -- ---- `shelf`: a word for each name, 1 where it keeps a state. The opening clears it; no other call but these three is lent it
 

@@ -26,37 +26,9 @@ use Rattle.spec_network.specs.Calls as calls
 use Rattle.spec_network.specs.Calls.{Call, Answer, silent, answerOf, accept, flush, takeDown, bringUp, handlers, block, blockDuring, unblock, install, remove, decide, drain, reading, withHandlers}
 use Rattle.spec_network.specs.Questions.{Room, alone, askedIn, firstNo}
 use Rattle.spec_network.specs.Tables.{cell, Tables, waitingRows, live, tillForm, idsStart, sequenceAt, waitingAt, rulesAt, installedAt, faultWordsAt, blocksAt}
+pub use Rattle.spec_network.specs.Lending.{setNet, setTills, setWords, setSeen, setWaiting, setRings, setRules, setBlocks, setLog}
 use Rattle.spec_network.specs.Real.{openingAt}
 use Rattle.spec_network.specs.Lent.{question1}
-
--- ---- One table anew
-
-abbrev pub setNet : Tables → List ℕ → Tables
-setNet T x = record { setup = T .setup; net = x; names = T .names; tills = T .tills; words = T .words; keys = T .keys; prices = T .prices; seen = T .seen; waiting = T .waiting; rings = T .rings; rules = T .rules; blocks = T .blocks; log = T .log }
-
-abbrev pub setTills : Tables → List ℕ → Tables
-setTills T x = record { setup = T .setup; net = T .net; names = T .names; tills = x; words = T .words; keys = T .keys; prices = T .prices; seen = T .seen; waiting = T .waiting; rings = T .rings; rules = T .rules; blocks = T .blocks; log = T .log }
-
-abbrev pub setWords : Tables → List ℕ → Tables
-setWords T x = record { setup = T .setup; net = T .net; names = T .names; tills = T .tills; words = x; keys = T .keys; prices = T .prices; seen = T .seen; waiting = T .waiting; rings = T .rings; rules = T .rules; blocks = T .blocks; log = T .log }
-
-abbrev pub setSeen : Tables → List ℕ → Tables
-setSeen T x = record { setup = T .setup; net = T .net; names = T .names; tills = T .tills; words = T .words; keys = T .keys; prices = T .prices; seen = x; waiting = T .waiting; rings = T .rings; rules = T .rules; blocks = T .blocks; log = T .log }
-
-abbrev pub setWaiting : Tables → List ℕ → Tables
-setWaiting T x = record { setup = T .setup; net = T .net; names = T .names; tills = T .tills; words = T .words; keys = T .keys; prices = T .prices; seen = T .seen; waiting = x; rings = T .rings; rules = T .rules; blocks = T .blocks; log = T .log }
-
-abbrev pub setRings : Tables → List ℕ → Tables
-setRings T x = record { setup = T .setup; net = T .net; names = T .names; tills = T .tills; words = T .words; keys = T .keys; prices = T .prices; seen = T .seen; waiting = T .waiting; rings = x; rules = T .rules; blocks = T .blocks; log = T .log }
-
-abbrev pub setRules : Tables → List ℕ → Tables
-setRules T x = record { setup = T .setup; net = T .net; names = T .names; tills = T .tills; words = T .words; keys = T .keys; prices = T .prices; seen = T .seen; waiting = T .waiting; rings = T .rings; rules = x; blocks = T .blocks; log = T .log }
-
-abbrev pub setBlocks : Tables → List ℕ → Tables
-setBlocks T x = record { setup = T .setup; net = T .net; names = T .names; tills = T .tills; words = T .words; keys = T .keys; prices = T .prices; seen = T .seen; waiting = T .waiting; rings = T .rings; rules = T .rules; blocks = x; log = T .log }
-
-abbrev pub setLog : Tables → List ℕ → Tables
-setLog T x = record { setup = T .setup; net = T .net; names = T .names; tills = T .tills; words = T .words; keys = T .keys; prices = T .prices; seen = T .seen; waiting = T .waiting; rings = T .rings; rules = T .rules; blocks = T .blocks; log = x }
 
 -- ---- The writes: each one leaf function's contract
 

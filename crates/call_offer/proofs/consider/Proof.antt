@@ -1,4 +1,4 @@
-use Rattle.ask_tables.specs.Lending.{tablesOf}
+use Rattle.spec_network.specs.Lending.{tablesOf}
 use Rattle.call_offer.proofs.Considered.{is-deduplicated, is-partition}
 use Rattle.call_offer.proofs.Readings.{marked-is, stopped-is}
 use Rattle.call_offer.specs.Offering.{told, Draws, Offers}

@@ -1,4 +1,4 @@
-use Rattle.ask_tables.specs.Lending.{tablesOf}
+use Rattle.spec_network.specs.Lending.{tablesOf}
 use Rattle.call_offer.proofs.Considered.{is-loss, is-fault, is-sent}
 use Rattle.call_offer.proofs.Readings.{ring-is, ring-below}
 use Rattle.call_offer.specs.Offering.{told, Draws}

@@ -1,5 +1,5 @@
 use borrow.Author.Needs.{needs}
-use Rattle.ask_tables.specs.Lending.{tablesOf}
+use Rattle.spec_network.specs.Lending.{tablesOf}
 use Rattle.call_open.proofs.Whole.{refused, settled, begun, done}
 use Rattle.call_open.proofs.open_network.Statement.{statement}
 use Rattle.call_open.proofs.open_network.Tie as tie
