@@ -13,7 +13,10 @@ pub struct Marks {
 
 // The till is down; its marks, handlers and shards go, its waiting copies stay.
 pub fn take_down(setup: &[u64], tills: &mut [u64], seen: &mut [u64], t: u64) -> Done
-    ensures { λ r. ⌜ DoesTakeDown (now (setup .entry)) (now (tills .entry)) (now (seen .entry)) (now (tills .exit)) (now (seen .exit)) t r ⌝ }
+    ensures { λ r. ⌜ DoesTakeDown
+        (now (setup .entry)) (now (tills .entry)) (now (seen .entry))
+        (now (tills .exit)) (now (seen .exit))
+        t r ⌝ }
 {
     let number = ask_till::down_refusal(setup, tills, seen, t);
     if number != 0 {
@@ -26,7 +29,10 @@ pub fn take_down(setup: &[u64], tills: &mut [u64], seen: &mut [u64], t: u64) -> 
 
 // The till is up, with these shards and no handlers.
 pub fn bring_up(setup: &[u64], tills: &mut [u64], t: u64, shards: u64) -> Done
-    ensures { λ r. ⌜ DoesBringUp (now (setup .entry)) (now (tills .entry)) (now (tills .exit)) t shards r ⌝ }
+    ensures { λ r. ⌜ DoesBringUp
+        (now (setup .entry)) (now (tills .entry))
+        (now (tills .exit))
+        t shards r ⌝ }
 {
     let number = ask_till::up_refusal(setup, tills, t, shards);
     if number != 0 {
@@ -38,7 +44,10 @@ pub fn bring_up(setup: &[u64], tills: &mut [u64], t: u64, shards: u64) -> Done
 
 // The types that the till's gossip and host handlers take, as masks.
 pub fn set_handlers(setup: &[u64], tills: &mut [u64], t: u64, gossip: u64, host: u64) -> Done
-    ensures { λ r. ⌜ DoesSetHandlers (now (setup .entry)) (now (tills .entry)) (now (tills .exit)) t gossip host r ⌝ }
+    ensures { λ r. ⌜ DoesSetHandlers
+        (now (setup .entry)) (now (tills .entry))
+        (now (tills .exit))
+        t gossip host r ⌝ }
 {
     let number = ask_till::handlers_refusal(setup, tills, t, gossip, host);
     if number != 0 {
@@ -53,7 +62,9 @@ pub fn set_handlers(setup: &[u64], tills: &mut [u64], t: u64, gossip: u64, host:
 
 // Is the till down? The value is 1 or 0.
 pub fn is_down(setup: &[u64], tills: &[u64], t: u64) -> Value
-    ensures { λ r. ⌜ DoesIsDown (now (setup .entry)) (now (tills .entry)) t r ⌝ }
+    ensures { λ r. ⌜ DoesIsDown
+        (now (setup .entry)) (now (tills .entry))
+        t r ⌝ }
 {
     let number = ask_till::read_refusal(setup, tills, t);
     if number != 0 {
@@ -75,7 +86,10 @@ pub fn is_down(setup: &[u64], tills: &[u64], t: u64) -> Value
 
 // The till's marks, rising, at the front of the output.
 pub fn marks_of(setup: &[u64], seen: &[u64], t: u64, out: &mut [u64]) -> Marks
-    ensures { λ r. ⌜ DoesMarksOf (now (setup .entry)) (now (seen .entry)) (now (out .entry)) (now (out .exit)) t r ⌝ }
+    ensures { λ r. ⌜ DoesMarksOf
+        (now (setup .entry)) (now (seen .entry))
+        t r
+        (now (out .entry)) (now (out .exit)) ⌝ }
 {
     let number = ask_till::marks_refusal(setup, seen, out.len() as u64, t);
     if number != 0 {

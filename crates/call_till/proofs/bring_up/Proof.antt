@@ -13,19 +13,43 @@ same-length : tie.Need-same-length
 same-length c = search needs
 
 returns : tie.Need-returns
-returns c = up-refused (c .before .before .before .before .before .args .setup .now) (c .before .before .before .before .before .args .tills .now) (c .before .before .before .before .before .args .t) (c .before .before .before .before .before .args .shards) _ (c .before .up-refusal .ensures) (c .if1 .taken)
+returns c =
+    let at-up-refusal = c .before in
+    let start = at-up-refusal .before .before .before .before in
+    let a = start .args in
+    up-refused (a .setup .now) (a .tills .now) (a .t) (a .shards) _ (at-up-refusal .up-refusal .ensures) (c .if1 .taken)
 
 mul-put-till : tie.Need-mul-put-till
-mul-put-till c = let p = up-room (c .before .before .before .before .before .before .args .setup .now) (c .before .before .before .before .before .before .args .tills .now) (c .before .before .before .before .before .before .args .t) (c .before .before .before .before .before .before .args .shards) (sym (c .before .before .up-refusal .ensures) ∙ c .before .if1 .left) in omega (arith, p)
+mul-put-till c =
+    let at-if1 = c .before in
+    let at-up-refusal = at-if1 .before in
+    let start = at-up-refusal .before .before .before .before in
+    let a = start .args in
+    let p =
+    up-room (a .setup .now) (a .tills .now) (a .t) (a .shards) (sym (at-up-refusal .up-refusal .ensures) ∙ at-if1 .if1 .left) in
+    omega (arith, p)
 
 put-till-requires : tie.Need-put-till-requires
-put-till-requires c κs = let p = up-room (c .before .before .before .before .before .before .args .setup .now) (c .before .before .before .before .before .before .args .tills .now) (c .before .before .before .before .before .before .args .t) (c .before .before .before .before .before .before .args .shards) (sym (c .before .before .up-refusal .ensures) ∙ c .before .if1 .left) in omega (arith, p)
+put-till-requires c κs =
+    let at-if1 = c .before in
+    let at-up-refusal = at-if1 .before in
+    let start = at-up-refusal .before .before .before .before in
+    let a = start .args in
+    let p =
+    up-room (a .setup .now) (a .tills .now) (a .t) (a .shards) (sym (at-up-refusal .up-refusal .ensures) ∙ at-if1 .if1 .left) in
+    omega (arith, p)
 
 same-length-2 : tie.Need-same-length-2
 same-length-2 c = search needs
 
 returns-2 : tie.Need-returns-2
-returns-2 c = let a = c .before .before .before .before .before .before .before .before .before .args in up-done (a .setup .now) (a .tills .now) (a .t) (a .shards) _ (c .before .before .before .before .before .up-refusal .ensures) (c .before .before .before .before .if1 .left) _ (c .before .before .put-till .ensures)
+returns-2 c =
+    let at-put-till = c .before .before in
+    let at-if1 = at-put-till .before .before in
+    let at-up-refusal = at-if1 .before in
+    let start = at-up-refusal .before .before .before .before in
+    let a = start .args in
+    up-done (a .setup .now) (a .tills .now) (a .t) (a .shards) _ (at-up-refusal .up-refusal .ensures) (at-if1 .if1 .left) _ (at-put-till .put-till .ensures)
 
 pub bring-up-spec : {M : Type 1} → statement M
 bring-up-spec =

@@ -13,34 +13,102 @@ same-length : tie.Need-same-length
 same-length c = search needs
 
 returns : tie.Need-returns
-returns c = handlers-refused (c .before .before .before .before .before .args .setup .now) (c .before .before .before .before .before .args .tills .now) (c .before .before .before .before .before .args .t) (c .before .before .before .before .before .args .gossip) (c .before .before .before .before .before .args .host) _ (c .before .handlers-refusal .ensures) (c .if1 .taken)
+returns c =
+    let at-handlers-refusal = c .before in
+    let start = at-handlers-refusal .before .before .before .before in
+    let a = start .args in
+    handlers-refused (a .setup .now) (a .tills .now) (a .t) (a .gossip) (a .host) _
+    (at-handlers-refusal .handlers-refusal .ensures) (c .if1 .taken)
 
 mul-b : tie.Need-mul-b
-mul-b c = let p = handlers-room (c .before .before .before .before .before .args .setup .now) (c .before .before .before .before .before .args .tills .now) (c .before .before .before .before .before .args .t) (c .before .before .before .before .before .args .gossip) (c .before .before .before .before .before .args .host) (sym (c .before .handlers-refusal .ensures) ∙ c .if1 .left) in omega (arith, p)
+mul-b c =
+    let at-handlers-refusal = c .before in
+    let start = at-handlers-refusal .before .before .before .before in
+    let a = start .args in
+    let p =
+    handlers-room (a .setup .now) (a .tills .now) (a .t) (a .gossip) (a .host)
+    (sym (at-handlers-refusal .handlers-refusal .ensures) ∙ c .if1 .left) in
+    omega (arith, p)
 
 mul-up : tie.Need-mul-up
-mul-up c = let p = handlers-room (c .before .before .before .before .before .args .setup .now) (c .before .before .before .before .before .args .tills .now) (c .before .before .before .before .before .args .t) (c .before .before .before .before .before .args .gossip) (c .before .before .before .before .before .args .host) (sym (c .before .handlers-refusal .ensures) ∙ c .if1 .left) in omega (arith, p)
+mul-up c =
+    let at-handlers-refusal = c .before in
+    let start = at-handlers-refusal .before .before .before .before in
+    let a = start .args in
+    let p =
+    handlers-room (a .setup .now) (a .tills .now) (a .t) (a .gossip) (a .host)
+    (sym (at-handlers-refusal .handlers-refusal .ensures) ∙ c .if1 .left) in
+    omega (arith, p)
 
 slice-read-up : tie.Need-slice-read-up
-slice-read-up c = let p = handlers-room (c .before .before .before .before .before .before .args .setup .now) (c .before .before .before .before .before .before .args .tills .now) (c .before .before .before .before .before .before .args .t) (c .before .before .before .before .before .before .args .gossip) (c .before .before .before .before .before .before .args .host) (sym (c .before .before .handlers-refusal .ensures) ∙ c .before .if1 .left) in omega (arith, p)
+slice-read-up c =
+    let at-if1 = c .before in
+    let at-handlers-refusal = at-if1 .before in
+    let start = at-handlers-refusal .before .before .before .before in
+    let a = start .args in
+    let p =
+    handlers-room (a .setup .now) (a .tills .now) (a .t) (a .gossip) (a .host)
+    (sym (at-handlers-refusal .handlers-refusal .ensures) ∙ at-if1 .if1 .left) in
+    omega (arith, p)
 
 add-shards : tie.Need-add-shards
-add-shards c = let p = handlers-room (c .before .before .before .before .before .before .args .setup .now) (c .before .before .before .before .before .before .args .tills .now) (c .before .before .before .before .before .before .args .t) (c .before .before .before .before .before .before .args .gossip) (c .before .before .before .before .before .before .args .host) (sym (c .before .before .handlers-refusal .ensures) ∙ c .before .if1 .left) in omega (arith, p)
+add-shards c =
+    let at-if1 = c .before in
+    let at-handlers-refusal = at-if1 .before in
+    let start = at-handlers-refusal .before .before .before .before in
+    let a = start .args in
+    let p =
+    handlers-room (a .setup .now) (a .tills .now) (a .t) (a .gossip) (a .host)
+    (sym (at-handlers-refusal .handlers-refusal .ensures) ∙ at-if1 .if1 .left) in
+    omega (arith, p)
 
 mul-shards : tie.Need-mul-shards
-mul-shards c = let p = handlers-room (c .before .before .before .before .before .before .args .setup .now) (c .before .before .before .before .before .before .args .tills .now) (c .before .before .before .before .before .before .args .t) (c .before .before .before .before .before .before .args .gossip) (c .before .before .before .before .before .before .args .host) (sym (c .before .before .handlers-refusal .ensures) ∙ c .before .if1 .left) in omega (arith, p)
+mul-shards c =
+    let at-if1 = c .before in
+    let at-handlers-refusal = at-if1 .before in
+    let start = at-handlers-refusal .before .before .before .before in
+    let a = start .args in
+    let p =
+    handlers-room (a .setup .now) (a .tills .now) (a .t) (a .gossip) (a .host)
+    (sym (at-handlers-refusal .handlers-refusal .ensures) ∙ at-if1 .if1 .left) in
+    omega (arith, p)
 
 slice-read-shards : tie.Need-slice-read-shards
-slice-read-shards c = let p = handlers-room (c .before .before .before .before .before .before .before .args .setup .now) (c .before .before .before .before .before .before .before .args .tills .now) (c .before .before .before .before .before .before .before .args .t) (c .before .before .before .before .before .before .before .args .gossip) (c .before .before .before .before .before .before .before .args .host) (sym (c .before .before .before .handlers-refusal .ensures) ∙ c .before .before .if1 .left) in omega (arith, p)
+slice-read-shards c =
+    let at-if1 = c .before .before in
+    let at-handlers-refusal = at-if1 .before in
+    let start = at-handlers-refusal .before .before .before .before in
+    let a = start .args in
+    let p =
+    handlers-room (a .setup .now) (a .tills .now) (a .t) (a .gossip) (a .host)
+    (sym (at-handlers-refusal .handlers-refusal .ensures) ∙ at-if1 .if1 .left) in
+    omega (arith, p)
 
 put-till-requires : tie.Need-put-till-requires
-put-till-requires c κs = let p = handlers-room (c .before .before .before .before .before .before .before .before .args .setup .now) (c .before .before .before .before .before .before .before .before .args .tills .now) (c .before .before .before .before .before .before .before .before .args .t) (c .before .before .before .before .before .before .before .before .args .gossip) (c .before .before .before .before .before .before .before .before .args .host) (sym (c .before .before .before .before .handlers-refusal .ensures) ∙ c .before .before .before .if1 .left) in omega (arith, p)
+put-till-requires c κs =
+    let at = c .before .before .before in
+    let at-if1 = at in
+    let at-handlers-refusal = at-if1 .before in
+    let start = at-handlers-refusal .before .before .before .before in
+    let a = start .args in
+    let p =
+    handlers-room (a .setup .now) (a .tills .now) (a .t) (a .gossip) (a .host)
+    (sym (at-handlers-refusal .handlers-refusal .ensures) ∙ at-if1 .if1 .left) in
+    omega (arith, p)
 
 same-length-2 : tie.Need-same-length-2
 same-length-2 c = search needs
 
 returns-2 : tie.Need-returns-2
-returns-2 c = let a = c .before .before .before .before .before .before .before .before .before .before .before .args in handlers-done (a .setup .now) (a .tills .now) (a .t) (a .gossip) (a .host) _ (c .before .before .before .before .before .before .before .handlers-refusal .ensures) (c .before .before .before .before .before .before .if1 .left) (handlers-room (a .setup .now) (a .tills .now) (a .t) (a .gossip) (a .host) (sym (c .before .before .before .before .before .before .before .handlers-refusal .ensures) ∙ c .before .before .before .before .before .before .if1 .left)) _ (c .before .before .put-till .ensures)
+returns-2 c =
+    let at-put-till = c .before .before in
+    let at-if1 = at-put-till .before .before .before .before in
+    let at-handlers-refusal = at-if1 .before in
+    let start = at-handlers-refusal .before .before .before .before in
+    let a = start .args in
+    handlers-done (a .setup .now) (a .tills .now) (a .t) (a .gossip) (a .host) _ (at-handlers-refusal .handlers-refusal .ensures) (at-if1 .if1 .left)
+    (handlers-room (a .setup .now) (a .tills .now) (a .t) (a .gossip) (a .host) (sym (at-handlers-refusal .handlers-refusal .ensures) ∙ at-if1 .if1 .left)) _
+    (at-put-till .put-till .ensures)
 
 pub set-handlers-spec : {M : Type 1} → statement M
 set-handlers-spec =

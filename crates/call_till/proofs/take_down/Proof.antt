@@ -16,13 +16,33 @@ same-length-2 : tie.Need-same-length-2
 same-length-2 c = search needs
 
 returns : tie.Need-returns
-returns c = down-refused (c .before .before .before .before .before .before .before .args .setup .now) (c .before .before .before .before .before .before .before .args .tills .now) (c .before .before .before .before .before .before .before .args .seen .now) (c .before .before .before .before .before .before .before .args .t) _ (c .before .down-refusal .ensures) (c .if1 .taken)
+returns c =
+    let at-down-refusal = c .before in
+    let start = at-down-refusal .before .before .before .before .before .before in
+    let a = start .args in
+    down-refused (a .setup .now) (a .tills .now) (a .seen .now) (a .t) _ (at-down-refusal .down-refusal .ensures) (c .if1 .taken)
 
 mul-put-till : tie.Need-mul-put-till
-mul-put-till c = let p = down-room (c .before .before .before .before .before .before .before .before .args .setup .now) (c .before .before .before .before .before .before .before .before .args .tills .now) (c .before .before .before .before .before .before .before .before .args .t) (c .before .before .before .before .before .before .before .before .args .seen .now) (sym (c .before .before .down-refusal .ensures) ∙ c .before .if1 .left) in omega (arith, p)
+mul-put-till c =
+    let at-if1 = c .before in
+    let at-down-refusal = at-if1 .before in
+    let start = at-down-refusal .before .before .before .before .before .before in
+    let a = start .args in
+    let p =
+    down-room (a .setup .now) (a .tills .now) (a .t) (a .seen .now)
+    (sym (at-down-refusal .down-refusal .ensures) ∙ at-if1 .if1 .left) in
+    omega (arith, p)
 
 put-till-requires : tie.Need-put-till-requires
-put-till-requires c κs = let p = down-room (c .before .before .before .before .before .before .before .before .args .setup .now) (c .before .before .before .before .before .before .before .before .args .tills .now) (c .before .before .before .before .before .before .before .before .args .t) (c .before .before .before .before .before .before .before .before .args .seen .now) (sym (c .before .before .down-refusal .ensures) ∙ c .before .if1 .left) in omega (arith, p)
+put-till-requires c κs =
+    let at-if1 = c .before in
+    let at-down-refusal = at-if1 .before in
+    let start = at-down-refusal .before .before .before .before .before .before in
+    let a = start .args in
+    let p =
+    down-room (a .setup .now) (a .tills .now) (a .t) (a .seen .now)
+    (sym (at-down-refusal .down-refusal .ensures) ∙ at-if1 .if1 .left) in
+    omega (arith, p)
 
 put-requires : tie.Need-put-requires
 put-requires c κs = search needs
@@ -34,7 +54,15 @@ same-length-4 : tie.Need-same-length-4
 same-length-4 c = search needs
 
 returns-2 : tie.Need-returns-2
-returns-2 c = let a = c .before .before .before .before .before .before .before .before .before .before .before .before .before .before .before .args in down-done (a .setup .now) (a .tills .now) (a .seen .now) (a .t) _ (c .before .before .before .before .before .before .before .before .before .down-refusal .ensures) (c .before .before .before .before .before .before .before .before .if1 .left) _ _ (c .before .before .before .before .before .before .put-till .ensures) (c .before .before .put .ensures)
+returns-2 c =
+    let at-put = c .before .before in
+    let at-put-till = at-put .before .before .before .before in
+    let at-if1 = at-put-till .before .before in
+    let at-down-refusal = at-if1 .before in
+    let start = at-down-refusal .before .before .before .before .before .before in
+    let a = start .args in
+    down-done (a .setup .now) (a .tills .now) (a .seen .now) (a .t) _ (at-down-refusal .down-refusal .ensures) (at-if1 .if1 .left) _ _ (at-put-till .put-till .ensures)
+    (at-put .put .ensures)
 
 pub take-down-spec : {M : Type 1} → statement M
 take-down-spec =
