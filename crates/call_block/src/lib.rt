@@ -5,7 +5,10 @@ use call_reply::Value;
 
 // One window more, which always holds.
 pub fn block(setup: &[u64], net: &mut [u64], blocks: &mut [u64], from: u64, to: u64) -> Done
-    ensures { λ r. ⌜ DoesBlock (now (setup .entry)) (now (net .entry)) (now (blocks .entry)) (now (net .exit)) (now (blocks .exit)) «from» to r ⌝ }
+    ensures { λ r. ⌜ DoesBlock
+        (now (setup .entry)) (now (net .entry)) (now (blocks .entry))
+        (now (net .exit)) (now (blocks .exit))
+        «from» to r ⌝ }
 {
     let number = ask_block::block_refusal(setup, net, blocks, from, to);
     if number != 0 {
@@ -27,7 +30,10 @@ pub fn block_during(
     start: u64,
     end: u64,
 ) -> Done
-    ensures { λ r. ⌜ DoesBlockDuring (now (setup .entry)) (now (net .entry)) (now (blocks .entry)) (now (net .exit)) (now (blocks .exit)) «from» to start end r ⌝ }
+    ensures { λ r. ⌜ DoesBlockDuring
+        (now (setup .entry)) (now (net .entry)) (now (blocks .entry))
+        (now (net .exit)) (now (blocks .exit))
+        «from» to start end r ⌝ }
 {
     let number = ask_block::block_refusal(setup, net, blocks, from, to);
     if number != 0 {
@@ -41,7 +47,10 @@ pub fn block_during(
 
 // Every window of the pair goes.
 pub fn unblock(setup: &[u64], net: &mut [u64], blocks: &mut [u64], from: u64, to: u64) -> Done
-    ensures { λ r. ⌜ DoesUnblock (now (setup .entry)) (now (net .entry)) (now (blocks .entry)) (now (net .exit)) (now (blocks .exit)) «from» to r ⌝ }
+    ensures { λ r. ⌜ DoesUnblock
+        (now (setup .entry)) (now (net .entry)) (now (blocks .entry))
+        (now (net .exit)) (now (blocks .exit))
+        «from» to r ⌝ }
 {
     let number = ask_block::pair_refusal(setup, net, blocks, from, to);
     if number != 0 {
@@ -55,7 +64,9 @@ pub fn unblock(setup: &[u64], net: &mut [u64], blocks: &mut [u64], from: u64, to
 
 // Does a window of the pair hold the time? The value is 1 or 0.
 pub fn is_blocked(setup: &[u64], net: &[u64], blocks: &[u64], from: u64, to: u64, at: u64) -> Value
-    ensures { λ r. ⌜ DoesIsBlocked (now (setup .entry)) (now (net .entry)) (now (blocks .entry)) «from» to at r ⌝ }
+    ensures { λ r. ⌜ DoesIsBlocked
+        (now (setup .entry)) (now (net .entry)) (now (blocks .entry))
+        «from» to at r ⌝ }
 {
     let number = ask_block::time_refusal(setup, net, blocks, from, to, at);
     if number != 0 {

@@ -21,6 +21,7 @@ use Rattle.spec_network.specs.Lists.{bit}
 use Rattle.spec_network.specs.Calls.{Call, install, remove, decide, reading, fired, number, answerOf}
 use Rattle.spec_network.specs.Tables.{Tables, cell, sizesAt, settingsAt, live, rulesAt, installedAt, faultWordsAt}
 use Rattle.spec_network.specs.Real.{openingAt, drawsOf, faultKeyOf}
+use Rattle.spec_network.specs.Lending.{lendRules}
 use Rattle.spec_network.specs.Writes.{callReply, stepT, ruledT}
 use Rattle.ask_tables.specs.Held.{setupHeld, netHeld, rulesHeld}
 use Rattle.ask_tables.proofs.Ladder.{yes, no}
@@ -29,7 +30,7 @@ use Rattle.call_reply.specs.Reply.{refusedBy, answeredBy}
 use Rattle.call_reply.proofs.Laws as reply
 use Rattle.ask_rule.specs.Questions.{rulesLent, lentNumber, cardNumber, decideNumber}
 use Rattle.ask_rule.proofs.Laws.{in-order}
-use Rattle.call_rule.specs.Calls.{lend, Changes}
+use Rattle.call_rule.specs.Calls.{Changes}
 
 -- ---- The verdict
 
@@ -44,55 +45,55 @@ verdict-is s n r m c v at e = e ∙ rw (at .key, at .count)
 -- ---- The numbers of the calls
 
 module _ (T : Tables) (s n r : List ℕ) where
-  lent-remove : (id : ℕ) → lentNumber s n r 0 ≡ callReply (lend T s n r) (remove id) .number
+  lent-remove : (id : ℕ) → lentNumber s n r 0 ≡ callReply (lendRules T s n r) (remove id) .number
   unfolding rulesLent setupHeld netHeld rulesHeld
   lent-remove id = refl
 
-  lent-fired : (id : ℕ) → lentNumber s n r 0 ≡ callReply (lend T s n r) (reading (fired id)) .number
+  lent-fired : (id : ℕ) → lentNumber s n r 0 ≡ callReply (lendRules T s n r) (reading (fired id)) .number
   unfolding rulesLent setupHeld netHeld rulesHeld
   lent-fired id = refl
 
-  number-install : (card : List ℕ) → cardNumber s n r card ≡ callReply (lend T s n r) (install card) .number
+  number-install : (card : List ℕ) → cardNumber s n r card ≡ callReply (lendRules T s n r) (install card) .number
   unfolding cardNumber installNumber rulesLent setupHeld netHeld rulesHeld
   number-install card =
       ap (lentNumber s n r) (in-order n card)
       ∙ ap (λ (k : ℕ). lentNumber s n r (cond (ltb k ruleSlots && ltb (cell n installedAt) mostRules) (cond (exact card) 0 13) 12)) (sym (length-rows ruleWidth firstRule (cell n rulesAt) r))
 
-  number-decide : (m : Message) → decideNumber s n r m ≡ callReply (lend T s n r) (decide m) .number
+  number-decide : (m : Message) → decideNumber s n r m ≡ callReply (lendRules T s n r) (decide m) .number
   unfolding decideNumber rulesLent setupHeld netHeld rulesHeld
   number-decide m = refl
 
 -- ---- The ways through a call
 
-module _ (c : Call) (s n r : List ℕ) (N : ℕ) (same : (T : Tables) → N ≡ callReply (lend T s n r) c .number) where
-  refused-by : (v : Value) → v ≡ refusedBy N → (N ≡ 0 → ⊥) → Changes c s n r n r v
+module _ (c : Call) (s n r : List ℕ) (N : ℕ) (same : (T : Tables) → N ≡ callReply (lendRules T s n r) c .number) where
+  refused-by : (v : Value) → v ≡ refusedBy N → (N ≡ 0 → ⊥) → Changes s n r n r c v
   unfolding Changes
-  refused-by v q h = λ T. (q ∙ reply.value-refused (lend T s n r) c N (same T) h, reply.stays (lend T s n r) c N (same T) h)
+  refused-by v q h = λ T. (q ∙ reply.value-refused (lendRules T s n r) c N (same T) h, reply.stays (lendRules T s n r) c N (same T) h)
 
-  changed-by : N ≡ 0 → (f v : ℕ) (n′ r′ : List ℕ) → ((T : Tables) → answerOf (openingAt (lend T s n r)) (live (sizesAt s) (lend T s n r)) c ≡ number f v)
-      → ((T : Tables) → stepT (openingAt (lend T s n r)) (lend T s n r) c ≡ lend T s n′ r′) → (w : Value) → w ≡ record { number = 0; found = f; value = v } → Changes c s n r n′ r′ w
+  changed-by : N ≡ 0 → (f v : ℕ) (n′ r′ : List ℕ) → ((T : Tables) → answerOf (openingAt (lendRules T s n r)) (live (sizesAt s) (lendRules T s n r)) c ≡ number f v)
+      → ((T : Tables) → stepT (openingAt (lendRules T s n r)) (lendRules T s n r) c ≡ lendRules T s n′ r′) → (w : Value) → w ≡ record { number = 0; found = f; value = v } → Changes s n r n′ r′ c w
   unfolding Changes
-  changed-by h f v n′ r′ answer step w w-is = λ T. (w-is ∙ reply.value (lend T s n r) c N (same T) h f v (answer T), reply.steps (lend T s n r) c N (same T) h ∙ step T)
+  changed-by h f v n′ r′ answer step w w-is = λ T. (w-is ∙ reply.value (lendRules T s n r) c N (same T) h f v (answer T), reply.steps (lendRules T s n r) c N (same T) h ∙ step T)
 
 -- question 1 refuses
 module _ (s n r : List ℕ) (h : rulesLent s n r ≡ false) (v : Value) (q : v ≡ refusedBy 1) where
-  first-no : (c : Call) → ((T : Tables) → lentNumber s n r 0 ≡ callReply (lend T s n r) c .number) → Changes c s n r n r v
+  first-no : (c : Call) → ((T : Tables) → lentNumber s n r 0 ≡ callReply (lendRules T s n r) c .number) → Changes s n r n r c v
   first-no c same = refused-by c s n r 1 (λ T. no _ _ _ _ h refl ∙ same T) v q (λ z. omega arith)
 
-  pub remove-not-lent : (id : ℕ) → Changes (remove id) s n r n r v
+  pub remove-not-lent : (id : ℕ) → Changes s n r n r (remove id) v
   remove-not-lent id = first-no (remove id) (λ T. lent-remove T s n r id)
 
-  pub fired-not-lent : (id : ℕ) → Changes (reading (fired id)) s n r n r v
+  pub fired-not-lent : (id : ℕ) → Changes s n r n r (reading (fired id)) v
   fired-not-lent id = first-no (reading (fired id)) (λ T. lent-fired T s n r id)
 
 -- ---- `install`
 
 module _ (s n r card : List ℕ) (N : ℕ) (e : N ≡ cardNumber s n r card) where
-  pub install-refused : (v : Value) → v ≡ refusedBy N → (N ≡ 0 → ⊥) → Changes (install card) s n r n r v
+  pub install-refused : (v : Value) → v ≡ refusedBy N → (N ≡ 0 → ⊥) → Changes s n r n r (install card) v
   install-refused v q h = refused-by (install card) s n r N (λ T. e ∙ number-install T s n r card) v q h
 
   pub install-done : N ≡ 0 → (k ever : ℕ) (n′ r′ : List ℕ) → k ≡ cell n rulesAt → ever ≡ cell n installedAt → r′ ≡ installTable r k ever card → n′ ≡ set (set n rulesAt (k + 1)) installedAt (ever + 1)
-      → (w : Value) → w ≡ answeredBy ever → Changes (install card) s n r n′ r′ w
+      → (w : Value) → w ≡ answeredBy ever → Changes s n r n′ r′ (install card) w
   install-done h k ever n′ r′ k-is ever-is p q w w-is =
       changed-by (install card) s n r N (λ T. e ∙ number-install T s n r card) h 1 ever n′ r′ (λ T. ap (number 1) (sym ever-is)) (λ T. rw (p, q, add-one k, add-one ever, k-is, ever-is)) w w-is
 
@@ -100,12 +101,12 @@ module _ (s n r card : List ℕ) (N : ℕ) (e : N ≡ cardNumber s n r card) whe
 
 module _ (s n r : List ℕ) (h : rulesLent s n r ≡ true) (k : ℕ) (k-is : k ≡ cell n rulesAt) where
   pub remove-done : (id : ℕ) (g : Removed) (n′ r′ : List ℕ) → g ≡ removedOf id (rulesOf r k) → r′ ≡ removeTable r k id → n′ ≡ set n rulesAt (g .left)
-      → Changes (remove id) s n r n′ r′ (record { number = 0; found = g .found; value = g .fired })
+      → Changes s n r n′ r′ (remove id) (record { number = 0; found = g .found; value = g .fired })
   remove-done id g n′ r′ e p q =
       changed-by (remove id) s n r 0 (λ T. yes _ _ _ _ h refl ∙ lent-remove T s n r id) refl (g .found) (g .fired) n′ r′
       (λ T. rw (e, k-is)) (λ T. rw (p, q, e, k-is)) _ refl
 
-  pub fired-done : (id : ℕ) (g : rules.Reading) → g ≡ readingOf id (rulesOf r k) → Changes (reading (fired id)) s n r n r (record { number = 0; found = g .found; value = g .fired })
+  pub fired-done : (id : ℕ) (g : rules.Reading) → g ≡ readingOf id (rulesOf r k) → Changes s n r n r (reading (fired id)) (record { number = 0; found = g .found; value = g .fired })
   fired-done id g e =
       changed-by (reading (fired id)) s n r 0 (λ T. yes _ _ _ _ h refl ∙ lent-fired T s n r id) refl (g .found) (g .fired) n r (λ T. rw (e, k-is)) (λ T. refl) _ refl
 
@@ -113,18 +114,18 @@ module _ (s n r : List ℕ) (h : rulesLent s n r ≡ true) (k : ℕ) (k-is : k �
 
 -- what a decision writes
 decided : (T : Tables) (s n r n′ r′ : List ℕ) (d : Decision) (b : Bool) → d .drops ≡ b → n′ ≡ set n faultWordsAt (d .words) → r′ ≡ cond b (fireTable r (d .place)) r
-    → ruledT (lend T s n r) d ≡ lend T s n′ r′
+    → ruledT (lendRules T s n r) d ≡ lendRules T s n′ r′
 decided T s n r n′ r′ d true e p q = rw (e, p, q)
 decided T s n r n′ r′ d false e p q = rw (e, p, q)
 
 module _ (s n r : List ℕ) (m : Message) (N : ℕ) (e : N ≡ decideNumber s n r m) where
-  pub decide-refused : (v : Value) → v ≡ refusedBy N → (N ≡ 0 → ⊥) → Changes (decide m) s n r n r v
+  pub decide-refused : (v : Value) → v ≡ refusedBy N → (N ≡ 0 → ⊥) → Changes s n r n r (decide m) v
   decide-refused v q h = refused-by (decide m) s n r N (λ T. e ∙ number-decide T s n r m) v q h
 
   pub decide-done : N ≡ 0 → (v : Verdict) (b : Bool) (n′ r′ : List ℕ) → decision v ≡ verdictOf s n r m → v .drops ≡ b → n′ ≡ set n faultWordsAt (v .next .count)
-      → r′ ≡ cond b (fireTable r (v .place)) r → (w : Value) → w ≡ answeredBy (bit b) → Changes (decide m) s n r n′ r′ w
+      → r′ ≡ cond b (fireTable r (v .place)) r → (w : Value) → w ≡ answeredBy (bit b) → Changes s n r n′ r′ (decide m) w
   unfolding drawsOf
   decide-done h v b n′ r′ d t p q w w-is =
       changed-by (decide m) s n r N (λ T. e ∙ number-decide T s n r m) h 1 (bit b) n′ r′
       (λ T. ap (λ (x : Decision). number 1 (bit (x .drops))) (sym d) ∙ ap (λ (x : Bool). number 1 (bit x)) t)
-      (λ T. ap (ruledT (lend T s n r)) (sym d) ∙ decided T s n r n′ r′ (decision v) b t p q) w w-is
+      (λ T. ap (ruledT (lendRules T s n r)) (sym d) ∙ decided T s n r n′ r′ (decision v) b t p q) w w-is

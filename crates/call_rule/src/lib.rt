@@ -6,7 +6,10 @@ use fault_rule::Message;
 
 // A new rule stands last. The value is its id.
 pub fn install(setup: &[u64], net: &mut [u64], rules: &mut [u64], card: &[u8]) -> Value
-    ensures { λ r. ⌜ DoesInstall (now (setup .entry)) (now (net .entry)) (now (rules .entry)) (now (net .exit)) (now (rules .exit)) (now (card .entry)) r ⌝ }
+    ensures { λ r. ⌜ DoesInstall
+        (now (setup .entry)) (now (net .entry)) (now (rules .entry))
+        (now (net .exit)) (now (rules .exit))
+        (now (card .entry)) r ⌝ }
 {
     let number = ask_rule::install_refusal(setup, net, rules, card);
     if number != 0 {
@@ -22,7 +25,10 @@ pub fn install(setup: &[u64], net: &mut [u64], rules: &mut [u64], card: &[u8]) -
 
 // The rule goes, if there is one. The value is its last fired count.
 pub fn remove(setup: &[u64], net: &mut [u64], rules: &mut [u64], id: u64) -> Value
-    ensures { λ r. ⌜ DoesRemove (now (setup .entry)) (now (net .entry)) (now (rules .entry)) (now (net .exit)) (now (rules .exit)) id r ⌝ }
+    ensures { λ r. ⌜ DoesRemove
+        (now (setup .entry)) (now (net .entry)) (now (rules .entry))
+        (now (net .exit)) (now (rules .exit))
+        id r ⌝ }
 {
     if !ask_rule::lent(setup, net, rules) {
         return call_reply::refused(1);
@@ -39,7 +45,9 @@ pub fn remove(setup: &[u64], net: &mut [u64], rules: &mut [u64], id: u64) -> Val
 
 // How often a rule has fired, if there is one.
 pub fn fired(setup: &[u64], net: &[u64], rules: &[u64], id: u64) -> Value
-    ensures { λ r. ⌜ DoesFired (now (setup .entry)) (now (net .entry)) (now (rules .entry)) id r ⌝ }
+    ensures { λ r. ⌜ DoesFired
+        (now (setup .entry)) (now (net .entry)) (now (rules .entry))
+        id r ⌝ }
 {
     if !ask_rule::lent(setup, net, rules) {
         return call_reply::refused(1);
@@ -64,7 +72,10 @@ pub fn decide(
     tier: u64,
     at: u64,
 ) -> Value
-    ensures { λ r. ⌜ DoesDecide (now (setup .entry)) (now (net .entry)) (now (rules .entry)) (now (net .exit)) (now (rules .exit)) «from» to kind tier at r ⌝ }
+    ensures { λ r. ⌜ DoesDecide
+        (now (setup .entry)) (now (net .entry)) (now (rules .entry))
+        (now (net .exit)) (now (rules .exit))
+        «from» to kind tier at r ⌝ }
 {
     let m = Message {
         kind,

@@ -13,7 +13,10 @@ pub extern "C" fn gossip_block(
     from: u64,
     to: u64,
 ) -> Done
-    ensures { λ r. ⌜ DoesBlock (now (setup .entry)) (now (net .entry)) (now (blocks .entry)) (now (net .exit)) (now (blocks .exit)) «from» to r ⌝ }
+    ensures { λ r. ⌜ DoesBlock
+        (now (setup .entry)) (now (net .entry)) (now (blocks .entry))
+        (now (net .exit)) (now (blocks .exit))
+        «from» to r ⌝ }
 {
     call_block::block(setup, net, blocks, from, to)
 }
@@ -29,7 +32,10 @@ pub extern "C" fn gossip_block_during(
     start: u64,
     end: u64,
 ) -> Done
-    ensures { λ r. ⌜ DoesBlockDuring (now (setup .entry)) (now (net .entry)) (now (blocks .entry)) (now (net .exit)) (now (blocks .exit)) «from» to start end r ⌝ }
+    ensures { λ r. ⌜ DoesBlockDuring
+        (now (setup .entry)) (now (net .entry)) (now (blocks .entry))
+        (now (net .exit)) (now (blocks .exit))
+        «from» to start end r ⌝ }
 {
     call_block::block_during(setup, net, blocks, from, to, start, end)
 }
@@ -43,7 +49,10 @@ pub extern "C" fn gossip_unblock(
     from: u64,
     to: u64,
 ) -> Done
-    ensures { λ r. ⌜ DoesUnblock (now (setup .entry)) (now (net .entry)) (now (blocks .entry)) (now (net .exit)) (now (blocks .exit)) «from» to r ⌝ }
+    ensures { λ r. ⌜ DoesUnblock
+        (now (setup .entry)) (now (net .entry)) (now (blocks .entry))
+        (now (net .exit)) (now (blocks .exit))
+        «from» to r ⌝ }
 {
     call_block::unblock(setup, net, blocks, from, to)
 }
@@ -58,7 +67,9 @@ pub extern "C" fn gossip_is_blocked(
     to: u64,
     at: u64,
 ) -> Value
-    ensures { λ r. ⌜ DoesIsBlocked (now (setup .entry)) (now (net .entry)) (now (blocks .entry)) «from» to at r ⌝ }
+    ensures { λ r. ⌜ DoesIsBlocked
+        (now (setup .entry)) (now (net .entry)) (now (blocks .entry))
+        «from» to at r ⌝ }
 {
     call_block::is_blocked(setup, net, blocks, from, to, at)
 }
@@ -71,7 +82,10 @@ pub extern "C" fn gossip_install(
     rules: &mut [u64],
     card: &[u8],
 ) -> Value
-    ensures { λ r. ⌜ DoesInstall (now (setup .entry)) (now (net .entry)) (now (rules .entry)) (now (net .exit)) (now (rules .exit)) (now (card .entry)) r ⌝ }
+    ensures { λ r. ⌜ DoesInstall
+        (now (setup .entry)) (now (net .entry)) (now (rules .entry))
+        (now (net .exit)) (now (rules .exit))
+        (now (card .entry)) r ⌝ }
 {
     call_rule::install(setup, net, rules, card)
 }
@@ -79,7 +93,10 @@ pub extern "C" fn gossip_install(
 // Removes a rule; its last fired count.
 #[no_mangle]
 pub extern "C" fn gossip_remove(setup: &[u64], net: &mut [u64], rules: &mut [u64], id: u64) -> Value
-    ensures { λ r. ⌜ DoesRemove (now (setup .entry)) (now (net .entry)) (now (rules .entry)) (now (net .exit)) (now (rules .exit)) id r ⌝ }
+    ensures { λ r. ⌜ DoesRemove
+        (now (setup .entry)) (now (net .entry)) (now (rules .entry))
+        (now (net .exit)) (now (rules .exit))
+        id r ⌝ }
 {
     call_rule::remove(setup, net, rules, id)
 }
@@ -87,7 +104,9 @@ pub extern "C" fn gossip_remove(setup: &[u64], net: &mut [u64], rules: &mut [u64
 // How often a rule has fired.
 #[no_mangle]
 pub extern "C" fn gossip_fired(setup: &[u64], net: &[u64], rules: &[u64], id: u64) -> Value
-    ensures { λ r. ⌜ DoesFired (now (setup .entry)) (now (net .entry)) (now (rules .entry)) id r ⌝ }
+    ensures { λ r. ⌜ DoesFired
+        (now (setup .entry)) (now (net .entry)) (now (rules .entry))
+        id r ⌝ }
 {
     call_rule::fired(setup, net, rules, id)
 }
@@ -104,7 +123,10 @@ pub extern "C" fn gossip_decide(
     tier: u64,
     at: u64,
 ) -> Value
-    ensures { λ r. ⌜ DoesDecide (now (setup .entry)) (now (net .entry)) (now (rules .entry)) (now (net .exit)) (now (rules .exit)) «from» to kind tier at r ⌝ }
+    ensures { λ r. ⌜ DoesDecide
+        (now (setup .entry)) (now (net .entry)) (now (rules .entry))
+        (now (net .exit)) (now (rules .exit))
+        «from» to kind tier at r ⌝ }
 {
     call_rule::decide(setup, net, rules, from, to, kind, tier, at)
 }

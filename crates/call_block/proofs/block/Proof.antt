@@ -16,7 +16,10 @@ same-length-2 : tie.Need-same-length-2
 same-length-2 c = search needs
 
 returns : tie.Need-returns
-returns c = let a = c .before .before .before .before .before .before .before .args in block-refused (a .setup .now) (a .net .now) (a .blocks .now) (a .from) (a .to) _ (c .before .block-refusal .ensures) (c .if1 .taken)
+returns c =
+    let at-block-refusal = c .before in
+    let start = at-block-refusal .before .before .before .before .before .before in
+    let a = start .args in block-refused (a .setup .now) (a .net .now) (a .blocks .now) (a .from) (a .to) _ (at-block-refusal .block-refusal .ensures) (c .if1 .taken)
 
 slice-read-n : tie.Need-slice-read-n
 slice-read-n c = let p = passed _ _ _ _ _ _ (sym (c .before .before .block-refusal .ensures) ∙ c .before .if1 .left) .0 in omega (arith, p .net)
@@ -25,10 +28,16 @@ block-requires : tie.Need-block-requires
 block-requires c κs = let p = passed _ _ _ _ _ _ (sym (c .before .before .before .block-refusal .ensures) ∙ c .before .before .if1 .left) .0 in omega (arith, p .blocks)
 
 add-net : tie.Need-add-net
-add-net c = let p = passed _ _ _ _ _ _ (sym (c .before .before .before .before .before .before .block-refusal .ensures) ∙ c .before .before .before .before .before .if1 .left) .0 in omega (arith, p .count)
+add-net c =
+    let at-if1 = c .before .before .before .before .before in
+    let at-block-refusal = at-if1 .before in
+    let p = passed _ _ _ _ _ _ (sym (at-block-refusal .block-refusal .ensures) ∙ at-if1 .if1 .left) .0 in omega (arith, p .count)
 
 slice-write-net : tie.Need-slice-write-net
-slice-write-net c = let p = passed _ _ _ _ _ _ (sym (c .before .before .before .before .before .before .block-refusal .ensures) ∙ c .before .before .before .before .before .if1 .left) .0 in omega (arith, p .net)
+slice-write-net c =
+    let at-if1 = c .before .before .before .before .before in
+    let at-block-refusal = at-if1 .before in
+    let p = passed _ _ _ _ _ _ (sym (at-block-refusal .block-refusal .ensures) ∙ at-if1 .if1 .left) .0 in omega (arith, p .net)
 
 same-length-3 : tie.Need-same-length-3
 same-length-3 c = search needs
@@ -37,7 +46,14 @@ same-length-4 : tie.Need-same-length-4
 same-length-4 c = search needs
 
 returns-2 : tie.Need-returns-2
-returns-2 c = let a = c .before .before .before .before .before .before .before .before .before .before .before .before .args in block-done (a .setup .now) (a .net .now) (a .blocks .now) (a .from) (a .to) _ _ refl _ _ (c .before .before .before .before .before .before .block-refusal .ensures) (c .before .before .before .before .before .if1 .left) refl (c .before .before .block .ensures .1)
+returns-2 c =
+    let at-block = c .before .before in
+    let at-if1 = at-block .before .before .before in
+    let at-block-refusal = at-if1 .before in
+    let start = at-block-refusal .before .before .before .before .before .before in
+    let a = start .args in
+    block-done (a .setup .now) (a .net .now) (a .blocks .now) (a .from) (a .to) _ _ refl _ _ (at-block-refusal .block-refusal .ensures) (at-if1 .if1 .left) refl
+    (at-block .block .ensures .1)
 
 pub block-spec : {M : Type 1} → statement M
 block-spec =

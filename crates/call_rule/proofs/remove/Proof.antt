@@ -20,7 +20,12 @@ same-length-2 : tie.Need-same-length-2
 same-length-2 c = search needs
 
 returns : tie.Need-returns
-returns c = let a = c .before .before .before .before .before .before .before .before .args in remove-not-lent (a .setup .now) (a .net .now) (a .rules .now) (is-no _ _ (c .before .before .lent .ensures) (c .before .if1 .taken)) _ (c .refused .ensures) (a .id)
+returns c =
+    let at-if1 = c .before in
+    let at-lent = at-if1 .before in
+    let start = at-lent .before .before .before .before .before .before in
+    let a = start .args in
+    remove-not-lent (a .setup .now) (a .net .now) (a .rules .now) (is-no _ _ (at-lent .lent .ensures) (at-if1 .if1 .taken)) _ (c .refused .ensures) (a .id)
 
 slice-read-n : tie.Need-slice-read-n
 slice-read-n c = let p = passed _ _ _ (is-yes _ _ (c .before .before .lent .ensures) (c .before .if1 .left)) in omega (arith, p .net)
@@ -29,7 +34,10 @@ remove-requires : tie.Need-remove-requires
 remove-requires c κs = let p = passed _ _ _ (is-yes _ _ (c .before .before .before .lent .ensures) (c .before .before .if1 .left)) in omega (arith, p .rules, p .count)
 
 slice-write-net : tie.Need-slice-write-net
-slice-write-net c = let p = passed _ _ _ (is-yes _ _ (c .before .before .before .before .before .before .lent .ensures) (c .before .before .before .before .before .if1 .left)) in omega (arith, p .net)
+slice-write-net c =
+    let at-if1 = c .before .before .before .before .before in
+    let at-lent = at-if1 .before in
+    let p = passed _ _ _ (is-yes _ _ (at-lent .lent .ensures) (at-if1 .if1 .left)) in omega (arith, p .net)
 
 same-length-3 : tie.Need-same-length-3
 same-length-3 c = search needs
@@ -38,7 +46,14 @@ same-length-4 : tie.Need-same-length-4
 same-length-4 c = search needs
 
 returns-2 : tie.Need-returns-2
-returns-2 c = let a = c .before .before .before .before .before .before .before .before .before .before .before .before .args in remove-done (a .setup .now) (a .net .now) (a .rules .now) (is-yes _ _ (c .before .before .before .before .before .before .lent .ensures) (c .before .before .before .before .before .if1 .left)) _ refl (a .id) _ _ _ (c .before .before .remove .ensures .0) (c .before .before .remove .ensures .1) refl
+returns-2 c =
+    let at-remove = c .before .before in
+    let at-if1 = at-remove .before .before .before in
+    let at-lent = at-if1 .before in
+    let start = at-lent .before .before .before .before .before .before in
+    let a = start .args in
+    remove-done (a .setup .now) (a .net .now) (a .rules .now) (is-yes _ _ (at-lent .lent .ensures) (at-if1 .if1 .left)) _ refl (a .id) _ _ _
+    (at-remove .remove .ensures .0) (at-remove .remove .ensures .1) refl
 
 pub remove-spec : {M : Type 1} → statement M
 remove-spec =
