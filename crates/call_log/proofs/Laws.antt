@@ -20,6 +20,7 @@ use Rattle.table_log.specs.Log.{classes, tallyWidth, forcedAt, talliesAt, recor
 use Rattle.table_log.proofs.Writing.{log-sound, tally-exact}
 use Rattle.spec_network.specs.Calls.{tallied}
 use Rattle.spec_network.specs.Tables.{Tables, sizesAt, setupWidth}
+use Rattle.spec_network.specs.Lending.{lendLog}
 use Rattle.spec_network.specs.Writes.{Reply, outputOf, callReply}
 use Rattle.ask_tables.specs.Held.{setupHeld, logHeld}
 use Rattle.ask_tables.proofs.Ladder.{yes, no, on, off, last, both, only}
@@ -28,7 +29,7 @@ use Rattle.ask_rows.proofs.Passed.{PassedLog, log-says}
 use Rattle.call_reply.proofs.Laws as reply
 use Rattle.call_log.specs.declared.Drained.{Drained}
 use Rattle.call_log.specs.declared.Tallied.{Tallied}
-use Rattle.call_log.specs.Call.{lend, drainedOf, talliedOf, drainCall, DoesDrain, tallyCall, DoesTally, logLent, drainNumber, tallyNumber, noDrain, noTallies, tallyCells, noCells}
+use Rattle.call_log.specs.Call.{drainedOf, talliedOf, drainCall, DoesDrain, tallyCall, DoesTally, logLent, drainNumber, tallyNumber, noDrain, noTallies, tallyCells, noCells}
 
 -- ---- The ladders
 
@@ -102,17 +103,17 @@ cells-held l now h e =
 -- ---- The drain
 
 module _ (s l out : List ℕ) where
-  drain-number : (T : Tables) → drainNumber s l (length out / delivery.width) ≡ callReply (lend T s l) (drainCall out) .number
+  drain-number : (T : Tables) → drainNumber s l (length out / delivery.width) ≡ callReply (lendLog T s l) (drainCall out) .number
   unfolding drainNumber logLent setupHeld logHeld
   drain-number T = refl
 
   module _ (r : ℕ) (q : r ≡ drainNumber s l (length out / delivery.width)) where
-    pub drain-refused : (v : Drained) → v ≡ noDrain r → (r ≡ 0 → ⊥) → DoesDrain s l l out out v
+    pub drain-refused : (v : Drained) → v ≡ noDrain r → (r ≡ 0 → ⊥) → DoesDrain s l l v out out
     unfolding DoesDrain
     drain-refused v e h = λ T.
         let same = q ∙ drain-number T in
-        let still = reply.silenced (lend T s l) (drainCall out) r same h in
-        (e ∙ ap drainedOf (sym still), reply.stays (lend T s l) (drainCall out) r same h, sym (ap (λ (a : Reply). outputOf (a .answer) ++ drop (length (outputOf (a .answer))) out) still))
+        let still = reply.silenced (lendLog T s l) (drainCall out) r same h in
+        (e ∙ ap drainedOf (sym still), reply.stays (lendLog T s l) (drainCall out) r same h, sym (ap (λ (a : Reply). outputOf (a .answer) ++ drop (length (outputOf (a .answer))) out) still))
 
     module _ (h : r ≡ 0) where
       held : Held s l × (sizesAt s .logSlots ≤ length out / delivery.width)
@@ -132,7 +133,8 @@ module _ (s l out : List ℕ) where
       sound : soundLog (sizesAt s .logSlots) l ≡ true
       sound = log-sound (sizesAt s .logSlots) l (held .0 .log .sound)
 
-      copied : over delivery.form (recordsOf (sizesAt s .logSlots) l) out ≡ flat delivery.words (recordsOf (sizesAt s .logSlots) l) ++ drop (length (flat delivery.words (recordsOf (sizesAt s .logSlots) l))) out
+      copied : over delivery.form (recordsOf (sizesAt s .logSlots) l) out
+          ≡ flat delivery.words (recordsOf (sizesAt s .logSlots) l) ++ drop (length (flat delivery.words (recordsOf (sizesAt s .logSlots) l))) out
       unfolding over
       copied = ap (λ (i : ℕ). flat delivery.words (recordsOf (sizesAt s .logSlots) l) ++ drop i out) (sym (length-words delivery.form delivery-laws.exact (recordsOf (sizesAt s .logSlots) l)))
 
@@ -141,22 +143,23 @@ module _ (s l out : List ℕ) where
 
       pub drain-done : (k f : ℕ) (ts l′ out′ : List ℕ) → f ≡ getD l forcedAt 0 → ts ≡ tallyCells (talliesOf l) → k ≡ cond (soundLog (sizesAt s .logSlots) l) (countAt 0 l) 0
           → out′ ≡ cond (soundLog (sizesAt s .logSlots) l) (over delivery.form (recordsOf (sizesAt s .logSlots) l) out) out → l′ ≡ cond (soundLog (sizesAt s .logSlots) l) (clearedAt l) l
-          → DoesDrain s l l′ out out′ (record { number = 0; records = k; forced = f; tallies = ts })
+          → DoesDrain s l l′ (record { number = 0; records = k; forced = f; tallies = ts }) out out′
       unfolding DoesDrain
       drain-done k f ts l′ out′ ef et ek eo el = λ T.
           let same = sym h ∙ q ∙ drain-number T in
-          let told = reply.answered (lend T s l) (drainCall out) 0 same refl in
+          let told = reply.answered (lendLog T s l) (drainCall out) 0 same refl in
           let n : k ≡ length (recordsOf (sizesAt s .logSlots) l) = ek ∙ ap (λ (b : Bool). cond b (countAt 0 l) 0) sound ∙ sym many in
           let c : l′ ≡ clearedAt l = el ∙ ap (λ (b : Bool). cond b (clearedAt l) l) sound in (
             (λ j. record { number = 0; records = n j; forced = ef j; tallies = et j }) ∙ sym (ap drainedOf told),
-            reply.steps (lend T s l) (drainCall out) 0 same refl ∙ ap (lend T s) (sym c),
-            eo ∙ ap (λ (b : Bool). cond b (over delivery.form (recordsOf (sizesAt s .logSlots) l) out) out) sound ∙ copied ∙ sym (ap (λ (a : Reply). outputOf (a .answer) ++ drop (length (outputOf (a .answer))) out) told),
+            reply.steps (lendLog T s l) (drainCall out) 0 same refl ∙ ap (lendLog T s) (sym c),
+            eo ∙ ap (λ (b : Bool). cond b (over delivery.form (recordsOf (sizesAt s .logSlots) l) out) out) sound ∙ copied
+                ∙ sym (ap (λ (a : Reply). outputOf (a .answer) ++ drop (length (outputOf (a .answer))) out) told),
           )
 
 -- ---- The tally
 
 module _ (s l : List ℕ) (class r : ℕ) (q : r ≡ tallyNumber s l class) where
-  tally-number : (T : Tables) → tallyNumber s l class ≡ callReply (lend T s l) (tallyCall class) .number
+  tally-number : (T : Tables) → tallyNumber s l class ≡ callReply (lendLog T s l) (tallyCall class) .number
   unfolding tallyNumber logLent setupHeld logHeld
   tally-number T = refl
 
@@ -164,7 +167,7 @@ module _ (s l : List ℕ) (class r : ℕ) (q : r ≡ tallyNumber s l class) wher
   unfolding DoesTally
   tally-refused v e h = λ T.
       let same = q ∙ tally-number T in
-      (e ∙ ap talliedOf (sym (reply.silenced (lend T s l) (tallyCall class) r same h)), reply.stays (lend T s l) (tallyCall class) r same h)
+      (e ∙ ap talliedOf (sym (reply.silenced (lendLog T s l) (tallyCall class) r same h)), reply.stays (lendLog T s l) (tallyCall class) r same h)
 
   module _ (h : r ≡ 0) where
     pub tally-room : recordsAt ≤ length l
@@ -174,6 +177,6 @@ module _ (s l : List ℕ) (class r : ℕ) (q : r ≡ tallyNumber s l class) wher
     unfolding DoesTally tallyAt
     tally-done t e = λ T.
         let same = sym h ∙ q ∙ tally-number T in (
-          ap (λ (x : Tally). talliedOf (record { number = 0; answer = tallied x })) e ∙ sym (ap talliedOf (reply.answered (lend T s l) (tallyCall class) 0 same refl)),
-          reply.steps (lend T s l) (tallyCall class) 0 same refl,
+          ap (λ (x : Tally). talliedOf (record { number = 0; answer = tallied x })) e ∙ sym (ap talliedOf (reply.answered (lendLog T s l) (tallyCall class) 0 same refl)),
+          reply.steps (lendLog T s l) (tallyCall class) 0 same refl,
         )

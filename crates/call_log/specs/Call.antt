@@ -1,5 +1,4 @@
 -- Document 01, network (the delivery log), with questions 1 and 5: THE CONTRACTS of drain and tally_of. Of the tables `setup` and `log` are lent; the others hold whatever they hold, and stay.
-use mathlib.Core.Path.{_≡_}
 use mathlib.Core.Bool.{Bool, true, cond, _&&_}
 use mathlib.Core.List.{List}
 use Prim.Native.Nat.{ℕ, _*_, _/_}
@@ -11,13 +10,12 @@ use Rattle.table_log.specs.declared.Tally.{Tally}
 use Rattle.table_log.specs.Log.{noTally, tallyForm, classes, tallyWidth}
 use Rattle.spec_network.specs.Calls.{Call, drain, reading, tallyOf, Answer, silent, counted, moved, number, tallied, drained, copies, ids}
 use Rattle.spec_network.specs.Tables.{Tables, sizesAt}
-use Rattle.spec_network.specs.Writes.{Reply, callTables, callReply, callOutput}
+use Rattle.spec_network.specs.Lending.{lendLog}
+use Rattle.spec_network.specs.Writes.{Reply}
+use Rattle.spec_network.specs.Contract.{Does, DoesOut}
 use Rattle.ask_tables.specs.Held.{setupHeld, logHeld}
 use Rattle.call_log.specs.declared.Drained.{Drained}
 use Rattle.call_log.specs.declared.Tallied.{Tallied}
-
-abbrev pub lend : Tables → (setup log : List ℕ) → Tables
-lend T s l = record { setup = s; net = T .net; names = T .names; tills = T .tills; words = T .words; keys = T .keys; prices = T .prices; seen = T .seen; waiting = T .waiting; rings = T .rings; rules = T .rules; blocks = T .blocks; log = l }
 
 -- ---- The replies
 
@@ -81,15 +79,14 @@ talliedOf q = record { number = q .number; deliveries = tallyIn (q .answer) .del
 abbrev pub drainCall : (out : List ℕ) → Call
 drainCall out = drain (length out / delivery.width)
 
-unfoldable pub DoesDrain : (setup log log′ out out′ : List ℕ) → Drained → Type 0
-DoesDrain s l l′ o o′ r =
-    (T : Tables) → (r ≡ drainedOf (callReply (lend T s l) (drainCall o))) × (callTables (lend T s l) (drainCall o) ≡ lend T s l′) × (o′ ≡ callOutput (lend T s l) (drainCall o) o)
+unfoldable pub DoesDrain : (setup log log′ : List ℕ) → Drained → (out out′ : List ℕ) → Type 0
+DoesDrain s l l′ r o o′ = (T : Tables) → DoesOut drainedOf (lendLog T s l) (lendLog T s l′) (drainCall o) r o o′
 
 abbrev pub tallyCall : ℕ → Call
 tallyCall class = reading (tallyOf class)
 
 unfoldable pub DoesTally : (setup log : List ℕ) (class : ℕ) → Tallied → Type 0
-DoesTally s l class r = (T : Tables) → (r ≡ talliedOf (callReply (lend T s l) (tallyCall class))) × (callTables (lend T s l) (tallyCall class) ≡ lend T s l)
+DoesTally s l class r = (T : Tables) → Does talliedOf (lendLog T s l) (lendLog T s l) (tallyCall class) r
 
 -- ---- The questions as the code asks them
 

@@ -100,7 +100,11 @@ fn untold(number: u64) -> Tallied
 
 // The records, oldest first, to the front of out, and the tallies; then the log is empty.
 pub fn drain(setup: &[u64], log: &mut [u64], out: &mut [u64]) -> Drained
-    ensures { λ r. ⌜ DoesDrain (now (setup .entry)) (now (log .entry)) (now (log .exit)) (now (out .entry)) (now (out .exit)) r ⌝ }
+    ensures { λ r. ⌜ DoesDrain
+        (now (setup .entry)) (now (log .entry))
+        (now (log .exit))
+        r
+        (now (out .entry)) (now (out .exit)) ⌝ }
 {
     let number = drain_refusal(setup, log, out.len() / table_delivery::WIDTH);
     if number != 0 {
@@ -119,7 +123,9 @@ pub fn drain(setup: &[u64], log: &mut [u64], out: &mut [u64]) -> Drained
 
 // Deliveries and bytes of a class since the log was last drained.
 pub fn tally_of(setup: &[u64], log: &[u64], class: u64) -> Tallied
-    ensures { λ r. ⌜ DoesTally (now (setup .entry)) (now (log .entry)) «class» r ⌝ }
+    ensures { λ r. ⌜ DoesTally
+        (now (setup .entry)) (now (log .entry))
+        «class» r ⌝ }
 {
     let number = tally_refusal(setup, log, class);
     if number != 0 {

@@ -19,6 +19,7 @@ use Rattle.table_waiting.proofs.Reading as waiting-laws
 use Rattle.spec_network.specs.Calls.{Reading, reading, transit, nextTime, number, answerOf}
 use Rattle.spec_network.specs.Tables.{Tables, cell, sizesAt, live, netWidth, waitingAt}
 use Rattle.spec_network.specs.Real.{openingAt}
+use Rattle.spec_network.specs.Lending.{lendWaiting}
 use Rattle.spec_network.specs.Writes.{Reply, outputOf, callReply}
 use Rattle.ask_tables.specs.Held.{setupHeld, netHeld, waitingHeld}
 use Rattle.ask_tables.proofs.Ladder.{yes, no, on, off, last, both, only}
@@ -28,7 +29,7 @@ use Rattle.call_reply.specs.declared.Value.{Value}
 use Rattle.call_reply.specs.Reply.{refusedBy}
 use Rattle.call_reply.proofs.Laws as reply
 use Rattle.call_waiting.specs.declared.Copied.{Copied}
-use Rattle.call_waiting.specs.Call.{lend, Reads, copiedOf, copiesCall, DoesCopies, waitingLent, lentNumber, tillNumber, outNumber, transitOf, notCopied}
+use Rattle.call_waiting.specs.Call.{Reads, copiedOf, copiesCall, DoesCopies, waitingLent, lentNumber, tillNumber, outNumber, transitOf, notCopied}
 use Rattle.call_waiting.proofs.Work.{first-none, first-some}
 
 -- ---- The ladders
@@ -99,40 +100,43 @@ module _ (s n w : List ℕ) where
 
 -- ---- A reading that answers a number
 
-module _ (c : Reading) (s n w : List ℕ) (r N : ℕ) (e : r ≡ N) (same : (T : Tables) → N ≡ callReply (lend T s n w) (reading c) .number) where
-  read-refused : (v : Value) → v ≡ refusedBy r → (r ≡ 0 → ⊥) → Reads c s n w v
+module _ (c : Reading) (s n w : List ℕ) (r N : ℕ) (e : r ≡ N) (same : (T : Tables) → N ≡ callReply (lendWaiting T s n w) (reading c) .number) where
+  read-refused : (v : Value) → v ≡ refusedBy r → (r ≡ 0 → ⊥) → Reads s n w c v
   unfolding Reads
-  read-refused v q h = λ T. (q ∙ reply.value-refused (lend T s n w) (reading c) r (e ∙ same T) h, reply.stays (lend T s n w) (reading c) r (e ∙ same T) h)
+  read-refused v q h = λ T. (q ∙ reply.value-refused (lendWaiting T s n w) (reading c) r (e ∙ same T) h, reply.stays (lendWaiting T s n w) (reading c) r (e ∙ same T) h)
 
-  read-done : r ≡ 0 → (f x : ℕ) → ((T : Tables) → answerOf (openingAt (lend T s n w)) (live (sizesAt s) (lend T s n w)) (reading c) ≡ number f x) → Reads c s n w (record { number = 0; found = f; value = x })
+  read-done : r ≡ 0 → (f x : ℕ) → ((T : Tables) → answerOf (openingAt (lendWaiting T s n w)) (live (sizesAt s) (lendWaiting T s n w)) (reading c) ≡ number f x)
+      → Reads s n w c (record { number = 0; found = f; value = x })
   unfolding Reads
-  read-done h f x a = λ T. (reply.value (lend T s n w) (reading c) r (e ∙ same T) h f x (a T), reply.steps (lend T s n w) (reading c) r (e ∙ same T) h)
+  read-done h f x a = λ T. (reply.value (lendWaiting T s n w) (reading c) r (e ∙ same T) h f x (a T), reply.steps (lendWaiting T s n w) (reading c) r (e ∙ same T) h)
 
 module _ (s n w : List ℕ) (t r : ℕ) (e : r ≡ lentNumber s n w (tillNumber s t)) where
-  transit-number : (T : Tables) → lentNumber s n w (tillNumber s t) ≡ callReply (lend T s n w) (reading (transit t)) .number
+  transit-number : (T : Tables) → lentNumber s n w (tillNumber s t) ≡ callReply (lendWaiting T s n w) (reading (transit t)) .number
   unfolding lentNumber tillNumber waitingLent setupHeld netHeld waitingHeld
   transit-number T = refl
 
-  pub transit-refused : (v : Value) → v ≡ refusedBy r → (r ≡ 0 → ⊥) → Reads (transit t) s n w v
+  pub transit-refused : (v : Value) → v ≡ refusedBy r → (r ≡ 0 → ⊥) → Reads s n w (transit t) v
   transit-refused v q h = read-refused (transit t) s n w r _ e transit-number v q h
 
-  pub transit-done : r ≡ 0 → (x : ℕ) → x ≡ transitOf t w (cell n waitingAt) → Reads (transit t) s n w (record { number = 0; found = 1; value = x })
+  pub transit-done : r ≡ 0 → (x : ℕ) → x ≡ transitOf t w (cell n waitingAt) → Reads s n w (transit t) (record { number = 0; found = 1; value = x })
   unfolding transitOf
   transit-done h x q = read-done (transit t) s n w r _ e transit-number h 1 x (λ T. ap (λ (k : ℕ). number 1 k) (sym q))
 
 module _ (s n w : List ℕ) where
-  next-number : (T : Tables) → lentNumber s n w 0 ≡ callReply (lend T s n w) (reading nextTime) .number
+  next-number : (T : Tables) → lentNumber s n w 0 ≡ callReply (lendWaiting T s n w) (reading nextTime) .number
   unfolding lentNumber waitingLent setupHeld netHeld waitingHeld
   next-number T = refl
 
-  pub next-refused : (v : Value) → waitingLent s n w ≡ false → v ≡ refusedBy 1 → Reads nextTime s n w v
+  pub next-refused : (v : Value) → waitingLent s n w ≡ false → v ≡ refusedBy 1 → Reads s n w nextTime v
   next-refused v h q = read-refused nextTime s n w 1 _ (not-lent s n w 0 h) next-number v q (λ z. omega arith)
 
-  pub next-none : waitingLent s n w ≡ true → cell n waitingAt ≡ 0 → Reads nextTime s n w (record { number = 0; found = 0; value = 0 })
+  pub next-none : waitingLent s n w ≡ true → cell n waitingAt ≡ 0 → Reads s n w nextTime (record { number = 0; found = 0; value = 0 })
   next-none h q = read-done nextTime s n w 0 _ (is-lent s n w 0 0 h refl) next-number refl 0 0 (λ T. first-none w (cell n waitingAt) q)
 
-  pub next-some : waitingLent s n w ≡ true → (cell n waitingAt ≡ 0 → ⊥) → (d : Delivery) → d ≡ delivery.read (drop 0 w) → Reads nextTime s n w (record { number = 0; found = 1; value = d .time })
-  next-some h q d ed = read-done nextTime s n w 0 _ (is-lent s n w 0 0 h refl) next-number refl 1 (d .time) (λ T. first-some w (cell n waitingAt) q ∙ ap (λ (x : Delivery). number 1 (x .time)) (sym ed))
+  pub next-some : waitingLent s n w ≡ true → (cell n waitingAt ≡ 0 → ⊥) → (d : Delivery) → d ≡ delivery.read (drop 0 w) → Reads s n w nextTime (record { number = 0; found = 1; value = d .time })
+  next-some h q d ed =
+      read-done nextTime s n w 0 _ (is-lent s n w 0 0 h refl) next-number refl 1 (d .time)
+      (λ T. first-some w (cell n waitingAt) q ∙ ap (λ (x : Delivery). number 1 (x .time)) (sym ed))
 
   -- the first row is there
   pub first-room : waitingLent s n w ≡ true → (cell n waitingAt ≡ 0 → ⊥) → 0 + delivery.width ≤ length w
@@ -141,16 +145,16 @@ module _ (s n w : List ℕ) where
 -- ---- All of them
 
 module _ (s n w out : List ℕ) (r : ℕ) (e : r ≡ lentNumber s n w (outNumber s (length out / waiting.width))) where
-  copies-number : (T : Tables) → lentNumber s n w (outNumber s (length out / waiting.width)) ≡ callReply (lend T s n w) (copiesCall out) .number
+  copies-number : (T : Tables) → lentNumber s n w (outNumber s (length out / waiting.width)) ≡ callReply (lendWaiting T s n w) (copiesCall out) .number
   unfolding lentNumber outNumber waitingLent setupHeld netHeld waitingHeld
   copies-number T = refl
 
-  pub copies-refused : (v : Copied) → v ≡ notCopied r → (r ≡ 0 → ⊥) → DoesCopies s n w out out v
+  pub copies-refused : (v : Copied) → v ≡ notCopied r → (r ≡ 0 → ⊥) → DoesCopies s n w v out out
   unfolding DoesCopies
   copies-refused v q h = λ T.
       let same = e ∙ copies-number T in
-      let still = reply.silenced (lend T s n w) (copiesCall out) r same h in
-      (q ∙ ap copiedOf (sym still), reply.stays (lend T s n w) (copiesCall out) r same h, sym (ap (λ (a : Reply). outputOf (a .answer) ++ drop (length (outputOf (a .answer))) out) still))
+      let still = reply.silenced (lendWaiting T s n w) (copiesCall out) r same h in
+      (q ∙ ap copiedOf (sym still), reply.stays (lendWaiting T s n w) (copiesCall out) r same h, sym (ap (λ (a : Reply). outputOf (a .answer) ++ drop (length (outputOf (a .answer))) out) still))
 
   module _ (h : r ≡ 0) where
     lent : waitingLent s n w ≡ true
@@ -176,18 +180,20 @@ module _ (s n w out : List ℕ) (r : ℕ) (e : r ≡ lentNumber s n w (outNumber
     words-are : flat waiting.words (waiting.copies w (cell n waitingAt)) ≡ take (cell n waitingAt * waiting.width) w
     words-are = flat-rows waiting.form waiting-laws.exact (cell n waitingAt) w (copies-room .0)
 
-    front : take (cell n waitingAt * waiting.width) w ++ drop (cell n waitingAt * waiting.width) out ≡ flat waiting.words (waiting.copies w (cell n waitingAt)) ++ drop (length (flat waiting.words (waiting.copies w (cell n waitingAt)))) out
+    front : take (cell n waitingAt * waiting.width) w ++ drop (cell n waitingAt * waiting.width) out
+        ≡ flat waiting.words (waiting.copies w (cell n waitingAt)) ++ drop (length (flat waiting.words (waiting.copies w (cell n waitingAt)))) out
     front =
         let m : ℕ = cell n waitingAt * waiting.width in
         ap (λ (i : ℕ). take (cell n waitingAt * waiting.width) w ++ drop i out) (sym (length-take-le (cell n waitingAt * waiting.width) w (copies-room .0)))
         ∙ ap (λ (x : List ℕ). x ++ drop (length x) out) (sym words-are)
 
-    pub copies-done : (out′ : List ℕ) → out′ ≡ take (cell n waitingAt * waiting.width) w ++ drop (cell n waitingAt * waiting.width) out → DoesCopies s n w out out′ (record { number = 0; copies = cell n waitingAt })
+    pub copies-done : (out′ : List ℕ) → out′ ≡ take (cell n waitingAt * waiting.width) w ++ drop (cell n waitingAt * waiting.width) out
+        → DoesCopies s n w (record { number = 0; copies = cell n waitingAt }) out out′
     unfolding DoesCopies
     copies-done out′ q = λ T.
         let same = sym h ∙ e ∙ copies-number T in
-        let told = reply.answered (lend T s n w) (copiesCall out) 0 same refl in (
+        let told = reply.answered (lendWaiting T s n w) (copiesCall out) 0 same refl in (
           ap (λ (k : ℕ). record { number = 0; copies = k }) (sym (length-rows waiting.width waiting.read (cell n waitingAt) w)) ∙ sym (ap copiedOf told),
-          reply.steps (lend T s n w) (copiesCall out) 0 same refl,
+          reply.steps (lendWaiting T s n w) (copiesCall out) 0 same refl,
           q ∙ front ∙ sym (ap (λ (a : Reply). outputOf (a .answer) ++ drop (length (outputOf (a .answer))) out) told),
         )

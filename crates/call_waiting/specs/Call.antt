@@ -1,5 +1,5 @@
--- Document 01, network (in transit) and 'The book' (readings, waiting copies), with questions 1 and 4: THE CONTRACTS of in_transit, next_time and waiting_copies. Of the tables `setup`, `net` and `waiting` are lent; the others hold whatever they hold. All stay.
-use mathlib.Core.Path.{_≡_}
+-- Document 01, network (in transit) and 'The book' (readings, waiting copies), with questions 1 and 4: THE CONTRACTS of in_transit, next_time and waiting_copies. Of the
+-- tables `setup`, `net` and `waiting` are lent; the others hold whatever they hold. All stay.
 use mathlib.Core.Bool.{Bool, true, cond, _&&_}
 use mathlib.Core.List.{List}
 use Prim.Native.Nat.{ℕ, _/_}
@@ -10,26 +10,25 @@ use Rattle.table_waiting.specs.Waiting as waiting
 use Rattle.spec_network.specs.Lists.{count}
 use Rattle.spec_network.specs.Calls.{Call, Reading, reading, transit, nextTime, waitingCopies, Answer, silent, counted, moved, number, tallied, drained, copies, ids}
 use Rattle.spec_network.specs.Tables.{Tables, sizesAt}
-use Rattle.spec_network.specs.Writes.{Reply, callTables, callReply, callOutput}
+use Rattle.spec_network.specs.Lending.{lendWaiting}
+use Rattle.spec_network.specs.Writes.{Reply}
+use Rattle.spec_network.specs.Contract.{Does, DoesOut}
 use Rattle.ask_tables.specs.Held.{setupHeld, netHeld, waitingHeld}
 use Rattle.call_reply.specs.declared.Value.{Value}
 use Rattle.call_reply.specs.Reply.{valueOf}
 use Rattle.call_waiting.specs.declared.Copied.{Copied}
 
-abbrev pub lend : Tables → (setup net waiting : List ℕ) → Tables
-lend T s n w = record { setup = s; net = n; names = T .names; tills = T .tills; words = T .words; keys = T .keys; prices = T .prices; seen = T .seen; waiting = w; rings = T .rings; rules = T .rules; blocks = T .blocks; log = T .log }
-
 -- ---- The contracts
 
 -- a reading that answers a number
-unfoldable pub Reads : Reading → (setup net waiting : List ℕ) → Value → Type 0
-Reads c s n w r = (T : Tables) → (r ≡ valueOf (callReply (lend T s n w) (reading c))) × (callTables (lend T s n w) (reading c) ≡ lend T s n w)
+unfoldable pub Reads : (setup net waiting : List ℕ) → Reading → Value → Type 0
+Reads s n w c r = (T : Tables) → Does valueOf (lendWaiting T s n w) (lendWaiting T s n w) (reading c) r
 
 abbrev pub DoesTransit : (setup net waiting : List ℕ) (t : ℕ) → Value → Type 0
-DoesTransit s n w t r = Reads (transit t) s n w r
+DoesTransit s n w t r = Reads s n w (transit t) r
 
 abbrev pub DoesNextTime : (setup net waiting : List ℕ) → Value → Type 0
-DoesNextTime s n w r = Reads nextTime s n w r
+DoesNextTime s n w r = Reads s n w nextTime r
 
 -- how many copies an answer has
 abbrev pub copiesIn : Answer → ℕ
@@ -49,9 +48,8 @@ copiedOf q = record { number = q .number; copies = copiesIn (q .answer) }
 abbrev pub copiesCall : (out : List ℕ) → Call
 copiesCall out = reading (waitingCopies (length out / waiting.width))
 
-unfoldable pub DoesCopies : (setup net waiting out out′ : List ℕ) → Copied → Type 0
-DoesCopies s n w o o′ r =
-    (T : Tables) → (r ≡ copiedOf (callReply (lend T s n w) (copiesCall o))) × (callTables (lend T s n w) (copiesCall o) ≡ lend T s n w) × (o′ ≡ callOutput (lend T s n w) (copiesCall o) o)
+unfoldable pub DoesCopies : (setup net waiting : List ℕ) → Copied → (out out′ : List ℕ) → Type 0
+DoesCopies s n w r o o′ = (T : Tables) → DoesOut copiedOf (lendWaiting T s n w) (lendWaiting T s n w) (copiesCall o) r o o′
 
 -- ---- The questions as the code asks them
 

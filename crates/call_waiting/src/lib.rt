@@ -82,7 +82,9 @@ fn count_to(waiting: &[u64], n: usize, t: u64) -> u64
 
 // How many copies wait for a till.
 pub fn in_transit(setup: &[u64], net: &[u64], waiting: &[u64], t: u64) -> Value
-    ensures { λ r. ⌜ DoesTransit (now (setup .entry)) (now (net .entry)) (now (waiting .entry)) t r ⌝ }
+    ensures { λ r. ⌜ DoesTransit
+        (now (setup .entry)) (now (net .entry)) (now (waiting .entry))
+        t r ⌝ }
 {
     let number = transit_refusal(setup, net, waiting, t);
     if number != 0 {
@@ -98,7 +100,9 @@ pub fn in_transit(setup: &[u64], net: &[u64], waiting: &[u64], t: u64) -> Value
 
 // The time of the first waiting copy; found is 0 where none waits.
 pub fn next_time(setup: &[u64], net: &[u64], waiting: &[u64]) -> Value
-    ensures { λ r. ⌜ DoesNextTime (now (setup .entry)) (now (net .entry)) (now (waiting .entry)) r ⌝ }
+    ensures { λ r. ⌜ DoesNextTime
+        (now (setup .entry)) (now (net .entry)) (now (waiting .entry))
+        r ⌝ }
 {
     if !lent(setup, net, waiting) {
         return call_reply::refused(1);
@@ -126,7 +130,10 @@ fn refused(number: u64) -> Copied
 
 // The waiting copies, by time, then sequence, to the front of out.
 pub fn waiting_copies(setup: &[u64], net: &[u64], waiting: &[u64], out: &mut [u64]) -> Copied
-    ensures { λ r. ⌜ DoesCopies (now (setup .entry)) (now (net .entry)) (now (waiting .entry)) (now (out .entry)) (now (out .exit)) r ⌝ }
+    ensures { λ r. ⌜ DoesCopies
+        (now (setup .entry)) (now (net .entry)) (now (waiting .entry))
+        r
+        (now (out .entry)) (now (out .exit)) ⌝ }
 {
     let number = copies_refusal(setup, net, waiting, out.len() / table_waiting::WIDTH);
     if number != 0 {

@@ -14,10 +14,24 @@ cell-requires : tie.Need-cell-requires
 cell-requires c κs = search needs
 
 returns-2 : tie.Need-returns-2
-returns-2 c = let a = c .before .before .before .before .before .before .before .args in is-lent (a .setup .now) (a .net .now) (a .waiting .now) 1 _ (is-yes _ _ (c .before .before .before .lent .ensures) (c .before .before .if1 .left)) (short-out (a .setup .now) (a .net .now) (a .waiting .now) (a .rows) _ (c .before .cell .ensures) (c .if2 .taken))
+returns-2 c =
+    let at-cell = c .before in
+    let at-if1 = at-cell .before in
+    let at-lent = at-if1 .before in
+    let start = at-lent .before .before .before .before in
+    let a = start .args in
+    is-lent (a .setup .now) (a .net .now) (a .waiting .now) 1 _ (is-yes _ _ (at-lent .lent .ensures) (at-if1 .if1 .left))
+    (short-out (a .setup .now) (a .net .now) (a .waiting .now) (a .rows) _ (at-cell .cell .ensures) (c .if2 .taken))
 
 returns-3 : tie.Need-returns-3
-returns-3 c = let a = c .before .before .before .before .before .before .before .args in is-lent (a .setup .now) (a .net .now) (a .waiting .now) 0 _ (is-yes _ _ (c .before .before .before .lent .ensures) (c .before .before .if1 .left)) (long-out (a .setup .now) (a .net .now) (a .waiting .now) (a .rows) _ (c .before .cell .ensures) (c .if2 .left))
+returns-3 c =
+    let at-cell = c .before in
+    let at-if1 = at-cell .before in
+    let at-lent = at-if1 .before in
+    let start = at-lent .before .before .before .before in
+    let a = start .args in
+    is-lent (a .setup .now) (a .net .now) (a .waiting .now) 0 _ (is-yes _ _ (at-lent .lent .ensures) (at-if1 .if1 .left))
+    (long-out (a .setup .now) (a .net .now) (a .waiting .now) (a .rows) _ (at-cell .cell .ensures) (c .if2 .left))
 
 pub copies-refusal-spec : {M : Type 1} → statement M
 copies-refusal-spec = tie.close (tie.spec lent-requires returns cell-requires returns-2 returns-3)

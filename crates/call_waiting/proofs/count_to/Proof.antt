@@ -34,7 +34,18 @@ loop-less : tie.Need-loop-less Inv-loop μ-loop
 loop-less c = omega arith
 
 loop-again : tie.Need-loop-again Inv-loop μ-loop
-loop-again c = let a = c .before .before .before .before .before .args in let l = c .before .before .before .loop in (omega arith, omega (arith, l .inv .1, c .same .ensures .1), transit-more (a .t) (a .waiting .now) (a .n) (l .i) (l .k) (c .same .result) (c .before .get .result) (c .before .before .loop-test .taken) (l .inv .2) (c .before .get .ensures) (c .same .ensures .0))
+loop-again c =
+    let at-get = c .before in
+    let at-loop-test = at-get .before in
+    let at-loop = at-loop-test .before in
+    let start = at-loop .before .before in
+    let a = start .args in
+    let l = at-loop .loop in (
+      omega arith,
+      omega (arith, l .inv .1, c .same .ensures .1),
+      transit-more (a .t) (a .waiting .now) (a .n) (l .i) (l .k) (c .same .result) (at-get .get .result) (at-loop-test .loop-test .taken) (l .inv .2)
+          (at-get .get .ensures) (c .same .ensures .0),
+    )
 
 returns : tie.Need-returns Inv-loop μ-loop
 returns c = let a = c .before .before .before .args in transit-end (a .t) (a .waiting .now) (a .n) (c .before .loop .i) (c .before .loop .k) (c .loop-test .left) (c .before .loop .inv .2)

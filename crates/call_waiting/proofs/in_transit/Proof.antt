@@ -11,16 +11,41 @@ refused-requires : tie.Need-refused-requires
 refused-requires c κs = search needs
 
 returns : tie.Need-returns
-returns c = let a = c .before .before .before .before .before .before .args in transit-refused (a .setup .now) (a .net .now) (a .waiting .now) (a .t) _ (c .before .before .transit-refusal .ensures) _ (c .refused .ensures) (c .before .if1 .taken)
+returns c =
+    let at-if1 = c .before in
+    let at-transit-refusal = at-if1 .before in
+    let start = at-transit-refusal .before .before .before .before in
+    let a = start .args in
+    transit-refused (a .setup .now) (a .net .now) (a .waiting .now) (a .t) _ (at-transit-refusal .transit-refusal .ensures) _ (c .refused .ensures) (at-if1 .if1 .taken)
 
 shared-slice-read-count-to : tie.Need-shared-slice-read-count-to
-shared-slice-read-count-to c = let a = c .before .before .before .before .before .before .args in omega (arith, net-long (a .setup .now) (a .net .now) (a .waiting .now) (passed (a .setup .now) (a .net .now) (a .waiting .now) _ _ (c .before .before .transit-refusal .ensures) (c .before .if1 .left) .0))
+shared-slice-read-count-to c =
+    let at-if1 = c .before in
+    let at-transit-refusal = at-if1 .before in
+    let start = at-transit-refusal .before .before .before .before in
+    let a = start .args in
+    omega (
+      arith,
+      net-long (a .setup .now) (a .net .now) (a .waiting .now)
+          (passed (a .setup .now) (a .net .now) (a .waiting .now) _ _ (at-transit-refusal .transit-refusal .ensures) (at-if1 .if1 .left) .0),
+    )
 
 count-to-requires : tie.Need-count-to-requires
-count-to-requires c κs = let a = c .before .before .before .before .before .before .args in rows-room (a .setup .now) (a .net .now) (a .waiting .now) (passed (a .setup .now) (a .net .now) (a .waiting .now) _ _ (c .before .before .transit-refusal .ensures) (c .before .if1 .left) .0)
+count-to-requires c κs =
+    let at-if1 = c .before in
+    let at-transit-refusal = at-if1 .before in
+    let start = at-transit-refusal .before .before .before .before in
+    let a = start .args in
+    rows-room (a .setup .now) (a .net .now) (a .waiting .now)
+    (passed (a .setup .now) (a .net .now) (a .waiting .now) _ _ (at-transit-refusal .transit-refusal .ensures) (at-if1 .if1 .left) .0)
 
 returns-2 : tie.Need-returns-2
-returns-2 c = let a = c .before .before .before .before .before .before .before .args in transit-done (a .setup .now) (a .net .now) (a .waiting .now) (a .t) _ (c .before .before .before .transit-refusal .ensures) (c .before .before .if1 .left) _ (c .count-to .ensures)
+returns-2 c =
+    let at-if1 = c .before .before in
+    let at-transit-refusal = at-if1 .before in
+    let start = at-transit-refusal .before .before .before .before in
+    let a = start .args in
+    transit-done (a .setup .now) (a .net .now) (a .waiting .now) (a .t) _ (at-transit-refusal .transit-refusal .ensures) (at-if1 .if1 .left) _ (c .count-to .ensures)
 
 pub in-transit-spec : {M : Type 1} → statement M
 in-transit-spec =

@@ -14,13 +14,28 @@ net-held-requires : tie.Need-net-held-requires
 net-held-requires c κs = search needs
 
 returns-2 : tie.Need-returns-2
-returns-2 c = let a = c .before .before .before .before .before .before .before .args in no-net (a .setup .now) (a .net .now) (a .waiting .now) (is-yes _ _ (c .before .before .before .setup-held .ensures) (c .before .before .if1 .left)) (is-no _ _ (c .before .net-held .ensures) (c .if2 .taken))
+returns-2 c =
+    let at-net-held = c .before in
+    let at-if1 = at-net-held .before in
+    let at-setup-held = at-if1 .before in
+    let start = at-setup-held .before .before .before .before in
+    let a = start .args in
+    no-net (a .setup .now) (a .net .now) (a .waiting .now) (is-yes _ _ (at-setup-held .setup-held .ensures) (at-if1 .if1 .left))
+    (is-no _ _ (at-net-held .net-held .ensures) (c .if2 .taken))
 
 waiting-held-requires : tie.Need-waiting-held-requires
 waiting-held-requires c κs = (is-yes _ _ (c .before .before .before .setup-held .ensures) (c .before .before .if1 .left), is-yes _ _ (c .before .net-held .ensures) (c .if2 .left))
 
 returns-3 : tie.Need-returns-3
-returns-3 c = let a = c .before .before .before .before .before .before .before .before .args in last-waiting (a .setup .now) (a .net .now) (a .waiting .now) _ (is-yes _ _ (c .before .before .before .before .setup-held .ensures) (c .before .before .before .if1 .left)) (is-yes _ _ (c .before .before .net-held .ensures) (c .before .if2 .left)) (c .waiting-held .ensures)
+returns-3 c =
+    let at-if2 = c .before in
+    let at-net-held = at-if2 .before in
+    let at-if1 = at-net-held .before in
+    let at-setup-held = at-if1 .before in
+    let start = at-setup-held .before .before .before .before in
+    let a = start .args in
+    last-waiting (a .setup .now) (a .net .now) (a .waiting .now) _ (is-yes _ _ (at-setup-held .setup-held .ensures) (at-if1 .if1 .left))
+    (is-yes _ _ (at-net-held .net-held .ensures) (at-if2 .if2 .left)) (c .waiting-held .ensures)
 
 pub lent-spec : {M : Type 1} → statement M
 lent-spec =

@@ -12,19 +12,41 @@ refused-requires : tie.Need-refused-requires
 refused-requires c κs = search needs
 
 returns : tie.Need-returns
-returns c = let a = c .before .before .before .before .before .before .args in next-refused (a .setup .now) (a .net .now) (a .waiting .now) _ (is-no _ _ (c .before .before .lent .ensures) (c .before .if1 .taken)) (c .refused .ensures)
+returns c =
+    let at-if1 = c .before in
+    let at-lent = at-if1 .before in
+    let start = at-lent .before .before .before .before in
+    let a = start .args in next-refused (a .setup .now) (a .net .now) (a .waiting .now) _ (is-no _ _ (at-lent .lent .ensures) (at-if1 .if1 .taken)) (c .refused .ensures)
 
 shared-slice-read-if2 : tie.Need-shared-slice-read-if2
-shared-slice-read-if2 c = let a = c .before .before .before .before .before .before .args in omega (arith, net-long (a .setup .now) (a .net .now) (a .waiting .now) (is-yes _ _ (c .before .before .lent .ensures) (c .before .if1 .left)))
+shared-slice-read-if2 c =
+    let at-if1 = c .before in
+    let at-lent = at-if1 .before in
+    let start = at-lent .before .before .before .before in
+    let a = start .args in omega (arith, net-long (a .setup .now) (a .net .now) (a .waiting .now) (is-yes _ _ (at-lent .lent .ensures) (at-if1 .if1 .left)))
 
 returns-2 : tie.Need-returns-2
-returns-2 c = let a = c .before .before .before .before .before .before .before .args in next-none (a .setup .now) (a .net .now) (a .waiting .now) (is-yes _ _ (c .before .before .before .lent .ensures) (c .before .before .if1 .left)) (c .if2 .taken)
+returns-2 c =
+    let at-if1 = c .before .before in
+    let at-lent = at-if1 .before in
+    let start = at-lent .before .before .before .before in
+    let a = start .args in next-none (a .setup .now) (a .net .now) (a .waiting .now) (is-yes _ _ (at-lent .lent .ensures) (at-if1 .if1 .left)) (c .if2 .taken)
 
 get-requires : tie.Need-get-requires
-get-requires c κs = let a = c .before .before .before .before .before .before .before .args in first-room (a .setup .now) (a .net .now) (a .waiting .now) (is-yes _ _ (c .before .before .before .lent .ensures) (c .before .before .if1 .left)) (c .if2 .left)
+get-requires c κs =
+    let at-if1 = c .before .before in
+    let at-lent = at-if1 .before in
+    let start = at-lent .before .before .before .before in
+    let a = start .args in first-room (a .setup .now) (a .net .now) (a .waiting .now) (is-yes _ _ (at-lent .lent .ensures) (at-if1 .if1 .left)) (c .if2 .left)
 
 returns-3 : tie.Need-returns-3
-returns-3 c = let a = c .before .before .before .before .before .before .before .before .args in next-some (a .setup .now) (a .net .now) (a .waiting .now) (is-yes _ _ (c .before .before .before .before .lent .ensures) (c .before .before .before .if1 .left)) (c .before .if2 .left) _ (c .get .ensures)
+returns-3 c =
+    let at-if2 = c .before in
+    let at-if1 = at-if2 .before .before in
+    let at-lent = at-if1 .before in
+    let start = at-lent .before .before .before .before in
+    let a = start .args in
+    next-some (a .setup .now) (a .net .now) (a .waiting .now) (is-yes _ _ (at-lent .lent .ensures) (at-if1 .if1 .left)) (at-if2 .if2 .left) _ (c .get .ensures)
 
 pub next-time-spec : {M : Type 1} → statement M
 next-time-spec =
