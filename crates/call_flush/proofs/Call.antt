@@ -22,6 +22,7 @@ use Rattle.spec_network.specs.Live.{Live}
 use Rattle.spec_network.specs.Flush.{stops, rowOf, lands, rowsOf, dropsOf, handled, served}
 use Rattle.spec_network.specs.Calls.{flush, movedBy}
 use Rattle.spec_network.specs.Tables.{Tables, cell, live, sizesAt, setupWidth, netWidth, waitingAt, blocksAt}
+use Rattle.spec_network.specs.Lending.{lendFlush}
 use Rattle.spec_network.specs.Writes.{Reply, rowWidth, rowWords, outputOf, callReply}
 use Rattle.ask_tables.specs.Held.{setupHeld, netHeld, tillsHeld, seenHeld, waitingHeld, blocksHeld, logHeld}
 use Rattle.ask_tables.proofs.Ladder.{yes, no, on, off, last, both, only}
@@ -36,7 +37,7 @@ use Rattle.call_flush_pass.specs.declared.Moved.{Moved}
 use Rattle.call_flush_pass.specs.Pass.{ground, clearedOne, clearedBy, cleared, recorded, written, movedOf, Near}
 use Rattle.call_flush_pass.proofs.Passing.{length-map}
 use Rattle.call_flush.specs.declared.Flushed.{Flushed}
-use Rattle.call_flush.specs.Call.{lend, flushedOf, flushCall, DoesFlush, rowsLent, flushLent, flushNumber, dueCount, roomNumber, extentsAt, refusedBy, flushedBy, Ready, Worked}
+use Rattle.call_flush.specs.Call.{flushedOf, flushCall, DoesFlush, rowsLent, flushLent, flushNumber, dueCount, roomNumber, extentsAt, refusedBy, flushedBy, Ready, Worked}
 use Rattle.call_flush.proofs.Tables.{due-within, due-first, written-front, flush-tables}
 
 -- ---- Rows in range
@@ -103,7 +104,12 @@ module _ (s n t e w b l : List ℕ) where
         record {
           net = h .net .size;
           room = record { tills = omega (arith, h .tills .size); blocks = omega (arith, h .blocks .size, h .net .blocks) };
-          due = record { few = omega (arith, within, h .net .waiting, h .setup .sizes .waitSlots); rows = omega (arith, K, N); near = near-at; room = omega (arith, o, div-mul-le-self (length out) rowWidth) };
+          due = record {
+            few = omega (arith, within, h .net .waiting, h .setup .sizes .waitSlots);
+            rows = omega (arith, K, N);
+            near = near-at;
+            room = omega (arith, o, div-mul-le-self (length out) rowWidth);
+          };
           seen = record { size = omega (arith, h .seen .size); counts = h .seen .counts };
           log = record { few = h .setup .sizes .logSlots; size = omega (arith, h .log .size) };
           rows = N;
@@ -197,14 +203,14 @@ module _ (s n t e w b l out : List ℕ) (now : ℕ) where
   abbrev pub asks : ℕ
   asks = flushNumber s n t e w b l now (roomNumber (dueCount n w now) (length out / rowWidth))
 
-  number-is : (T : Tables) → asks ≡ callReply (lend T s n t e w b l) (flushCall out now) .number
+  number-is : (T : Tables) → asks ≡ callReply (lendFlush T s n t e w b l) (flushCall out now) .number
   unfolding flushNumber roomNumber dueCount flushLent rowsLent setupHeld netHeld tillsHeld seenHeld waitingHeld blocksHeld logHeld
   number-is T = refl
 
-  pub refused : (r : ℕ) → r ≡ asks → (r ≡ 0 → ⊥) → DoesFlush s n n t e e w w b l l out out now (refusedBy r)
+  pub refused : (r : ℕ) → r ≡ asks → (r ≡ 0 → ⊥) → DoesFlush s n t e w b l n e w l now (refusedBy r) out out
   unfolding DoesFlush
   refused r q h = λ T.
-      let T₀ = lend T s n t e w b l in
+      let T₀ = lendFlush T s n t e w b l in
       let same = q ∙ number-is T in
       let still = reply.silenced T₀ (flushCall out now) r same h in
       (ap flushedOf (sym still), reply.stays T₀ (flushCall out now) r same h, sym (ap (λ (a : Reply). outputOf (a .answer) ++ drop (length (outputOf (a .answer))) out) still))
@@ -220,10 +226,10 @@ cleared-same tills slots g s h (c ∷ cs) seen =
 
 module _ (T : Tables) (s n t e w b l : List ℕ) where
   abbrev T₀ : Tables
-  T₀ = lend T s n t e w b l
+  T₀ = lendFlush T s n t e w b l
 
   abbrev L : Live
-  L = live (sizesAt s) (lend T s n t e w b l)
+  L = live (sizesAt s) (lendFlush T s n t e w b l)
 
   abbrev G : Live
   G = ground (extentsAt s n) t b
@@ -248,27 +254,37 @@ module _ (T : Tables) (s n t e w b l : List ℕ) where
   unfolding flushedBy movedOf
   counts cs = ap (λ (k : ℕ). record { number = 0; rows = k; delivered = count handled (rowsOf L cs); dropped = dropsOf L cs }) (sym (length-map (rowOf L) (lands L cs)))
 
-module _ (s n n′ t e e′ w w′ b l l′ out out′ : List ℕ) (now k : ℕ) (ek : k ≡ dueCount n w now) (h : Held s n t e w b l) (r : Flushed) (d : Worked (extentsAt s n) k n n′ t e e′ w w′ b l l′ out out′ r) where
+module _ (s n t e w b l n′ e′ w′ l′ out out′ : List ℕ) (now k : ℕ) (ek : k ≡ dueCount n w now) (h : Held s n t e w b l)
+    (r : Flushed) (d : Worked (extentsAt s n) k n t e w b l n′ e′ w′ l′ r out out′) where
   module _ (T : Tables) where
-    is-due : k ≡ length (served now (length out / rowWidth) (live (sizesAt s) (lend T s n t e w b l)))
+    is-due : k ≡ length (served now (length out / rowWidth) (live (sizesAt s) (lendFlush T s n t e w b l)))
     unfolding dueCount
     is-due = ek
 
     cs : List Copy
     cs = copies w k
 
-    first : served now (length out / rowWidth) (live (sizesAt s) (lend T s n t e w b l)) ≡ copies w k
+    first : served now (length out / rowWidth) (live (sizesAt s) (lendFlush T s n t e w b l)) ≡ copies w k
     unfolding dueCount
     first = due-first w (cell n waitingAt) now k ek
 
-    tables : lend T s (set n waitingAt (cell n waitingAt - k)) t (cleared (sizesAt s .tills) (sizesAt s .seenSlots) (live (sizesAt s) (lend T s n t e w b l)) (copies w k) e) (over waiting.form (drop k (copies w (cell n waitingAt))) w) b (recorded (sizesAt s .logSlots) (lands (live (sizesAt s) (lend T s n t e w b l)) (copies w k)) l) ≡ lend T s n′ t e′ w′ b l′
+    tables : lendFlush T s (set n waitingAt (cell n waitingAt - k)) t
+        (cleared (sizesAt s .tills) (sizesAt s .seenSlots) (live (sizesAt s) (lendFlush T s n t e w b l)) (copies w k) e)
+        (over waiting.form (drop k (copies w (cell n waitingAt))) w)
+        b
+        (recorded (sizesAt s .logSlots) (lands (live (sizesAt s) (lendFlush T s n t e w b l)) (copies w k)) l)
+        ≡ lendFlush T s n′ t e′ w′ b l′
     unfolding extentsAt
-    tables = λ j. lend T s (sym (d .net) j) t (sym (d .seen ∙ cleared-same (sizesAt s .tills) (sizesAt s .seenSlots) (ground (extentsAt s n) t b) (live (sizesAt s) (lend T s n t e w b l)) (same-stops T s n t e w b l) (copies w k) e) j) (sym (d .waiting) j) b (sym (d .log ∙ ap (λ (x : List Copy). recorded (sizesAt s .logSlots) x l) (same-lands T s n t e w b l (copies w k))) j)
+    tables =
+        let L = live (sizesAt s) (lendFlush T s n t e w b l) in
+        let marks = d .seen ∙ cleared-same (sizesAt s .tills) (sizesAt s .seenSlots) (ground (extentsAt s n) t b) L (same-stops T s n t e w b l) (copies w k) e in
+        let records = d .log ∙ ap (λ (x : List Copy). recorded (sizesAt s .logSlots) x l) (same-lands T s n t e w b l (copies w k)) in
+        λ j. lendFlush T s (sym (d .net) j) t (sym marks j) (sym (d .waiting) j) b (sym records j)
 
-  pub done : 0 ≡ asks s n t e w b l out now → DoesFlush s n n′ t e e′ w w′ b l l′ out out′ now r
+  pub done : 0 ≡ asks s n t e w b l out now → DoesFlush s n t e w b l n′ e′ w′ l′ now r out out′
   unfolding DoesFlush
   done q = λ T.
-      let T₀ = lend T s n t e w b l in
+      let T₀ = lendFlush T s n t e w b l in
       let L = live (sizesAt s) T₀ in
       let same = q ∙ number-is s n t e w b l out now T in
       let told = reply.answered T₀ (flushCall out now) 0 same refl in
@@ -293,9 +309,10 @@ extents-made s n = refl
 -- ---- The ways through `flush`
 
 module _ (s n t e w b l : List ℕ) where
-  pub refused-by : (out : List ℕ) (now r : ℕ) (v : Flushed) → r ≡ flushNumber s n t e w b l now 0 → (r ≡ 0 → ⊥) → v ≡ refusedBy r → DoesFlush s n n t e e w w b l l out out now v
+  pub refused-by : (out : List ℕ) (now r : ℕ) (v : Flushed) → r ≡ flushNumber s n t e w b l now 0 → (r ≡ 0 → ⊥) → v ≡ refusedBy r → DoesFlush s n t e w b l n e w l now v out out
   refused-by out now r v q h p =
-      subst (DoesFlush s n n t e e w w b l l out out now) (sym p) (refused s n t e w b l out now r (refused-first s n t e w b l now (roomNumber (dueCount n w now) (length out / rowWidth)) r q h) h)
+      subst (λ (x : Flushed). DoesFlush s n t e w b l n e w l now x out out) (sym p)
+      (refused s n t e w b l out now r (refused-first s n t e w b l now (roomNumber (dueCount n w now) (length out / rowWidth)) r q h) h)
 
   module _ (now r : ℕ) (q : r ≡ flushNumber s n t e w b l now 0) (h : r ≡ 0) where
     held : Held s n t e w b l
@@ -318,13 +335,16 @@ module _ (s n t e w b l : List ℕ) where
       asks-room : (m : ℕ) → m ≡ roomNumber k (length out / rowWidth) → m ≡ asks s n t e w b l out now
       asks-room m p = p ∙ ap (λ (i : ℕ). roomNumber i (length out / rowWidth)) is-due-count ∙ passed s n t e w b l now (roomNumber (dueCount n w now) (length out / rowWidth)) r q h .1
 
-      pub refused-room : length out / rowWidth < k → (v : Flushed) → v ≡ refusedBy 14 → DoesFlush s n n t e e w w b l l out out now v
-      refused-room f v p = subst (DoesFlush s n n t e e w w b l l out out now) (sym p) (refused s n t e w b l out now 14 (asks-room 14 (no-room k (length out / rowWidth) f)) (λ z. omega arith))
+      pub refused-room : length out / rowWidth < k → (v : Flushed) → v ≡ refusedBy 14 → DoesFlush s n t e w b l n e w l now v out out
+      refused-room f v p =
+          subst (λ (x : Flushed). DoesFlush s n t e w b l n e w l now x out out) (sym p)
+          (refused s n t e w b l out now 14 (asks-room 14 (no-room k (length out / rowWidth) f)) (λ z. omega arith))
 
       module _ (f : k ≤ length out / rowWidth) (z : Extents) (ez : z ≡ extentsAt s n) where
         pub ready-by : Ready z k n t e w b l out
         ready-by = subst (λ (x : Extents). Ready x k n t e w b l out) (sym ez) (ready s n t e w b l held now k is-due-count out f)
 
-        pub done-by : (n′ e′ w′ l′ out′ : List ℕ) (v : Flushed) → Worked z k n n′ t e e′ w w′ b l l′ out out′ v → DoesFlush s n n′ t e e′ w w′ b l l′ out out′ now v
+        pub done-by : (n′ e′ w′ l′ out′ : List ℕ) (v : Flushed) → Worked z k n t e w b l n′ e′ w′ l′ v out out′ → DoesFlush s n t e w b l n′ e′ w′ l′ now v out out′
         done-by n′ e′ w′ l′ out′ v d =
-            done s n n′ t e e′ w w′ b l l′ out out′ now k is-due-count held v (subst (λ (x : Extents). Worked x k n n′ t e e′ w w′ b l l′ out out′ v) ez d) (asks-room 0 (has-room k (length out / rowWidth) f))
+            done s n t e w b l n′ e′ w′ l′ out out′ now k is-due-count held v
+            (subst (λ (x : Extents). Worked x k n t e w b l n′ e′ w′ l′ v out out′) ez d) (asks-room 0 (has-room k (length out / rowWidth) f))

@@ -1,4 +1,5 @@
--- Document 01, 'The book', Flush, with questions 1, 7 and 14: THE CONTRACT of flush. Of the tables `setup`, `net`, `tills`, `seen`, `waiting`, `blocks` and `log` are lent; the others hold whatever they hold, and stay.
+-- Document 01, 'The book', Flush, with questions 1, 7 and 14: THE CONTRACT of flush. Of the tables `setup`, `net`, `tills`, `seen`, `waiting`, `blocks` and `log` are
+-- lent; the others hold whatever they hold, and stay.
 use mathlib.Core.Path.{_≡_}
 use mathlib.Core.Bool.{Bool, cond, _&&_, true}
 use mathlib.Core.List.{List}
@@ -13,15 +14,14 @@ use Rattle.spec_network.specs.Opening.{latestNow}
 use Rattle.spec_network.specs.Calls.{Call, flush, rowsIn, deliveredIn, dropsIn}
 use Rattle.spec_network.specs.Flush.{lands}
 use Rattle.spec_network.specs.Tables.{Tables, cell, sizesAt, netWidth, waitingAt, blocksAt}
-use Rattle.spec_network.specs.Writes.{Reply, rowWidth, callTables, callReply, callOutput}
+use Rattle.spec_network.specs.Lending.{lendFlush}
+use Rattle.spec_network.specs.Writes.{Reply, rowWidth}
+use Rattle.spec_network.specs.Contract.{DoesOut}
 use Rattle.ask_tables.specs.Held.{setupHeld, netHeld, tillsHeld, seenHeld, waitingHeld, blocksHeld, logHeld}
 use Rattle.call_flush_pass.specs.declared.Extents.{Extents}
 use Rattle.call_flush_pass.specs.declared.Moved.{Moved}
 use Rattle.call_flush_pass.specs.Pass.{ground, cleared, recorded, written, movedOf, Room, Due, SeenRoom, LogRoom}
 use Rattle.call_flush.specs.declared.Flushed.{Flushed}
-
-abbrev pub lend : Tables → (setup net tills seen waiting blocks log : List ℕ) → Tables
-lend T s n t e w b l = record { setup = s; net = n; names = T .names; tills = t; words = T .words; keys = T .keys; prices = T .prices; seen = e; waiting = w; rings = T .rings; rules = T .rules; blocks = b; log = l }
 
 -- how many rows, those of them with a handler, and drops; all 0 on a refusal
 abbrev pub flushedOf : Reply → Flushed
@@ -31,12 +31,9 @@ flushedOf q = record { number = q .number; rows = length (rowsIn (q .answer)); d
 abbrev pub flushCall : (out : List ℕ) (now : ℕ) → Call
 flushCall out now = flush now (length out / rowWidth)
 
-unfoldable pub DoesFlush : (setup net net′ tills seen seen′ waiting waiting′ blocks log log′ out out′ : List ℕ) (now : ℕ) → Flushed → Type 0
-DoesFlush s n n′ t e e′ w w′ b l l′ o o′ now r =
-    (T : Tables)
-    → (r ≡ flushedOf (callReply (lend T s n t e w b l) (flushCall o now)))
-    × (callTables (lend T s n t e w b l) (flushCall o now) ≡ lend T s n′ t e′ w′ b l′)
-    × (o′ ≡ callOutput (lend T s n t e w b l) (flushCall o now) o)
+unfoldable pub DoesFlush : (setup net tills seen waiting blocks log net′ seen′ waiting′ log′ : List ℕ) (now : ℕ) → Flushed → (out out′ : List ℕ) → Type 0
+DoesFlush s n t e w b l n′ e′ w′ l′ now r o o′ =
+    (T : Tables) → DoesOut flushedOf (lendFlush T s n t e w b l) (lendFlush T s n′ t e′ w′ b l′) (flushCall o now) r o o′
 
 -- ---- The questions as the code asks them
 
@@ -81,7 +78,7 @@ pub record Ready (z : Extents) (k : ℕ) (ns ts es ws bs ls os : List ℕ) : Typ
   pub within : k ≤ cell ns waitingAt
 
 -- each table and the reply once the first k of the waiting copies are flushed
-pub record Worked (z : Extents) (k : ℕ) (ns ns′ ts es es′ ws ws′ bs ls ls′ os os′ : List ℕ) (r : Flushed) : Type 0 where
+pub record Worked (z : Extents) (k : ℕ) (ns ts es ws bs ls ns′ es′ ws′ ls′ : List ℕ) (r : Flushed) (os os′ : List ℕ) : Type 0 where
   pub net : ns′ ≡ set ns waitingAt (cell ns waitingAt - k)
   pub seen : es′ ≡ cleared (z .tills) (z .slots) (ground z ts bs) (copies ws k) es
   pub waiting : ws′ ≡ over waiting.form (drop k (copies ws (cell ns waitingAt))) ws

@@ -63,7 +63,8 @@ fn lent(
     blocks: &[u64],
     log: &[u64],
 ) -> bool
-    ensures { λ r. ⌜ r ≡ flushLent (now (setup .entry)) (now (net .entry)) (now (tills .entry)) (now (seen .entry)) (now (waiting .entry)) (now (blocks .entry)) (now (log .entry)) ⌝ }
+    ensures { λ r. ⌜ r ≡ flushLent
+        (now (setup .entry)) (now (net .entry)) (now (tills .entry)) (now (seen .entry)) (now (waiting .entry)) (now (blocks .entry)) (now (log .entry)) ⌝ }
 {
     if !ask_tables::setup_held(setup) {
         return false;
@@ -91,7 +92,9 @@ fn refusal(
     log: &[u64],
     at: u64,
 ) -> u64
-    ensures { λ r. ⌜ r ≡ flushNumber (now (setup .entry)) (now (net .entry)) (now (tills .entry)) (now (seen .entry)) (now (waiting .entry)) (now (blocks .entry)) (now (log .entry)) at 0 ⌝ }
+    ensures { λ r. ⌜ r ≡ flushNumber
+        (now (setup .entry)) (now (net .entry)) (now (tills .entry)) (now (seen .entry)) (now (waiting .entry)) (now (blocks .entry)) (now (log .entry))
+        at 0 ⌝ }
 {
     if !lent(setup, net, tills, seen, waiting, blocks, log) {
         return 1;
@@ -115,7 +118,11 @@ fn work(
     k: usize,
 ) -> Flushed
     requires { ⌜ Ready z k (now net) (now tills) (now seen) (now waiting) (now blocks) (now log) (now out) ⌝ }
-    ensures { λ r. ⌜ Worked z k (now (net .entry)) (now (net .exit)) (now (tills .entry)) (now (seen .entry)) (now (seen .exit)) (now (waiting .entry)) (now (waiting .exit)) (now (blocks .entry)) (now (log .entry)) (now (log .exit)) (now (out .entry)) (now (out .exit)) r ⌝ }
+    ensures { λ r. ⌜ Worked z k
+        (now (net .entry)) (now (tills .entry)) (now (seen .entry)) (now (waiting .entry)) (now (blocks .entry)) (now (log .entry))
+        (now (net .exit)) (now (seen .exit)) (now (waiting .exit)) (now (log .exit))
+        r
+        (now (out .entry)) (now (out .exit)) ⌝ }
 {
     let m = call_flush_pass::pass(tills, blocks, waiting, seen, log, out, z, k);
     let n = net[ask_tables::WAITING] as usize;
@@ -148,7 +155,11 @@ pub fn flush(
     out: &mut [u64],
     at: u64,
 ) -> Flushed
-    ensures { λ r. ⌜ DoesFlush (now (setup .entry)) (now (net .entry)) (now (net .exit)) (now (tills .entry)) (now (seen .entry)) (now (seen .exit)) (now (waiting .entry)) (now (waiting .exit)) (now (blocks .entry)) (now (log .entry)) (now (log .exit)) (now (out .entry)) (now (out .exit)) at r ⌝ }
+    ensures { λ r. ⌜ DoesFlush
+        (now (setup .entry)) (now (net .entry)) (now (tills .entry)) (now (seen .entry)) (now (waiting .entry)) (now (blocks .entry)) (now (log .entry))
+        (now (net .exit)) (now (seen .exit)) (now (waiting .exit)) (now (log .exit))
+        at r
+        (now (out .entry)) (now (out .exit)) ⌝ }
 {
     let number = refusal(setup, net, tills, seen, waiting, blocks, log, at);
     if number != 0 {

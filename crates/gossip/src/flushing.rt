@@ -15,7 +15,11 @@ pub extern "C" fn gossip_flush(
     out: &mut [u64],
     at: u64,
 ) -> Flushed
-    ensures { λ r. ⌜ DoesFlush (now (setup .entry)) (now (net .entry)) (now (net .exit)) (now (tills .entry)) (now (seen .entry)) (now (seen .exit)) (now (waiting .entry)) (now (waiting .exit)) (now (blocks .entry)) (now (log .entry)) (now (log .exit)) (now (out .entry)) (now (out .exit)) at r ⌝ }
+    ensures { λ r. ⌜ DoesFlush
+        (now (setup .entry)) (now (net .entry)) (now (tills .entry)) (now (seen .entry)) (now (waiting .entry)) (now (blocks .entry)) (now (log .entry))
+        (now (net .exit)) (now (seen .exit)) (now (waiting .exit)) (now (log .exit))
+        at r
+        (now (out .entry)) (now (out .exit)) ⌝ }
 {
     call_flush::flush(setup, net, tills, seen, waiting, blocks, log, out, at)
 }

@@ -23,13 +23,34 @@ same-length-4 : tie.Need-same-length-4
 same-length-4 c = search needs
 
 returns : tie.Need-returns
-returns c = let a = c .before .before .before .before .before .before .before .before .before .before .before .before .before .before .before .args in refused-by (a .setup .now) (a .net .now) (a .tills .now) (a .seen .now) (a .waiting .now) (a .blocks .now) (a .log .now) (a .out .now) (a .at) _ _ (c .before .before .refusal .ensures) (c .before .if1 .taken) (c .refused .ensures)
+returns c =
+    let at-if1 = c .before in
+    let at-refusal = at-if1 .before in
+    let start = at-refusal .before .before .before .before .before .before .before .before .before .before .before .before .before in
+    let a = start .args in
+    refused-by (a .setup .now) (a .net .now) (a .tills .now) (a .seen .now) (a .waiting .now) (a .blocks .now) (a .log .now) (a .out .now) (a .at) _ _
+    (at-refusal .refusal .ensures) (at-if1 .if1 .taken) (c .refused .ensures)
 
 slice-read-due : tie.Need-slice-read-due
-slice-read-due c = let a = c .before .before .before .before .before .before .before .before .before .before .before .before .before .before .before .before .args in omega (arith, net-long (a .setup .now) (a .net .now) (a .tills .now) (a .seen .now) (a .waiting .now) (a .blocks .now) (a .log .now) (a .at) _ (c .before .before .before .refusal .ensures) (c .before .before .if1 .left))
+slice-read-due c =
+    let at-if1 = c .before .before in
+    let at-refusal = at-if1 .before in
+    let start = at-refusal .before .before .before .before .before .before .before .before .before .before .before .before .before in
+    let a = start .args in
+    omega (
+      arith,
+      net-long (a .setup .now) (a .net .now) (a .tills .now) (a .seen .now) (a .waiting .now) (a .blocks .now) (a .log .now) (a .at) _
+          (at-refusal .refusal .ensures) (at-if1 .if1 .left),
+    )
 
 due-requires : tie.Need-due-requires
-due-requires c κs = let a = c .before .before .before .before .before .before .before .before .before .before .before .before .before .before .before .before .args in rows-room (a .setup .now) (a .net .now) (a .tills .now) (a .seen .now) (a .waiting .now) (a .blocks .now) (a .log .now) (a .at) _ (c .before .before .before .refusal .ensures) (c .before .before .if1 .left)
+due-requires c κs =
+    let at-if1 = c .before .before in
+    let at-refusal = at-if1 .before in
+    let start = at-refusal .before .before .before .before .before .before .before .before .before .before .before .before .before in
+    let a = start .args in
+    rows-room (a .setup .now) (a .net .now) (a .tills .now) (a .seen .now) (a .waiting .now) (a .blocks .now) (a .log .now) (a .at) _ (at-refusal .refusal .ensures)
+    (at-if1 .if1 .left)
 
 refused-requires-2 : tie.Need-refused-requires-2
 refused-requires-2 c κs = search needs
@@ -47,13 +68,36 @@ same-length-8 : tie.Need-same-length-8
 same-length-8 c = search needs
 
 returns-2 : tie.Need-returns-2
-returns-2 c = let a = c .before .before .before .before .before .before .before .before .before .before .before .before .before .before .before .before .before .before .before .args in refused-room (a .setup .now) (a .net .now) (a .tills .now) (a .seen .now) (a .waiting .now) (a .blocks .now) (a .log .now) (a .at) _ (c .before .before .before .before .before .before .refusal .ensures) (c .before .before .before .before .before .if1 .left) (a .out .now) _ (c .before .before .due .ensures) (c .before .if2 .taken) _ (c .refused2 .ensures)
+returns-2 c =
+    let at-if2 = c .before in
+    let at-due = at-if2 .before in
+    let at-if1 = at-due .before .before .before in
+    let at-refusal = at-if1 .before in
+    let start = at-refusal .before .before .before .before .before .before .before .before .before .before .before .before .before in
+    let a = start .args in
+    refused-room (a .setup .now) (a .net .now) (a .tills .now) (a .seen .now) (a .waiting .now) (a .blocks .now) (a .log .now) (a .at) _ (at-refusal .refusal .ensures)
+    (at-if1 .if1 .left) (a .out .now) _ (at-due .due .ensures) (at-if2 .if2 .taken) _ (c .refused2 .ensures)
 
 extents-requires : tie.Need-extents-requires
-extents-requires c κs = let a = c .before .before .before .before .before .before .before .before .before .before .before .before .before .before .before .before .before .before .before .args in both-long (a .setup .now) (a .net .now) (a .tills .now) (a .seen .now) (a .waiting .now) (a .blocks .now) (a .log .now) (a .at) _ (c .before .before .before .before .before .before .refusal .ensures) (c .before .before .before .before .before .if1 .left)
+extents-requires c κs =
+    let at-if1 = c .before .before .before .before .before in
+    let at-refusal = at-if1 .before in
+    let start = at-refusal .before .before .before .before .before .before .before .before .before .before .before .before .before in
+    let a = start .args in
+    both-long (a .setup .now) (a .net .now) (a .tills .now) (a .seen .now) (a .waiting .now) (a .blocks .now) (a .log .now) (a .at) _ (at-refusal .refusal .ensures)
+    (at-if1 .if1 .left)
 
 work-requires : tie.Need-work-requires
-work-requires c κs = let a = c .before .before .before .before .before .before .before .before .before .before .before .before .before .before .before .before .before .before .before .before .before .before .before .before .before .args in ready-by (a .setup .now) (a .net .now) (a .tills .now) (a .seen .now) (a .waiting .now) (a .blocks .now) (a .log .now) (a .at) _ (c .before .before .before .before .before .before .before .before .before .before .before .before .refusal .ensures) (c .before .before .before .before .before .before .before .before .before .before .before .if1 .left) (a .out .now) _ (c .before .before .before .before .before .before .before .before .due .ensures) (c .before .before .before .before .before .before .before .if2 .left) _ (c .before .before .before .before .before .extents .ensures)
+work-requires c κs =
+    let at-extents = c .before .before .before .before .before in
+    let at-if2 = at-extents .before .before in
+    let at-due = at-if2 .before in
+    let at-if1 = at-due .before .before .before in
+    let at-refusal = at-if1 .before in
+    let start = at-refusal .before .before .before .before .before .before .before .before .before .before .before .before .before in
+    let a = start .args in
+    ready-by (a .setup .now) (a .net .now) (a .tills .now) (a .seen .now) (a .waiting .now) (a .blocks .now) (a .log .now) (a .at) _ (at-refusal .refusal .ensures)
+    (at-if1 .if1 .left) (a .out .now) _ (at-due .due .ensures) (at-if2 .if2 .left) _ (at-extents .extents .ensures)
 
 same-length-9 : tie.Need-same-length-9
 same-length-9 c = search needs
@@ -71,7 +115,17 @@ same-length-13 : tie.Need-same-length-13
 same-length-13 c = search needs
 
 returns-3 : tie.Need-returns-3
-returns-3 c = let a = c .before .before .before .before .before .before .before .before .before .before .before .before .before .before .before .before .before .before .before .before .before .before .before .before .before .before .before .before .before .before .before .before .before .before .before .before .args in done-by (a .setup .now) (a .net .now) (a .tills .now) (a .seen .now) (a .waiting .now) (a .blocks .now) (a .log .now) (a .at) _ (c .before .before .before .before .before .before .before .before .before .before .before .before .before .before .before .before .before .before .before .before .before .before .before .refusal .ensures) (c .before .before .before .before .before .before .before .before .before .before .before .before .before .before .before .before .before .before .before .before .before .before .if1 .left) (a .out .now) _ (c .before .before .before .before .before .before .before .before .before .before .before .before .before .before .before .before .before .before .before .due .ensures) (c .before .before .before .before .before .before .before .before .before .before .before .before .before .before .before .before .before .before .if2 .left) _ (c .before .before .before .before .before .before .before .before .before .before .before .before .before .before .before .before .extents .ensures) _ _ _ _ _ _ (c .before .before .before .before .before .before .before .before .before .before .work .ensures)
+returns-3 c =
+    let at-work = c .before .before .before .before .before .before .before .before .before .before in
+    let at-extents = at-work .before .before .before .before .before .before in
+    let at-if2 = at-extents .before .before in
+    let at-due = at-if2 .before in
+    let at-if1 = at-due .before .before .before in
+    let at-refusal = at-if1 .before in
+    let start = at-refusal .before .before .before .before .before .before .before .before .before .before .before .before .before in
+    let a = start .args in
+    done-by (a .setup .now) (a .net .now) (a .tills .now) (a .seen .now) (a .waiting .now) (a .blocks .now) (a .log .now) (a .at) _ (at-refusal .refusal .ensures)
+    (at-if1 .if1 .left) (a .out .now) _ (at-due .due .ensures) (at-if2 .if2 .left) _ (at-extents .extents .ensures) _ _ _ _ _ _ (at-work .work .ensures)
 
 pub flush-spec : {M : Type 1} → statement M
 flush-spec =

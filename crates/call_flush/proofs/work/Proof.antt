@@ -38,7 +38,12 @@ same-length-5 : tie.Need-same-length-5
 same-length-5 c = search needs
 
 returns : tie.Need-returns
-returns c = let p = c .before .before .before .before .before .before .before .before .before .before .before .before .pass .ensures in record { net = refl; seen = p .seen; waiting = c .before .before .before .drop-front .ensures; log = p .log; out = p .out; reply = c .answered .ensures ∙ ap flushedBy (p .counts) }
+returns c =
+    let at-drop-front = c .before .before .before in
+    let at-pass = at-drop-front .before .before .before .before .before .before .before .before .before in
+    let p = at-pass .pass .ensures in
+    record
+    { net = refl; seen = p .seen; waiting = at-drop-front .drop-front .ensures; log = p .log; out = p .out; reply = c .answered .ensures ∙ ap flushedBy (p .counts) }
 
 pub work-spec : {M : Type 1} → statement M
 work-spec =
