@@ -12,9 +12,10 @@ use Rattle.spec_network.specs.Accept.{Entry, messageOf, Counts, noCounts, booke
 use Rattle.spec_network.specs.Calls.{Call, accept}
 use Rattle.spec_network.specs.Tables.{Tables, live, sizesAt}
 use Rattle.spec_network.specs.Real.{idOf, drawsOf, openingAt}
-use Rattle.spec_network.specs.Writes.{acceptT, callTables, callReply}
+use Rattle.spec_network.specs.Writes.{acceptT, callReply}
 use Rattle.call_reply.proofs.Laws.{silenced, stays, answered, steps}
-use Rattle.spec_network.specs.Lending.{tablesOf}
+use Rattle.spec_network.specs.Lending.{lendAccept}
+use Rattle.spec_network.specs.Contract.{Does}
 use Rattle.call_offer.specs.declared.Message.{Message}
 use Rattle.call_offer.specs.Offering.{told}
 use Rattle.call_offer.specs.Needed.{SeenHeld}
@@ -29,11 +30,11 @@ use Rattle.call_accept.proofs.Numbers.{chosen-is, number-shut, number-e
 module _ (T : Tables) (e : Entry) where
   -- a number refuses it
   pub refused-by : (b : Bool) (n : ℕ) (r : Accepted) → n ≡ callReply T (accept e b) .number → (n ≡ 0 → ⊥) → r ≡ countedAs n noCounts
-      → (r ≡ acceptedOf (callReply T (accept e b))) × (callTables T (accept e b) ≡ T)
+      → Does acceptedOf T T (accept e b) r
   refused-by b n r q h p = (p ∙ ap acceptedOf (sym (silenced T (accept e b) n q h)), stays T (accept e b) n q h)
 
   -- the payload does not open
-  pub unopened : (r : Accepted) → 0 ≡ callReply T (accept e false) .number → r ≡ countedAs 0 noCounts → (r ≡ acceptedOf (callReply T (accept e false))) × (callTables T (accept e false) ≡ T)
+  pub unopened : (r : Accepted) → 0 ≡ callReply T (accept e false) .number → r ≡ countedAs 0 noCounts → Does acceptedOf T T (accept e false) r
   unopened r q p = (p ∙ ap acceptedOf (sym (answered T (accept e false) 0 q refl)), steps T (accept e false) 0 q refl)
 
   -- the recipients are served
@@ -41,7 +42,7 @@ module _ (T : Tables) (e : Entry) where
     pub served : (T′ : Tables) (c : counts.Counts) (r : Accepted) → 0 ≡ callReply T (accept e true) .number → r ≡ countedAs 0 (countsOf c)
         → T′ ≡ acceptT (openingAt T) (told m) T (left (T .setup) (T .tills) m 0)
         → countsOf c ≡ tally (booked (openingAt T) (told m) (live (sizesAt (T .setup)) T) (left (T .setup) (T .tills) m 0))
-        → (r ≡ acceptedOf (callReply T (accept e true))) × (callTables T (accept e true) ≡ T′)
+        → Does acceptedOf T T′ (accept e true) r
     served T′ c r q p w k =
         let ts = chosen-is T e m from scope in (
           p ∙ ap (countedAs 0) (k ∙ (λ j. tally (booked (openingAt T) (same j) (live (sizesAt (T .setup)) T) (sym ts j)))) ∙ ap acceptedOf (sym (answered T (accept e true) 0 q refl)),
@@ -50,7 +51,7 @@ module _ (T : Tables) (e : Entry) where
 
 -- ---- The contract
 
-module _ (setup names tills keys prices blocks net words seen waiting rings rules wire : List ℕ) (from at kind class scope tag opens : ℕ) where
+module _ (setup net names tills words keys prices seen waiting rings rules blocks wire : List ℕ) (from at kind class scope tag opens : ℕ) where
   abbrev e : Entry
   e = entryOf wire from at kind class scope tag
 
@@ -58,31 +59,31 @@ module _ (setup names tills keys prices blocks net words seen waiting rings rule
   call = callOf wire from at kind class scope tag opens
 
   abbrev Same : Accepted → Type 0
-  Same r = DoesAccept setup names tills keys prices blocks net words seen waiting rings rules net words seen waiting rings rules call r
+  Same r = DoesAccept setup net names tills words keys prices seen waiting rings rules blocks net words seen waiting rings rules call r
 
   -- by whether the payload opens
-  by : (T T′ : Tables) (r : Accepted) (b : Bool) → not (eqb opens 0) ≡ b → (r ≡ acceptedOf (callReply T (accept e b))) × (callTables T (accept e b) ≡ T′)
-      → (r ≡ acceptedOf (callReply T call)) × (callTables T call ≡ T′)
-  by T T′ r b q h = subst (λ (x : Bool). (r ≡ acceptedOf (callReply T (accept e x))) × (callTables T (accept e x) ≡ T′)) (sym q) h
+  by : (T T′ : Tables) (r : Accepted) (b : Bool) → not (eqb opens 0) ≡ b → Does acceptedOf T T′ (accept e b) r
+      → Does acceptedOf T T′ call r
+  by T T′ r b q h = subst (λ (x : Bool). Does acceptedOf T T′ (accept e x) r) (sym q) h
 
   pub shut : acceptLent setup net names tills words keys prices seen waiting rings rules blocks ≡ false → (r : Accepted) → r ≡ countedAs 1 noCounts → Same r
   unfolding DoesAccept
-  shut h r p = λ log.
-      let T = tablesOf setup net names tills words keys prices seen waiting rings rules blocks log in
+  shut h r p = λ L.
+      let T = lendAccept L setup net names tills words keys prices seen waiting rings rules blocks in
       refused-by T e (not (eqb opens 0)) 1 r (number-shut T e (not (eqb opens 0)) h) (λ z. omega arith) p
 
   module _ (lends : acceptLent setup net names tills words keys prices seen waiting rings rules blocks ≡ true) (k : ℕ) (asked : k ≡ argumentNumber setup from kind class scope (length wire) at 0) where
     pub early : (k ≡ 0 → ⊥) → (r : Accepted) → r ≡ countedAs k noCounts → Same r
     unfolding DoesAccept
-    early h r p = λ log.
-        let T = tablesOf setup net names tills words keys prices seen waiting rings rules blocks log in
+    early h r p = λ L.
+        let T = lendAccept L setup net names tills words keys prices seen waiting rings rules blocks in
         refused-by T e (not (eqb opens 0)) k r (number-early T e lends (not (eqb opens 0)) k asked h) h p
 
     module _ (passed : k ≡ 0) where
       pub closed : opens ≡ 0 → (r : Accepted) → r ≡ countedAs 0 noCounts → Same r
       unfolding DoesAccept
-      closed z r p = λ log.
-          let T = tablesOf setup net names tills words keys prices seen waiting rings rules blocks log in
+      closed z r p = λ L.
+          let T = lendAccept L setup net names tills words keys prices seen waiting rings rules blocks in
           by T T r false (ap not (eq-eqb opens 0 z)) (unopened T e r (number-closed T e lends 0 (sym passed ∙ asked)) p)
 
       module _ (opened : opens ≡ 0 → ⊥) (id : ℕ) (is : id ≡ idOf names kind scope wire) (S : SeenHeld (sizesAt setup) seen) where
@@ -92,20 +93,22 @@ module _ (setup names tills keys prices blocks net words seen waiting rings rule
         module _ (t : ℕ) (tail : t ≡ tailNumber setup net tills words seen message) where
           pub full : (t ≡ 0 → ⊥) → (r : Accepted) → r ≡ countedAs t noCounts → Same r
           unfolding DoesAccept
-          full h r p = λ log.
-              let T = tablesOf setup net names tills words keys prices seen waiting rings rules blocks log in
+          full h r p = λ L.
+              let T = lendAccept L setup net names tills words keys prices seen waiting rings rules blocks in
               by T T r true (ap not (ne-eqb opens 0 opened)) (refused-by T e true t r (number-late T e lends message refl refl is S k t asked passed tail) h p)
 
           same-message : (T : Tables) → T .names ≡ names → told message ≡ messageOf (openingAt T) e
           unfolding drawsOf
-          same-message T q = ap (λ (i : ℕ). record { from = from; now = at; kind = kind; class = class; scope = scope; wire = length wire; id = i; tag = tag }) (is ∙ ap (λ (l : List ℕ). idOf l kind scope wire) (sym q))
+          same-message T q =
+              ap (λ (i : ℕ). record { from = from; now = at; kind = kind; class = class; scope = scope; wire = length wire; id = i; tag = tag })
+              (is ∙ ap (λ (l : List ℕ). idOf l kind scope wire) (sym q))
 
           pub delivered : t ≡ 0 → (net′ words′ seen′ waiting′ rings′ rules′ : List ℕ) (c : counts.Counts) (r : Accepted) → r ≡ countedAs 0 (countsOf c)
               → Served setup tills keys prices blocks net words seen waiting rings rules net′ words′ seen′ waiting′ rings′ rules′ message c
-              → DoesAccept setup names tills keys prices blocks net words seen waiting rings rules net′ words′ seen′ waiting′ rings′ rules′ call r
+              → DoesAccept setup net names tills words keys prices seen waiting rings rules blocks net′ words′ seen′ waiting′ rings′ rules′ call r
           unfolding DoesAccept Served
-          delivered z net′ words′ seen′ waiting′ rings′ rules′ c r p w = λ log.
-              let T = tablesOf setup net names tills words keys prices seen waiting rings rules blocks log in
-              let T′ = tablesOf setup net′ names tills words′ keys prices seen′ waiting′ rings′ rules′ blocks log in
+          delivered z net′ words′ seen′ waiting′ rings′ rules′ c r p w = λ L.
+              let T = lendAccept L setup net names tills words keys prices seen waiting rings rules blocks in
+              let T′ = lendAccept L setup net′ names tills words′ keys prices seen′ waiting′ rings′ rules′ blocks in
               by T T′ r true (ap not (ne-eqb opens 0 opened))
-              (served T e message (same-message T refl) refl refl T′ c r (sym z ∙ number-late T e lends message refl refl is S k t asked passed tail) p (w names log .0) (w names log .1))
+              (served T e message (same-message T refl) refl refl T′ c r (sym z ∙ number-late T e lends message refl refl is S k t asked passed tail) p (w names (L .log) .0) (w names (L .log) .1))

@@ -1,13 +1,14 @@
 -- Document 01, 'The book', Accept, with questions 1 and 4 to 11: THE CONTRACT of accept. Every table but the log is lent; the log holds whatever it holds, and stays.
 use Prim.Native.Nat.{ℕ}
-use mathlib.Core.Path.{_≡_}
 use mathlib.Core.Bool.{not}
 use mathlib.Core.List.{List}
 use lib.Dec.{eqb}
 use Rattle.spec_network.specs.Accept.{Entry, Counts}
 use Rattle.spec_network.specs.Calls.{Call, accept, countsIn}
-use Rattle.spec_network.specs.Writes.{Reply, callTables, callReply}
-use Rattle.spec_network.specs.Lending.{tablesOf}
+use Rattle.spec_network.specs.Tables.{Tables}
+use Rattle.spec_network.specs.Lending.{lendAccept}
+use Rattle.spec_network.specs.Writes.{Reply}
+use Rattle.spec_network.specs.Contract.{Does}
 use Rattle.call_accept.specs.declared.Accepted.{Accepted}
 
 -- the arguments as `Accept` has them; `opens` is 0 for a payload that does not open
@@ -24,7 +25,11 @@ countedAs n c = record { number = n; sent = c .sent; deduplicated = c .deduplica
 abbrev pub acceptedOf : Reply → Accepted
 acceptedOf q = countedAs (q .number) (countsIn (q .answer))
 
-unfoldable pub DoesAccept : (setup names tills keys prices blocks : List ℕ) (net words seen waiting rings rules net′ words′ seen′ waiting′ rings′ rules′ : List ℕ) → Call → Accepted → Type 0
-DoesAccept setup names tills keys prices blocks net words seen waiting rings rules net′ words′ seen′ waiting′ rings′ rules′ c r =
-    (log : List ℕ) → let T = tablesOf setup net names tills words keys prices seen waiting rings rules blocks log in
-    (r ≡ acceptedOf (callReply T c)) × (callTables T c ≡ tablesOf setup net′ names tills words′ keys prices seen′ waiting′ rings′ rules′ blocks log)
+unfoldable pub DoesAccept : (setup net names tills words keys prices seen waiting rings rules blocks net′ words′ seen′ waiting′ rings′ rules′ : List ℕ) → Call → Accepted → Type 0
+DoesAccept setup net names tills words keys prices seen waiting rings rules blocks net′ words′ seen′ waiting′ rings′ rules′ call r =
+    (T : Tables)
+    → Does acceptedOf
+    (lendAccept T setup net names tills words keys prices seen waiting rings rules blocks)
+    (lendAccept T setup net′ names tills words′ keys prices seen′ waiting′ rings′ rules′ blocks)
+    call
+    r

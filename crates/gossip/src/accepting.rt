@@ -26,7 +26,11 @@ pub extern "C" fn gossip_accept(
     tag: u64,
     opens: u64,
 ) -> Accepted
-    ensures { λ r. ⌜ DoesAccept (now (setup .entry)) (now (names .entry)) (now (tills .entry)) (now (keys .entry)) (now (prices .entry)) (now (blocks .entry)) (now (net .entry)) (now (words .entry)) (now (seen .entry)) (now (waiting .entry)) (now (rings .entry)) (now (rules .entry)) (now (net .exit)) (now (words .exit)) (now (seen .exit)) (now (waiting .exit)) (now (rings .exit)) (now (rules .exit)) (callOf (now (wire .entry)) «from» at kind «class» scope tag opens) r ⌝ }
+    ensures { λ r. ⌜ DoesAccept
+        (now (setup .entry)) (now (net .entry)) (now (names .entry)) (now (tills .entry)) (now (words .entry)) (now (keys .entry))
+        (now (prices .entry)) (now (seen .entry)) (now (waiting .entry)) (now (rings .entry)) (now (rules .entry)) (now (blocks .entry))
+        (now (net .exit)) (now (words .exit)) (now (seen .exit)) (now (waiting .exit)) (now (rings .exit)) (now (rules .exit))
+        (callOf (now (wire .entry)) «from» at kind «class» scope tag opens) r ⌝ }
 {
     call_accept::accept(
         setup,

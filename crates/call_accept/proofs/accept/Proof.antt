@@ -1,5 +1,6 @@
 use Rattle.call_accept.proofs.Calling.{shut, early, closed, full, delivered}
 use Rattle.call_accept.proofs.Facts.{lent-says, fixed, seen-held, asked-facts, going, arguments-say, scope-in, named}
+use Rattle.call_offer.specs.declared.Message.{Message}
 use Rattle.ask_tables.proofs.Ladder.{is-no, is-yes}
 use lib.ListN.{length}
 use mathlib.Core.Path.{sym, _∙_}
@@ -32,10 +33,24 @@ same-length-6 : tie.Need-same-length-6
 same-length-6 c = search needs
 
 returns : tie.Need-returns
-returns c = let a = c .before .before .before .before .before .before .before .before .before .before .before .before .before .before .before .before .before .before .before .before .before .before .args in shut (a .setup .now) (a .names .now) (a .tills .now) (a .keys .now) (a .prices .now) (a .blocks .now) (a .net .now) (a .words .now) (a .seen .now) (a .waiting .now) (a .rings .now) (a .rules .now) (a .wire .now) (a .from) (a .at) (a .kind) (a .class) (a .scope) (a .tag) (a .opens) (is-no _ _ (c .before .before .lent .ensures) (c .before .if1 .taken)) (c .refused .result) (c .refused .ensures)
+returns c =
+    let at-if1 = c .before in
+    let at-lent = at-if1 .before in
+    let start = at-lent .before .before .before .before .before .before .before .before .before .before .before .before .before .before .before .before .before .before .before .before in
+    let a = start .args in
+    shut (a .setup .now) (a .net .now) (a .names .now) (a .tills .now) (a .words .now) (a .keys .now) (a .prices .now) (a .seen .now) (a .waiting .now) (a .rings .now)
+    (a .rules .now) (a .blocks .now) (a .wire .now) (a .from) (a .at) (a .kind) (a .class) (a .scope) (a .tag) (a .opens)
+    (is-no _ _ (at-lent .lent .ensures) (at-if1 .if1 .taken)) (c .refused .result) (c .refused .ensures)
 
 arguments-requires : tie.Need-arguments-requires
-arguments-requires c κs = let a = c .before .before .before .before .before .before .before .before .before .before .before .before .before .before .before .before .before .before .before .before .before .args in (lent-says (a .setup .now) (a .net .now) (a .names .now) (a .tills .now) (a .words .now) (a .keys .now) (a .prices .now) (a .seen .now) (a .waiting .now) (a .rings .now) (a .rules .now) (a .blocks .now) (is-yes _ _ (c .before .lent .ensures) (c .if1 .left))) .setupSays .size
+arguments-requires c κs =
+    let at-lent = c .before in
+    let start = at-lent .before .before .before .before .before .before .before .before .before .before .before .before .before .before .before .before .before .before .before .before in
+    let a = start .args in
+    let p =
+    lent-says (a .setup .now) (a .net .now) (a .names .now) (a .tills .now) (a .words .now) (a .keys .now) (a .prices .now) (a .seen .now) (a .waiting .now)
+    (a .rings .now) (a .rules .now) (a .blocks .now) (is-yes _ _ (at-lent .lent .ensures) (c .if1 .left)) in
+    p .setupSays .size
 
 refused-requires-2 : tie.Need-refused-requires-2
 refused-requires-2 c κs = search needs
@@ -59,7 +74,17 @@ same-length-12 : tie.Need-same-length-12
 same-length-12 c = search needs
 
 returns-2 : tie.Need-returns-2
-returns-2 c = let a = c .before .before .before .before .before .before .before .before .before .before .before .before .before .before .before .before .before .before .before .before .before .before .before .before .args in early (a .setup .now) (a .names .now) (a .tills .now) (a .keys .now) (a .prices .now) (a .blocks .now) (a .net .now) (a .words .now) (a .seen .now) (a .waiting .now) (a .rings .now) (a .rules .now) (a .wire .now) (a .from) (a .at) (a .kind) (a .class) (a .scope) (a .tag) (a .opens) (is-yes _ _ (c .before .before .before .before .lent .ensures) (c .before .before .before .if1 .left)) (c .before .before .arguments .result) (c .before .before .arguments .ensures) (c .before .if2 .taken) (c .refused2 .result) (c .refused2 .ensures)
+returns-2 c =
+    let at-if2 = c .before in
+    let at-arguments = at-if2 .before in
+    let at-if1 = at-arguments .before in
+    let at-lent = at-if1 .before in
+    let start = at-lent .before .before .before .before .before .before .before .before .before .before .before .before .before .before .before .before .before .before .before .before in
+    let a = start .args in
+    early (a .setup .now) (a .net .now) (a .names .now) (a .tills .now) (a .words .now) (a .keys .now) (a .prices .now) (a .seen .now) (a .waiting .now) (a .rings .now)
+    (a .rules .now) (a .blocks .now) (a .wire .now) (a .from) (a .at) (a .kind) (a .class) (a .scope) (a .tag) (a .opens)
+    (is-yes _ _ (at-lent .lent .ensures) (at-if1 .if1 .left)) (at-arguments .arguments .result) (at-arguments .arguments .ensures) (at-if2 .if2 .taken)
+    (c .refused2 .result) (c .refused2 .ensures)
 
 refused-requires-3 : tie.Need-refused-requires-3
 refused-requires-3 c κs = search needs
@@ -83,13 +108,58 @@ same-length-18 : tie.Need-same-length-18
 same-length-18 c = search needs
 
 returns-3 : tie.Need-returns-3
-returns-3 c = let a = c .before .before .before .before .before .before .before .before .before .before .before .before .before .before .before .before .before .before .before .before .before .before .before .before .before .args in closed (a .setup .now) (a .names .now) (a .tills .now) (a .keys .now) (a .prices .now) (a .blocks .now) (a .net .now) (a .words .now) (a .seen .now) (a .waiting .now) (a .rings .now) (a .rules .now) (a .wire .now) (a .from) (a .at) (a .kind) (a .class) (a .scope) (a .tag) (a .opens) (is-yes _ _ (c .before .before .before .before .before .lent .ensures) (c .before .before .before .before .if1 .left)) (c .before .before .before .arguments .result) (c .before .before .before .arguments .ensures) (c .before .before .if2 .left) (c .before .if3 .taken) (c .refused3 .result) (c .refused3 .ensures)
+returns-3 c =
+    let at-if3 = c .before in
+    let at-if2 = at-if3 .before in
+    let at-arguments = at-if2 .before in
+    let at-if1 = at-arguments .before in
+    let at-lent = at-if1 .before in
+    let start = at-lent .before .before .before .before .before .before .before .before .before .before .before .before .before .before .before .before .before .before .before .before in
+    let a = start .args in
+    closed (a .setup .now) (a .net .now) (a .names .now) (a .tills .now) (a .words .now) (a .keys .now) (a .prices .now) (a .seen .now) (a .waiting .now) (a .rings .now)
+    (a .rules .now) (a .blocks .now) (a .wire .now) (a .from) (a .at) (a .kind) (a .class) (a .scope) (a .tag) (a .opens)
+    (is-yes _ _ (at-lent .lent .ensures) (at-if1 .if1 .left)) (at-arguments .arguments .result) (at-arguments .arguments .ensures) (at-if2 .if2 .left)
+    (at-if3 .if3 .taken) (c .refused3 .result) (c .refused3 .ensures)
 
 id-of-requires : tie.Need-id-of-requires
-id-of-requires c κs = let a = c .before .before .before .before .before .before .before .before .before .before .before .before .before .before .before .before .before .before .before .before .before .before .before .before .args in let p = lent-says (a .setup .now) (a .net .now) (a .names .now) (a .tills .now) (a .words .now) (a .keys .now) (a .prices .now) (a .seen .now) (a .waiting .now) (a .rings .now) (a .rules .now) (a .blocks .now) (is-yes _ _ (c .before .before .before .before .lent .ensures) (c .before .before .before .if1 .left)) in (named (a .setup .now) (a .names .now) (a .from) (a .kind) (a .class) (a .scope) (length (a .wire .now)) (a .at) (p .setupSays) (p .namesSay) (arguments-say (a .setup .now) (a .from) (a .kind) (a .class) (a .scope) (length (a .wire .now)) (a .at) (c .before .before .arguments .result) (c .before .before .arguments .ensures) (c .before .if2 .left)), (arguments-say (a .setup .now) (a .from) (a .kind) (a .class) (a .scope) (length (a .wire .now)) (a .at) (c .before .before .arguments .result) (c .before .before .arguments .ensures) (c .before .if2 .left)) .short)
+id-of-requires c κs =
+    let at-if2 = c .before in
+    let at-arguments = at-if2 .before in
+    let at-if1 = at-arguments .before in
+    let at-lent = at-if1 .before in
+    let start = at-lent .before .before .before .before .before .before .before .before .before .before .before .before .before .before .before .before .before .before .before .before in
+    let a = start .args in
+    let p =
+    lent-says (a .setup .now) (a .net .now) (a .names .now) (a .tills .now) (a .words .now) (a .keys .now) (a .prices .now) (a .seen .now) (a .waiting .now)
+    (a .rings .now) (a .rules .now) (a .blocks .now) (is-yes _ _ (at-lent .lent .ensures) (at-if1 .if1 .left)) in
+    let q =
+    arguments-say (a .setup .now) (a .from) (a .kind) (a .class) (a .scope) (length (a .wire .now)) (a .at) (at-arguments .arguments .result)
+    (at-arguments .arguments .ensures) (at-if2 .if2 .left) in
+    (named (a .setup .now) (a .names .now) (a .from) (a .kind) (a .class) (a .scope) (length (a .wire .now)) (a .at) (p .setupSays) (p .namesSay) q, q .short)
 
 tail-requires : tie.Need-tail-requires
-tail-requires c κs = let a = c .before .before .before .before .before .before .before .before .before .before .before .before .before .before .before .before .before .before .before .before .before .before .before .before .before .before .before .before .args in let p = lent-says (a .setup .now) (a .net .now) (a .names .now) (a .tills .now) (a .words .now) (a .keys .now) (a .prices .now) (a .seen .now) (a .waiting .now) (a .rings .now) (a .rules .now) (a .blocks .now) (is-yes _ _ (c .before .before .before .before .before .before .before .before .lent .ensures) (c .before .before .before .before .before .before .before .if1 .left)) in let q = arguments-say (a .setup .now) (a .from) (a .kind) (a .class) (a .scope) (length (a .wire .now)) (a .at) (c .before .before .before .before .before .before .arguments .result) (c .before .before .before .before .before .before .arguments .ensures) (c .before .before .before .before .before .if2 .left) in (asked-facts (a .setup .now) (a .net .now) (a .names .now) (a .tills .now) (a .words .now) (a .keys .now) (a .prices .now) (a .seen .now) (a .waiting .now) (a .rings .now) (a .rules .now) (a .blocks .now) p (record { from = a .from; now = a .at; kind = a .kind; class = a .class; scope = a .scope; wire = length (a .wire .now); id = c .before .before .before .id-of .result; tag = a .tag }) (q .sender) (scope-in (a .setup .now) (a .scope) (p .setupSays .sizes .shards) (q .target)), p .wordsSize, seen-held (a .setup .now) (a .net .now) (a .names .now) (a .tills .now) (a .words .now) (a .keys .now) (a .prices .now) (a .seen .now) (a .waiting .now) (a .rings .now) (a .rules .now) (a .blocks .now) p, p .netSays .size)
+tail-requires c κs =
+    let at-id-of = c .before .before .before in
+    let at-if2 = at-id-of .before .before in
+    let at-arguments = at-if2 .before in
+    let at-if1 = at-arguments .before in
+    let at-lent = at-if1 .before in
+    let start = at-lent .before .before .before .before .before .before .before .before .before .before .before .before .before .before .before .before .before .before .before .before in
+    let a = start .args in
+    let p =
+    lent-says (a .setup .now) (a .net .now) (a .names .now) (a .tills .now) (a .words .now) (a .keys .now) (a .prices .now) (a .seen .now) (a .waiting .now)
+    (a .rings .now) (a .rules .now) (a .blocks .now) (is-yes _ _ (at-lent .lent .ensures) (at-if1 .if1 .left)) in
+    let q =
+    arguments-say (a .setup .now) (a .from) (a .kind) (a .class) (a .scope) (length (a .wire .now)) (a .at) (at-arguments .arguments .result)
+    (at-arguments .arguments .ensures) (at-if2 .if2 .left) in
+    let m : Message = record { from = a .from; now = a .at; kind = a .kind; class = a .class; scope = a .scope; wire = length (a .wire .now); id = at-id-of .id-of .result; tag = a .tag } in (
+      asked-facts (a .setup .now) (a .net .now) (a .names .now) (a .tills .now) (a .words .now) (a .keys .now) (a .prices .now) (a .seen .now) (a .waiting .now)
+          (a .rings .now) (a .rules .now) (a .blocks .now) p m (q .sender) (scope-in (a .setup .now) (a .scope) (p .setupSays .sizes .shards) (q .target)),
+      p .wordsSize,
+      seen-held (a .setup .now) (a .net .now) (a .names .now) (a .tills .now) (a .words .now) (a .keys .now) (a .prices .now) (a .seen .now) (a .waiting .now)
+          (a .rings .now) (a .rules .now) (a .blocks .now) p,
+      p .netSays .size,
+    )
 
 refused-requires-4 : tie.Need-refused-requires-4
 refused-requires-4 c κs = search needs
@@ -113,10 +183,53 @@ same-length-24 : tie.Need-same-length-24
 same-length-24 c = search needs
 
 returns-4 : tie.Need-returns-4
-returns-4 c = let a = c .before .before .before .before .before .before .before .before .before .before .before .before .before .before .before .before .before .before .before .before .before .before .before .before .before .before .before .before .before .before .before .args in full (a .setup .now) (a .names .now) (a .tills .now) (a .keys .now) (a .prices .now) (a .blocks .now) (a .net .now) (a .words .now) (a .seen .now) (a .waiting .now) (a .rings .now) (a .rules .now) (a .wire .now) (a .from) (a .at) (a .kind) (a .class) (a .scope) (a .tag) (a .opens) (is-yes _ _ (c .before .before .before .before .before .before .before .before .before .before .before .lent .ensures) (c .before .before .before .before .before .before .before .before .before .before .if1 .left)) (c .before .before .before .before .before .before .before .before .before .arguments .result) (c .before .before .before .before .before .before .before .before .before .arguments .ensures) (c .before .before .before .before .before .before .before .before .if2 .left) (c .before .before .before .before .before .before .before .if3 .left) (c .before .before .before .before .before .before .id-of .result) (c .before .before .before .before .before .before .id-of .ensures) (seen-held (a .setup .now) (a .net .now) (a .names .now) (a .tills .now) (a .words .now) (a .keys .now) (a .prices .now) (a .seen .now) (a .waiting .now) (a .rings .now) (a .rules .now) (a .blocks .now) (lent-says (a .setup .now) (a .net .now) (a .names .now) (a .tills .now) (a .words .now) (a .keys .now) (a .prices .now) (a .seen .now) (a .waiting .now) (a .rings .now) (a .rules .now) (a .blocks .now) (is-yes _ _ (c .before .before .before .before .before .before .before .before .before .before .before .lent .ensures) (c .before .before .before .before .before .before .before .before .before .before .if1 .left)))) (c .before .before .tail .result) (c .before .before .tail .ensures) (c .before .if4 .taken) (c .refused4 .result) (c .refused4 .ensures)
+returns-4 c =
+    let at-if4 = c .before in
+    let at-tail = at-if4 .before in
+    let at-id-of = at-tail .before .before .before .before in
+    let at-if3 = at-id-of .before in
+    let at-if2 = at-if3 .before in
+    let at-arguments = at-if2 .before in
+    let at-if1 = at-arguments .before in
+    let at-lent = at-if1 .before in
+    let start = at-lent .before .before .before .before .before .before .before .before .before .before .before .before .before .before .before .before .before .before .before .before in
+    let a = start .args in
+    full (a .setup .now) (a .net .now) (a .names .now) (a .tills .now) (a .words .now) (a .keys .now) (a .prices .now) (a .seen .now) (a .waiting .now) (a .rings .now)
+    (a .rules .now) (a .blocks .now) (a .wire .now) (a .from) (a .at) (a .kind) (a .class) (a .scope) (a .tag) (a .opens)
+    (is-yes _ _ (at-lent .lent .ensures) (at-if1 .if1 .left)) (at-arguments .arguments .result) (at-arguments .arguments .ensures) (at-if2 .if2 .left) (at-if3 .if3 .left)
+    (at-id-of .id-of .result) (at-id-of .id-of .ensures)
+    (seen-held (a .setup .now) (a .net .now) (a .names .now) (a .tills .now) (a .words .now) (a .keys .now) (a .prices .now) (a .seen .now) (a .waiting .now)
+    (a .rings .now) (a .rules .now) (a .blocks .now)
+    (lent-says (a .setup .now) (a .net .now) (a .names .now) (a .tills .now) (a .words .now) (a .keys .now) (a .prices .now) (a .seen .now) (a .waiting .now)
+    (a .rings .now) (a .rules .now) (a .blocks .now) (is-yes _ _ (at-lent .lent .ensures) (at-if1 .if1 .left))))
+    (at-tail .tail .result) (at-tail .tail .ensures) (at-if4 .if4 .taken) (c .refused4 .result) (c .refused4 .ensures)
 
 serve-requires : tie.Need-serve-requires
-serve-requires c κs = let a = c .before .before .before .before .before .before .before .before .before .before .before .before .before .before .before .before .before .before .before .before .before .before .before .before .before .before .before .before .before .before .before .before .before .before .before .before .args in let p = arguments-say (a .setup .now) (a .from) (a .kind) (a .class) (a .scope) (length (a .wire .now)) (a .at) (c .before .before .before .before .before .before .before .before .before .before .before .before .before .before .arguments .result) (c .before .before .before .before .before .before .before .before .before .before .before .before .before .before .arguments .ensures) (c .before .before .before .before .before .before .before .before .before .before .before .before .before .if2 .left) in let q = lent-says (a .setup .now) (a .net .now) (a .names .now) (a .tills .now) (a .words .now) (a .keys .now) (a .prices .now) (a .seen .now) (a .waiting .now) (a .rings .now) (a .rules .now) (a .blocks .now) (is-yes _ _ (c .before .before .before .before .before .before .before .before .before .before .before .before .before .before .before .before .lent .ensures) (c .before .before .before .before .before .before .before .before .before .before .before .before .before .before .before .if1 .left)) in (fixed (a .setup .now) (a .net .now) (a .names .now) (a .tills .now) (a .words .now) (a .keys .now) (a .prices .now) (a .seen .now) (a .waiting .now) (a .rings .now) (a .rules .now) (a .blocks .now) q, record { from = p .sender; kind = p .type; scope = (scope-in (a .setup .now) (a .scope) (q .setupSays .sizes .shards) (p .target)); wire = p .short; now = p .soon }, p .klass, going (a .setup .now) (a .net .now) (a .names .now) (a .tills .now) (a .words .now) (a .keys .now) (a .prices .now) (a .seen .now) (a .waiting .now) (a .rings .now) (a .rules .now) (a .blocks .now) q (record { from = a .from; now = a .at; kind = a .kind; class = a .class; scope = a .scope; wire = length (a .wire .now); id = c .before .before .before .before .before .before .before .before .before .before .before .id-of .result; tag = a .tag }) (p .sender) (scope-in (a .setup .now) (a .scope) (q .setupSays .sizes .shards) (p .target)) (sym (c .before .before .before .before .before .before .if4 .left) ∙ c .before .before .before .before .before .before .before .tail .ensures))
+serve-requires c κs =
+    let at-if4 = c .before .before .before .before .before .before in
+    let at-tail = at-if4 .before in
+    let at-id-of = at-tail .before .before .before .before in
+    let at-if2 = at-id-of .before .before in
+    let at-arguments = at-if2 .before in
+    let at-if1 = at-arguments .before in
+    let at-lent = at-if1 .before in
+    let start = at-lent .before .before .before .before .before .before .before .before .before .before .before .before .before .before .before .before .before .before .before .before in
+    let a = start .args in
+    let p =
+    arguments-say (a .setup .now) (a .from) (a .kind) (a .class) (a .scope) (length (a .wire .now)) (a .at) (at-arguments .arguments .result)
+    (at-arguments .arguments .ensures) (at-if2 .if2 .left) in
+    let q =
+    lent-says (a .setup .now) (a .net .now) (a .names .now) (a .tills .now) (a .words .now) (a .keys .now) (a .prices .now) (a .seen .now) (a .waiting .now)
+    (a .rings .now) (a .rules .now) (a .blocks .now) (is-yes _ _ (at-lent .lent .ensures) (at-if1 .if1 .left)) in
+    let scope = scope-in (a .setup .now) (a .scope) (q .setupSays .sizes .shards) (p .target) in
+    let m : Message = record { from = a .from; now = a .at; kind = a .kind; class = a .class; scope = a .scope; wire = length (a .wire .now); id = at-id-of .id-of .result; tag = a .tag } in (
+      fixed (a .setup .now) (a .net .now) (a .names .now) (a .tills .now) (a .words .now) (a .keys .now) (a .prices .now) (a .seen .now) (a .waiting .now)
+          (a .rings .now) (a .rules .now) (a .blocks .now) q,
+      record { from = p .sender; kind = p .type; scope = scope; wire = p .short; now = p .soon },
+      p .klass,
+      going (a .setup .now) (a .net .now) (a .names .now) (a .tills .now) (a .words .now) (a .keys .now) (a .prices .now) (a .seen .now) (a .waiting .now)
+          (a .rings .now) (a .rules .now) (a .blocks .now) q m (p .sender) scope (sym (at-if4 .if4 .left) ∙ at-tail .tail .ensures),
+    )
 
 answered-requires : tie.Need-answered-requires
 answered-requires c κs = search needs
@@ -140,7 +253,28 @@ same-length-30 : tie.Need-same-length-30
 same-length-30 c = search needs
 
 returns-5 : tie.Need-returns-5
-returns-5 c = let a = c .before .before .before .before .before .before .before .before .before .before .before .before .before .before .before .before .before .before .before .before .before .before .before .before .before .before .before .before .before .before .before .before .before .before .before .before .before .before .before .before .before .before .before .before .before .before .before .before .before .before .args in let p = is-yes _ _ (c .before .before .before .before .before .before .before .before .before .before .before .before .before .before .before .before .before .before .before .before .before .before .before .before .before .before .before .before .before .before .lent .ensures) (c .before .before .before .before .before .before .before .before .before .before .before .before .before .before .before .before .before .before .before .before .before .before .before .before .before .before .before .before .before .if1 .left) in delivered (a .setup .now) (a .names .now) (a .tills .now) (a .keys .now) (a .prices .now) (a .blocks .now) (a .net .now) (a .words .now) (a .seen .now) (a .waiting .now) (a .rings .now) (a .rules .now) (a .wire .now) (a .from) (a .at) (a .kind) (a .class) (a .scope) (a .tag) (a .opens) p (c .before .before .before .before .before .before .before .before .before .before .before .before .before .before .before .before .before .before .before .before .before .before .before .before .before .before .before .before .arguments .result) (c .before .before .before .before .before .before .before .before .before .before .before .before .before .before .before .before .before .before .before .before .before .before .before .before .before .before .before .before .arguments .ensures) (c .before .before .before .before .before .before .before .before .before .before .before .before .before .before .before .before .before .before .before .before .before .before .before .before .before .before .before .if2 .left) (c .before .before .before .before .before .before .before .before .before .before .before .before .before .before .before .before .before .before .before .before .before .before .before .before .before .before .if3 .left) (c .before .before .before .before .before .before .before .before .before .before .before .before .before .before .before .before .before .before .before .before .before .before .before .before .before .id-of .result) (c .before .before .before .before .before .before .before .before .before .before .before .before .before .before .before .before .before .before .before .before .before .before .before .before .before .id-of .ensures) (seen-held (a .setup .now) (a .net .now) (a .names .now) (a .tills .now) (a .words .now) (a .keys .now) (a .prices .now) (a .seen .now) (a .waiting .now) (a .rings .now) (a .rules .now) (a .blocks .now) (lent-says (a .setup .now) (a .net .now) (a .names .now) (a .tills .now) (a .words .now) (a .keys .now) (a .prices .now) (a .seen .now) (a .waiting .now) (a .rings .now) (a .rules .now) (a .blocks .now) p)) (c .before .before .before .before .before .before .before .before .before .before .before .before .before .before .before .before .before .before .before .before .before .tail .result) (c .before .before .before .before .before .before .before .before .before .before .before .before .before .before .before .before .before .before .before .before .before .tail .ensures) (c .before .before .before .before .before .before .before .before .before .before .before .before .before .before .before .before .before .before .before .before .if4 .left) _ _ _ _ _ _ (c .before .before .before .before .before .before .before .before .before .before .before .before .before .serve .result) (c .answered .result) (c .answered .ensures) (c .before .before .before .before .before .before .before .before .before .before .before .before .before .serve .ensures)
+returns-5 c =
+    let at-serve = c .before .before .before .before .before .before .before .before .before .before .before .before .before in
+    let at-if4 = at-serve .before .before .before .before .before .before .before in
+    let at-tail = at-if4 .before in
+    let at-id-of = at-tail .before .before .before .before in
+    let at-if3 = at-id-of .before in
+    let at-if2 = at-if3 .before in
+    let at-arguments = at-if2 .before in
+    let at-if1 = at-arguments .before in
+    let at-lent = at-if1 .before in
+    let start = at-lent .before .before .before .before .before .before .before .before .before .before .before .before .before .before .before .before .before .before .before .before in
+    let a = start .args in
+    let p = is-yes _ _ (at-lent .lent .ensures) (at-if1 .if1 .left) in
+    delivered (a .setup .now) (a .net .now) (a .names .now) (a .tills .now) (a .words .now) (a .keys .now) (a .prices .now) (a .seen .now) (a .waiting .now)
+    (a .rings .now) (a .rules .now) (a .blocks .now) (a .wire .now) (a .from) (a .at) (a .kind) (a .class) (a .scope) (a .tag) (a .opens) p
+    (at-arguments .arguments .result) (at-arguments .arguments .ensures) (at-if2 .if2 .left) (at-if3 .if3 .left) (at-id-of .id-of .result) (at-id-of .id-of .ensures)
+    (seen-held (a .setup .now) (a .net .now) (a .names .now) (a .tills .now) (a .words .now) (a .keys .now) (a .prices .now) (a .seen .now) (a .waiting .now)
+    (a .rings .now) (a .rules .now) (a .blocks .now)
+    (lent-says (a .setup .now) (a .net .now) (a .names .now) (a .tills .now) (a .words .now) (a .keys .now) (a .prices .now) (a .seen .now) (a .waiting .now)
+    (a .rings .now) (a .rules .now) (a .blocks .now) p))
+    (at-tail .tail .result) (at-tail .tail .ensures) (at-if4 .if4 .left) _ _ _ _ _ _ (at-serve .serve .result) (c .answered .result) (c .answered .ensures)
+    (at-serve .serve .ensures)
 
 pub accept-spec : {M : Type 1} → statement M
 accept-spec =
