@@ -19,11 +19,11 @@ use Rattle.ask_opening.specs.Given.{settingsOf, keyWords, keyBytes}
 use Rattle.ask_opening.specs.Asked.{numberOf}
 use Rattle.ask_opening.proofs.Number.{Passed, passed, lengthsIn, number-is}
 use Rattle.ask_opening.proofs.Sums.{key-other}
-use Rattle.spec_network.specs.Lending.{tablesOf}
-use Rattle.call_open.specs.Opens.{openedOf, Does, Settled, Begun, begunNet, begunTills, begunSeen, begunRings, begunLog}
+use Rattle.call_open.specs.Opens.{openedOf, DoesOpen, Settled, Begun, begunNet, begunTills, begunSeen, begunRings, begunLog}
 
 -- the questions do not ask the seed
-seedless : (c : NetworkConfig) (z : NetworkSizes) (p : RegionPlan) (seed : ℕ) (key masks names : List ℕ) (n : TableLengths) → numberOf (settingsOf c z p 0 key) n masks names ≡ numberOf (settingsOf c z p seed key) n masks names
+seedless : (c : NetworkConfig) (z : NetworkSizes) (p : RegionPlan) (seed : ℕ) (key masks names : List ℕ) (n : TableLengths)
+    → numberOf (settingsOf c z p 0 key) n masks names ≡ numberOf (settingsOf c z p seed key) n masks names
 unfolding numberOf
 seedless c z p seed key masks names n = refl
 
@@ -44,11 +44,11 @@ module _ (c : NetworkConfig) (z : NetworkSizes) (p : RegionPlan) (seed : ℕ) (k
   answer = h ∙ seedless c z p seed key masks (T .names) (lengthsIn T) ∙ number-is x masks T
 
   -- a "no" leaves everything as found
-  pub refused : (number ≡ 0 → ⊥) → Does x masks T T (openedOf number)
-  unfolding Does
+  pub refused : (number ≡ 0 → ⊥) → DoesOpen T T x masks (openedOf number)
+  unfolding DoesOpen
   refused ne = (ap openedOf answer, stays number (openNumber x masks T) ne answer)
     where
-      stays : (a b : ℕ) → (a ≡ 0 → ⊥) → a ≡ b → T ≡ openExit x masks T b
+      stays : (a b : ℕ) → (a ≡ 0 → ⊥) → a ≡ b → openExit x masks T b ≡ T
       stays a zero ne e = absurd (ne e)
       stays a (suc b) ne e = refl
 
@@ -88,10 +88,42 @@ module _ (c : NetworkConfig) (z : NetworkSizes) (p : RegionPlan) (seed : ℕ) (k
   pub done : number ≡ 0 → (setup net tills words keys prices seen heads head : List ℕ)
       → (setup ≡ setupOf x) × (words ≡ replicate links 0) × (keys ≡ keysOf x) × (prices ≡ pricedBy x)
       → (net ≡ begunNet) × (tills ≡ begunTills z masks) × (seen ≡ begunSeen z (T .seen)) × (heads ≡ begunRings z (T .rings)) × (head ≡ begunLog (T .log))
-      → Does x masks T (tablesOf setup net (T .names) tills words keys prices seen (T .waiting) heads (T .rules) (T .blocks) head) (openedOf number)
-  unfolding Does
+      → DoesOpen T
+      (record {
+        setup = setup;
+        net = net;
+        names = T .names;
+        tills = tills;
+        words = words;
+        keys = keys;
+        prices = prices;
+        seen = seen;
+        waiting = T .waiting;
+        rings = heads;
+        rules = T .rules;
+        blocks = T .blocks;
+        log = head;
+      })
+      x
+      masks
+      (openedOf number)
+  unfolding DoesOpen
   done e setup net tills words keys prices seen heads head a b = (
     ap openedOf answer,
-    (λ j. tablesOf (a .0 j) (b .0 j) (T .names) (b .1 j) (a .1 j) (a .2 j) (a .3 j) (b .2 j) (T .waiting) (b .3 j) (T .rules) (T .blocks) (b .4 j))
-        ∙ ap (openExit x masks T) (sym (sym answer ∙ e)),
+    ap (openExit x masks T) (sym answer ∙ e)
+        ∙ (λ j. record {
+          setup = sym (a .0) j;
+          net = sym (b .0) j;
+          names = T .names;
+          tills = sym (b .1) j;
+          words = sym (a .1) j;
+          keys = sym (a .2) j;
+          prices = sym (a .3) j;
+          seen = sym (b .2) j;
+          waiting = T .waiting;
+          rings = sym (b .3) j;
+          rules = T .rules;
+          blocks = T .blocks;
+          log = sym (b .4) j;
+        }),
   )

@@ -14,7 +14,7 @@ use Rattle.spec_network.specs.Live.{openTills, ringsOf}
 use Rattle.spec_network.specs.Tables.{Tables, setupWidth, netWidth, tillForm}
 use Rattle.spec_network.specs.Limits.{rangeTests}
 use Rattle.spec_network.specs.Real.{keyWidth, pricesWidth}
-use Rattle.spec_network.specs.Open.{openNumber, openCall}
+use Rattle.spec_network.specs.Contract.{Opens}
 use Rattle.ask_opening.specs.declared.NetworkSizes.{NetworkSizes}
 use Rattle.ask_opening.specs.Given.{sizesOf, keyBytes}
 use Rattle.call_reply.specs.declared.Done.{Done}
@@ -25,8 +25,8 @@ abbrev pub openedOf : ℕ → Done
 openedOf n = record { number = n }
 
 -- the number of the first question whose answer is "no", or 0; and every lent table at exit
-unfoldable pub Does : Settings → (masks : List ℕ) → (T T′ : Tables) → Done → Type 0
-Does x masks T T′ r = (r ≡ openedOf (openNumber x masks T)) × (T′ ≡ openCall x masks T)
+unfoldable pub DoesOpen : (T T′ : Tables) → Settings → (masks : List ℕ) → Done → Type 0
+DoesOpen T T′ x masks r = Opens openedOf T T′ x masks r
 
 -- ---- What the parts write
 

@@ -4,9 +4,8 @@ ghost use lib.ListN.{replicate};
 ghost use Rattle.spec_network.specs.Opening.{links};
 ghost use Rattle.spec_network.specs.Tables.{setupOf};
 ghost use Rattle.spec_network.specs.Real.{keysOf, pricedBy};
-ghost use Rattle.spec_network.specs.Lending.{tablesOf};
 ghost use Rattle.ask_opening.specs.Given.{settingsOf};
-ghost use Rattle.call_open.specs.Opens.{Does, Settled, Begun, begunNet, begunTills, begunSeen, begunRings, begunLog};
+ghost use Rattle.call_open.specs.Opens.{DoesOpen, Settled, Begun, begunNet, begunTills, begunSeen, begunRings, begunLog};
 use ask_opening::NetworkConfig;
 use ask_opening::NetworkSizes;
 use ask_opening::RegionPlan;
@@ -30,7 +29,10 @@ fn write_settled(
     prices: &mut [u64],
 )
     requires { ⌜ Settled (settingsOf config sizes plan seed (now key)) (now key) (now setup) (now words) (now keys) (now prices) ⌝ }
-    ensures { λ _. ⌜ (now (setup .exit) ≡ setupOf (settingsOf config sizes plan seed (now (key .entry)))) × (now (words .exit) ≡ replicate links 0) × (now (keys .exit) ≡ keysOf (settingsOf config sizes plan seed (now (key .entry)))) × (now (prices .exit) ≡ pricedBy (settingsOf config sizes plan seed (now (key .entry)))) ⌝ }
+    ensures { λ _. ⌜ (now (setup .exit) ≡ setupOf (settingsOf config sizes plan seed (now (key .entry))))
+        × (now (words .exit) ≡ replicate links 0)
+        × (now (keys .exit) ≡ keysOf (settingsOf config sizes plan seed (now (key .entry))))
+        × (now (prices .exit) ≡ pricedBy (settingsOf config sizes plan seed (now (key .entry)))) ⌝ }
 {
     settings::write_setup(setup, config, sizes, plan, seed, key);
     fill::clear_words(words);
@@ -49,7 +51,11 @@ fn write_begun(
     log: &mut [u64],
 )
     requires { ⌜ Begun sizes (now masks) (now net) (now tills) (now seen) (now rings) (now log) ⌝ }
-    ensures { λ _. ⌜ (now (net .exit) ≡ begunNet) × (now (tills .exit) ≡ begunTills sizes (now (masks .entry))) × (now (seen .exit) ≡ begunSeen sizes (now (seen .entry))) × (now (rings .exit) ≡ begunRings sizes (now (rings .entry))) × (now (log .exit) ≡ begunLog (now (log .entry))) ⌝ }
+    ensures { λ _. ⌜ (now (net .exit) ≡ begunNet)
+        × (now (tills .exit) ≡ begunTills sizes (now (masks .entry)))
+        × (now (seen .exit) ≡ begunSeen sizes (now (seen .entry)))
+        × (now (rings .exit) ≡ begunRings sizes (now (rings .entry)))
+        × (now (log .exit) ≡ begunLog (now (log .entry))) ⌝ }
 {
     fill::clear(net, ask_tables::NET_WIDTH);
     fill::write_tills(tills, masks);
@@ -83,10 +89,38 @@ pub fn open_network(
     blocks: &[u64],
     log: &mut [u64],
 ) -> Done
-    ensures { λ r. ⌜ Does (settingsOf config sizes plan seed (now (key .entry))) (now (masks .entry))
-        (tablesOf (now (setup .entry)) (now (net .entry)) (now (names .entry)) (now (tills .entry)) (now (words .entry)) (now (keys .entry)) (now (prices .entry)) (now (seen .entry)) (now (waiting .entry)) (now (rings .entry)) (now (rules .entry)) (now (blocks .entry)) (now (log .entry)))
-        (tablesOf (now (setup .exit)) (now (net .exit)) (now (names .entry)) (now (tills .exit)) (now (words .exit)) (now (keys .exit)) (now (prices .exit)) (now (seen .exit)) (now (waiting .entry)) (now (rings .exit)) (now (rules .entry)) (now (blocks .entry)) (now (log .exit)))
-        r ⌝ }
+    ensures { λ r. ⌜ DoesOpen
+        (record {
+          setup = now (setup .entry);
+          net = now (net .entry);
+          names = now (names .entry);
+          tills = now (tills .entry);
+          words = now (words .entry);
+          keys = now (keys .entry);
+          prices = now (prices .entry);
+          seen = now (seen .entry);
+          waiting = now (waiting .entry);
+          rings = now (rings .entry);
+          rules = now (rules .entry);
+          blocks = now (blocks .entry);
+          log = now (log .entry);
+        })
+        (record {
+          setup = now (setup .exit);
+          net = now (net .exit);
+          names = now (names .entry);
+          tills = now (tills .exit);
+          words = now (words .exit);
+          keys = now (keys .exit);
+          prices = now (prices .exit);
+          seen = now (seen .exit);
+          waiting = now (waiting .entry);
+          rings = now (rings .exit);
+          rules = now (rules .entry);
+          blocks = now (blocks .entry);
+          log = now (log .exit);
+        })
+        (settingsOf config sizes plan seed (now (key .entry))) (now (masks .entry)) r ⌝ }
 {
     let lengths = TableLengths {
         setup: setup.len() as u64,

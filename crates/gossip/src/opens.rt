@@ -5,8 +5,7 @@ use ask_opening::RegionPlan;
 use ask_opening::TableSizes;
 use call_reply::Done;
 ghost use mathlib.Core.Path.{_≡_};
-ghost use Rattle.spec_network.specs.Lending.{tablesOf};
-ghost use Rattle.call_open.specs.Opens.{Does};
+ghost use Rattle.call_open.specs.Opens.{DoesOpen};
 ghost use Rattle.ask_opening.specs.Given.{settingsOf};
 ghost use Rattle.ask_opening.specs.Sizes.{tableSizes};
 ghost use Rattle.ask_opening.specs.Given.{sized};
@@ -34,10 +33,38 @@ pub extern "C" fn gossip_open(
     blocks: &[u64],
     log: &mut [u64],
 ) -> Done
-    ensures { λ r. ⌜ Does (settingsOf config sizes plan seed (now (key .entry))) (now (masks .entry))
-        (tablesOf (now (setup .entry)) (now (net .entry)) (now (names .entry)) (now (tills .entry)) (now (words .entry)) (now (keys .entry)) (now (prices .entry)) (now (seen .entry)) (now (waiting .entry)) (now (rings .entry)) (now (rules .entry)) (now (blocks .entry)) (now (log .entry)))
-        (tablesOf (now (setup .exit)) (now (net .exit)) (now (names .entry)) (now (tills .exit)) (now (words .exit)) (now (keys .exit)) (now (prices .exit)) (now (seen .exit)) (now (waiting .entry)) (now (rings .exit)) (now (rules .entry)) (now (blocks .entry)) (now (log .exit)))
-        r ⌝ }
+    ensures { λ r. ⌜ DoesOpen
+        (record {
+          setup = now (setup .entry);
+          net = now (net .entry);
+          names = now (names .entry);
+          tills = now (tills .entry);
+          words = now (words .entry);
+          keys = now (keys .entry);
+          prices = now (prices .entry);
+          seen = now (seen .entry);
+          waiting = now (waiting .entry);
+          rings = now (rings .entry);
+          rules = now (rules .entry);
+          blocks = now (blocks .entry);
+          log = now (log .entry);
+        })
+        (record {
+          setup = now (setup .exit);
+          net = now (net .exit);
+          names = now (names .entry);
+          tills = now (tills .exit);
+          words = now (words .exit);
+          keys = now (keys .exit);
+          prices = now (prices .exit);
+          seen = now (seen .exit);
+          waiting = now (waiting .entry);
+          rings = now (rings .exit);
+          rules = now (rules .entry);
+          blocks = now (blocks .entry);
+          log = now (log .exit);
+        })
+        (settingsOf config sizes plan seed (now (key .entry))) (now (masks .entry)) r ⌝ }
 {
     call_open::open_network(
         config,

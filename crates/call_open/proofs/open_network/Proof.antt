@@ -1,5 +1,5 @@
 use borrow.Author.Needs.{needs}
-use Rattle.spec_network.specs.Lending.{tablesOf}
+use Rattle.spec_network.specs.Tables.{Tables}
 use Rattle.call_open.proofs.Whole.{refused, settled, begun, done}
 use Rattle.call_open.proofs.open_network.Statement.{statement}
 use Rattle.call_open.proofs.open_network.Tie as tie
@@ -8,13 +8,78 @@ refusal-requires : tie.Need-refusal-requires
 refusal-requires c κs = search needs
 
 returns : tie.Need-returns
-returns c = let a = c .before .before .before .before .before .before .before .before .before .before .before .before .before .before .before .before .before .args in refused (a .config) (a .sizes) (a .plan) (a .seed) (a .key .now) (a .masks .now) (tablesOf (a .setup .now) (a .net .now) (a .names .now) (a .tills .now) (a .words .now) (a .keys .now) (a .prices .now) (a .seen .now) (a .waiting .now) (a .rings .now) (a .rules .now) (a .blocks .now) (a .log .now)) (c .before .refusal .result) (c .before .refusal .ensures) (c .if1 .taken)
+returns c =
+    let at-refusal = c .before in
+    let start = at-refusal .before .before .before .before .before .before .before .before .before .before .before .before .before .before .before .before in
+    let a = start .args in
+    let T : Tables =
+    record {
+      setup = a .setup .now;
+      net = a .net .now;
+      names = a .names .now;
+      tills = a .tills .now;
+      words = a .words .now;
+      keys = a .keys .now;
+      prices = a .prices .now;
+      seen = a .seen .now;
+      waiting = a .waiting .now;
+      rings = a .rings .now;
+      rules = a .rules .now;
+      blocks = a .blocks .now;
+      log = a .log .now;
+    } in
+    refused (a .config) (a .sizes) (a .plan) (a .seed) (a .key .now) (a .masks .now) T
+    (at-refusal .refusal .result) (at-refusal .refusal .ensures) (c .if1 .taken)
 
 write-settled-requires : tie.Need-write-settled-requires
-write-settled-requires c κs = let a = c .before .before .before .before .before .before .before .before .before .before .before .before .before .before .before .before .before .before .before .before .before .args in settled (a .config) (a .sizes) (a .plan) (a .seed) (a .key .now) (a .masks .now) (tablesOf (a .setup .now) (a .net .now) (a .names .now) (a .tills .now) (a .words .now) (a .keys .now) (a .prices .now) (a .seen .now) (a .waiting .now) (a .rings .now) (a .rules .now) (a .blocks .now) (a .log .now)) (c .before .before .before .before .before .refusal .result) (c .before .before .before .before .before .refusal .ensures) (c .before .before .before .before .if1 .left)
+write-settled-requires c κs =
+    let at-if1 = c .before .before .before .before in
+    let at-refusal = at-if1 .before in
+    let start = at-refusal .before .before .before .before .before .before .before .before .before .before .before .before .before .before .before .before in
+    let a = start .args in
+    let T : Tables =
+    record {
+      setup = a .setup .now;
+      net = a .net .now;
+      names = a .names .now;
+      tills = a .tills .now;
+      words = a .words .now;
+      keys = a .keys .now;
+      prices = a .prices .now;
+      seen = a .seen .now;
+      waiting = a .waiting .now;
+      rings = a .rings .now;
+      rules = a .rules .now;
+      blocks = a .blocks .now;
+      log = a .log .now;
+    } in
+    settled (a .config) (a .sizes) (a .plan) (a .seed) (a .key .now) (a .masks .now) T
+    (at-refusal .refusal .result) (at-refusal .refusal .ensures) (at-if1 .if1 .left)
 
 write-begun-requires : tie.Need-write-begun-requires
-write-begun-requires c κs = let a = c .before .before .before .before .before .before .before .before .before .before .before .before .before .before .before .before .before .before .before .before .before .before .before .before .before .before .before .before .before .before .before .before .before .before .before .args in begun (a .config) (a .sizes) (a .plan) (a .seed) (a .key .now) (a .masks .now) (tablesOf (a .setup .now) (a .net .now) (a .names .now) (a .tills .now) (a .words .now) (a .keys .now) (a .prices .now) (a .seen .now) (a .waiting .now) (a .rings .now) (a .rules .now) (a .blocks .now) (a .log .now)) (c .before .before .before .before .before .before .before .before .before .before .before .before .before .before .before .before .before .before .before .refusal .result) (c .before .before .before .before .before .before .before .before .before .before .before .before .before .before .before .before .before .before .before .refusal .ensures) (c .before .before .before .before .before .before .before .before .before .before .before .before .before .before .before .before .before .before .if1 .left)
+write-begun-requires c κs =
+    let at-if1 = c .before .before .before .before .before .before .before .before .before .before .before .before .before .before .before .before .before .before in
+    let at-refusal = at-if1 .before in
+    let start = at-refusal .before .before .before .before .before .before .before .before .before .before .before .before .before .before .before .before in
+    let a = start .args in
+    let T : Tables =
+    record {
+      setup = a .setup .now;
+      net = a .net .now;
+      names = a .names .now;
+      tills = a .tills .now;
+      words = a .words .now;
+      keys = a .keys .now;
+      prices = a .prices .now;
+      seen = a .seen .now;
+      waiting = a .waiting .now;
+      rings = a .rings .now;
+      rules = a .rules .now;
+      blocks = a .blocks .now;
+      log = a .log .now;
+    } in
+    begun (a .config) (a .sizes) (a .plan) (a .seed) (a .key .now) (a .masks .now) T
+    (at-refusal .refusal .result) (at-refusal .refusal .ensures) (at-if1 .if1 .left)
 
 same-length : tie.Need-same-length
 same-length c = search needs
@@ -44,7 +109,32 @@ same-length-9 : tie.Need-same-length-9
 same-length-9 c = search needs
 
 returns-2 : tie.Need-returns-2
-returns-2 c = let a = c .before .before .before .before .before .before .before .before .before .before .before .before .before .before .before .before .before .before .before .before .before .before .before .before .before .before .before .before .before .before .before .before .before .before .before .before .before .before .before .before .before .before .before .before .before .before .args in done (a .config) (a .sizes) (a .plan) (a .seed) (a .key .now) (a .masks .now) (tablesOf (a .setup .now) (a .net .now) (a .names .now) (a .tills .now) (a .words .now) (a .keys .now) (a .prices .now) (a .seen .now) (a .waiting .now) (a .rings .now) (a .rules .now) (a .blocks .now) (a .log .now)) (c .before .before .before .before .before .before .before .before .before .before .before .before .before .before .before .before .before .before .before .before .before .before .before .before .before .before .before .before .before .before .refusal .result) (c .before .before .before .before .before .before .before .before .before .before .before .before .before .before .before .before .before .before .before .before .before .before .before .before .before .before .before .before .before .before .refusal .ensures) (c .before .before .before .before .before .before .before .before .before .before .before .before .before .before .before .before .before .before .before .before .before .before .before .before .before .before .before .before .before .if1 .left) _ _ _ _ _ _ _ _ _ (c .before .before .before .before .before .before .before .before .before .before .before .before .before .before .before .before .before .before .before .before .before .before .before .before .write-settled .ensures) (c .before .before .before .before .before .before .before .before .before .before .write-begun .ensures)
+returns-2 c =
+    let at-write-begun = c .before .before .before .before .before .before .before .before .before .before in
+    let at-write-settled = at-write-begun .before .before .before .before .before .before .before .before .before .before .before .before .before .before in
+    let at-if1 = at-write-settled .before .before .before .before .before in
+    let at-refusal = at-if1 .before in
+    let start = at-refusal .before .before .before .before .before .before .before .before .before .before .before .before .before .before .before .before in
+    let a = start .args in
+    let T : Tables =
+    record {
+      setup = a .setup .now;
+      net = a .net .now;
+      names = a .names .now;
+      tills = a .tills .now;
+      words = a .words .now;
+      keys = a .keys .now;
+      prices = a .prices .now;
+      seen = a .seen .now;
+      waiting = a .waiting .now;
+      rings = a .rings .now;
+      rules = a .rules .now;
+      blocks = a .blocks .now;
+      log = a .log .now;
+    } in
+    done (a .config) (a .sizes) (a .plan) (a .seed) (a .key .now) (a .masks .now) T
+    (at-refusal .refusal .result) (at-refusal .refusal .ensures) (at-if1 .if1 .left) _ _ _ _ _ _ _ _ _ (at-write-settled .write-settled .ensures)
+    (at-write-begun .write-begun .ensures)
 
 pub open-network-spec : {M : Type 1} → statement M
 open-network-spec =

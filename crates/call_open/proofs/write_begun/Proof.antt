@@ -44,7 +44,20 @@ same-length-5 : tie.Need-same-length-5
 same-length-5 c = search needs
 
 returns : tie.Need-returns
-returns c = let a = c .before .before .before .before .before .before .before .before .before .before .before .before .before .before .before .before .before .before .before .before .before .before .before .before .before .before .args in (all-clear netWidth (a .net .now) _ (c .before .before .before .before .before .before .before .before .before .before .before .before .before .before .before .before .before .before .before .before .before .before .before .before .before .before .pre .net-long) (c .before .before .before .before .before .before .before .before .before .before .before .before .before .before .before .before .before .before .clear .ensures), c .before .before .before .before .before .before .before .before .before .before .before .before .before .before .write-tills .ensures ∙ ap (λ n. flat (tillForm .words) (openTills (a .masks .now) n)) (c .before .before .before .before .before .before .before .before .before .before .before .before .before .before .before .before .before .before .before .before .before .before .before .before .before .before .pre .masks-long), c .before .before .before .before .before .before .before .before .before .before .clear2 .ensures, c .before .before .before .before .before .before .clear3 .ensures, log-clear (a .log .now) _ (c .before .before .clear4 .ensures))
+returns c =
+    let at-clear4 = c .before .before in
+    let at-clear3 = at-clear4 .before .before .before .before in
+    let at-clear2 = at-clear3 .before .before .before .before in
+    let at-write-tills = at-clear2 .before .before .before .before in
+    let at-clear = at-write-tills .before .before .before .before in
+    let start = at-clear .before .before .before .before .before .before .before .before in
+    let a = start .args in (
+      all-clear netWidth (a .net .now) _ (start .pre .net-long) (at-clear .clear .ensures),
+      at-write-tills .write-tills .ensures ∙ ap (λ n. flat (tillForm .words) (openTills (a .masks .now) n)) (start .pre .masks-long),
+      at-clear2 .clear2 .ensures,
+      at-clear3 .clear3 .ensures,
+      log-clear (a .log .now) _ (at-clear4 .clear4 .ensures),
+    )
 
 pub write-begun-spec : {M : Type 1} → statement M
 write-begun-spec =

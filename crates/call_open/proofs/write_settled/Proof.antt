@@ -6,16 +6,24 @@ use Rattle.call_open.proofs.write_settled.Statement.{statement}
 use Rattle.call_open.proofs.write_settled.Tie as tie
 
 write-setup-requires : tie.Need-write-setup-requires
-write-setup-requires c κs = (c .before .before .before .before .before .before .pre .rates, c .before .before .before .before .before .before .pre .key-long, c .before .before .before .before .before .before .pre .setup-long)
+write-setup-requires c κs =
+    let start = c .before .before .before .before .before .before in
+    (start .pre .rates, start .pre .key-long, start .pre .setup-long)
 
 clear-words-requires : tie.Need-clear-words-requires
-clear-words-requires c κs = c .before .before .before .before .before .before .before .before .before .before .pre .words-long
+clear-words-requires c κs =
+    let start = c .before .before .before .before .before .before .before .before .before .before in
+    start .pre .words-long
 
 write-keys-requires : tie.Need-write-keys-requires
-write-keys-requires c κs = (c .before .before .before .before .before .before .before .before .before .before .before .before .before .before .pre .tills, c .before .before .before .before .before .before .before .before .before .before .before .before .before .before .pre .keys-long)
+write-keys-requires c κs =
+    let start = c .before .before .before .before .before .before .before .before .before .before .before .before .before .before in
+    (start .pre .tills, start .pre .keys-long)
 
 write-prices-requires : tie.Need-write-prices-requires
-write-prices-requires c κs = (c .before .before .before .before .before .before .before .before .before .before .before .before .before .before .before .before .before .before .pre .tills, c .before .before .before .before .before .before .before .before .before .before .before .before .before .before .before .before .before .before .pre .regions, c .before .before .before .before .before .before .before .before .before .before .before .before .before .before .before .before .before .before .pre .prices-long)
+write-prices-requires c κs =
+    let start = c .before .before .before .before .before .before .before .before .before .before .before .before .before .before .before .before .before .before in
+    (start .pre .tills, start .pre .regions, start .pre .prices-long)
 
 same-length : tie.Need-same-length
 same-length c = search needs
@@ -30,7 +38,19 @@ same-length-4 : tie.Need-same-length-4
 same-length-4 c = search needs
 
 returns : tie.Need-returns
-returns c = let a = c .before .before .before .before .before .before .before .before .before .before .before .before .before .before .before .before .before .before .before .before .before .args in (c .before .before .before .before .before .before .before .before .before .before .before .before .before .before .write-setup .ensures, c .before .before .before .before .before .before .before .before .before .before .clear-words .ensures, c .before .before .before .before .before .before .write-keys .ensures ∙ keys-of (settingsOf (a .config) (a .sizes) (a .plan) (a .seed) (a .key .now)), c .before .before .write-prices .ensures ∙ priced-by (settingsOf (a .config) (a .sizes) (a .plan) (a .seed) (a .key .now)))
+returns c =
+    let at-write-prices = c .before .before in
+    let at-write-keys = at-write-prices .before .before .before .before in
+    let at-clear-words = at-write-keys .before .before .before .before in
+    let at-write-setup = at-clear-words .before .before .before .before in
+    let start = at-write-setup .before .before .before .before .before .before .before in
+    let a = start .args in
+    let x = settingsOf (a .config) (a .sizes) (a .plan) (a .seed) (a .key .now) in (
+      at-write-setup .write-setup .ensures,
+      at-clear-words .clear-words .ensures,
+      at-write-keys .write-keys .ensures ∙ keys-of x,
+      at-write-prices .write-prices .ensures ∙ priced-by x,
+    )
 
 pub write-settled-spec : {M : Type 1} → statement M
 write-settled-spec =
