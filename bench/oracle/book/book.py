@@ -6,6 +6,7 @@ import pathlib
 import struct
 import sys
 
+sys.dont_write_bytecode = True
 import wrong as errors
 from digest import digest, number_of
 from draws import SECOND, Stream, nanoseconds, seconds

@@ -8,6 +8,7 @@ import subprocess
 import sys
 from fractions import Fraction
 
+sys.dont_write_bytecode = True
 from draws import SECOND, Stream, seconds
 
 ZERO = '0' * 16

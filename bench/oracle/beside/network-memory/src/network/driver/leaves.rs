@@ -13,22 +13,22 @@ fn stream(k: &str, words: &str) -> Option<ChaCha8Rng> {
 /// A draw of one kind, spelt.
 type Drawing = Box<dyn FnMut(&mut ChaCha8Rng) -> String>;
 
-/// The draw that the kind and its range name, and the word that says how many.
+/// The draw that the kind and its range name, and the word that says how many. An empty range is none.
 fn drawing<'a>(kind: &str, w: &[&'a str]) -> Option<(Drawing, &'a str)> {
     Some(match (kind, w) {
         ("word", [n]) => (Box::new(|r: &mut ChaCha8Rng| format!("{:08x}", r.random::<u32>())), n),
         ("long", [n]) => (Box::new(|r: &mut ChaCha8Rng| format!("{:016x}", r.random::<u64>())), n),
         ("fraction", [n]) => (Box::new(|r: &mut ChaCha8Rng| format!("{:016x}", r.random::<f64>().to_bits())), n),
         ("real", [low, high, n]) => {
-            let (low, high) = (float(low)?, float(high)?);
+            let (low, high) = (float(low)?, float(high).filter(|high| float(low) < Some(*high))?);
             (Box::new(move |r: &mut ChaCha8Rng| format!("{:016x}", r.random_range(low..high).to_bits())), n)
         }
         ("whole", [low, high, n]) => {
-            let (low, high) = (number::<u64>(low)?, number::<u64>(high)?);
+            let (low, high) = (number::<u64>(low)?, number::<u64>(high).filter(|high| number(low) <= Some(*high))?);
             (Box::new(move |r: &mut ChaCha8Rng| r.random_range(low..=high).to_string()), n)
         }
         ("index", [length, n]) => {
-            let length: usize = number(length)?;
+            let length: usize = number(length).filter(|n| *n > 0)?;
             (Box::new(move |r: &mut ChaCha8Rng| r.random_range(0..length).to_string()), n)
         }
         _ => return None,
@@ -50,9 +50,13 @@ pub fn leaf(call: &str, w: &[&str], o: &mut String) -> Option<()> {
     let _ = match (call, w) {
         ("draw", _) => return draw(w, o),
         ("digest", [input]) => writeln!(o, "digest {}", in_digits(blake3::hash(&bytes(input)?).as_bytes())),
-        ("nanos", [seconds]) => writeln!(o, "nanos {}", ns(Duration::from_secs_f64(float(seconds)?))),
+        ("nanos", [seconds]) => writeln!(o, "nanos {}", ns(Duration::try_from_secs_f64(float(seconds)?).ok()?)),
         ("secs", [t]) => writeln!(o, "secs {:016x}", time(number(t)?).as_secs_f64().to_bits()),
-        ("times", [t, by]) => writeln!(o, "times {}", ns(time(number(t)?).mul_f64(float(by)?))),
+        ("times", [t, by]) => {
+            let (t, by) = (time(number(t)?), float(by)?);
+            Duration::try_from_secs_f64(by * t.as_secs_f64()).ok()?;
+            writeln!(o, "times {}", ns(t.mul_f64(by)))
+        }
         ("wire", [rate, length]) => {
             let link = crate::geography::Link { base: Duration::ZERO, bytes_per_sec: number(rate)? };
             writeln!(o, "wire {}", ns(link.transmission(number(length)?)))

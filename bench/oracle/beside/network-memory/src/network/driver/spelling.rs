@@ -23,11 +23,7 @@ pub fn float(word: &str) -> Option<f64> {
 
 /// 1 or 0.
 pub fn flag(word: &str) -> Option<bool> {
-    match word {
-        "0" => Some(false),
-        "1" => Some(true),
-        _ => None,
-    }
+    number::<u64>(word).filter(|n| *n <= 1).map(|n| n == 1)
 }
 
 /// Two digits a byte.
