@@ -25,7 +25,7 @@ use Rattle.spec_contracts.specs.Public.{Shows, Answers, EachCall, Public
 
 module _ {R : Type 0} (view : Reply → R) (r : R) (c : Call) (T T′ : Tables) where
   shows : (out out′ : List ℕ) → r ≡ view (callReply T c) → callTables T c ≡ T′ → out′ ≡ callOutput T c out → Shows view r c T T′ out out′
-  shows out out′ e t o = record { reply = callReply T c; shown = e; meets = record { replied = refl; tables = sym t; output = o } }
+  shows out out′ e t o = record { reply = callReply T c; shown = e; meets = (refl, t, o) }
 
   -- what has no words leaves an empty output empty
   answers : ((s : Live) → outputOf (answerOf (openingAt T) s c) ≡ []) → (r ≡ view (callReply T c)) × (callTables T c ≡ T′) → Answers view r c T T′
@@ -48,13 +48,13 @@ unfolding accepting.DoesAccept flushing.DoesFlush till.DoesTakeDown till.Changes
 each-call T = record {
   accept-calls = λ net′ words′ seen′ waiting′ rings′ rules′ wire from now kind class scope tag opens r d.
       let e = accepting.entryOf wire from now kind class scope tag in
-      answers accepting.acceptedOf r (accepting.callOf wire from now kind class scope tag opens) T _ (no-words T e (not (eqb opens 0))) (d (T .log));
+      answers accepting.acceptedOf r (accepting.callOf wire from now kind class scope tag opens) T _ (no-words T e (not (eqb opens 0))) (d T);
   flush-calls = λ net′ seen′ waiting′ log′ out out′ now r d. shows flushing.flushedOf r (flushing.flushCall out now) T _ out out′ (d T .0) (d T .1) (d T .2);
   take-down-calls = λ tills′ seen′ t r d. answers _ r (takeDown t) T _ (λ s. refl) (d T);
   bring-up-calls = λ tills′ t shards r d. answers _ r (bringUp t shards) T _ (λ s. refl) (d T);
   set-handlers-calls = λ tills′ t gossip host r d. answers _ r (handlers t gossip host) T _ (λ s. refl) (d T);
   is-down-calls = λ t r d. answers _ r (reading (isDown t)) T T (λ s. refl) (d T);
-  marks-calls = λ out out′ t r d. shows till.marksReply r _ T T out out′ (d T .0) (d T .2) (d T .1);
+  marks-calls = λ out out′ t r d. shows till.marksReply r _ T T out out′ (d T .0) (d T .1) (d T .2);
   block-calls = λ net′ blocks′ from to r d. answers _ r (block from to) T _ (λ s. refl) (d T);
   block-during-calls = λ net′ blocks′ from to start end r d. answers _ r (blockDuring from to start end) T _ (λ s. refl) (d T);
   unblock-calls = λ net′ blocks′ from to r d. answers _ r (unblock from to) T _ (λ s. refl) (d T);
@@ -64,7 +64,7 @@ each-call T = record {
   fired-calls = λ id r d. answers _ r (reading (fired id)) T T (λ s. refl) (d T);
   decide-calls = λ net′ rules′ from to kind tier now r d. answers _ r (decide (rule.message from to kind tier now)) T _ (λ s. refl) (d T);
   transit-calls = λ t r d. answers _ r (reading (transit t)) T T (λ s. refl) (d T);
-  next-time-calls = λ r d. answers _ r (reading nextTime) T T (λ s. no-words-next (s .waiting)) (d T);
+  next-time-calls = λ r d. answers _ r (reading nextTime) T T (λ s. no-words-next (s .queue .waiting)) (d T);
   waiting-calls = λ out out′ r d. shows waiting.copiedOf r (waiting.copiesCall out) T T out out′ (d T .0) (d T .1) (d T .2);
   drain-calls = λ log′ out out′ r d. shows log.drainedOf r (log.drainCall out) T _ out out′ (d T .0) (d T .1) (d T .2);
   tally-calls = λ class r d. answers _ r (reading (tallyOf class)) T T (λ s. refl) (d T);
@@ -72,8 +72,8 @@ each-call T = record {
 
 -- THE THEOREM
 pub public-contracts : PublicContracts
-unfolding opens.Does
+unfolding opens.DoesOpen
 public-contracts = record {
   calls = each-call;
-  opening = λ x masks T T′ r d. record { replied = ap (λ (q : Done). q .number) (d .0); tables = d .1 };
+  opening = λ x masks T T′ r d. (ap (λ (q : Done). q .number) (d .0), d .1);
 }
