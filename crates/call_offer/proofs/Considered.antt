@@ -115,7 +115,7 @@ module _ (T : Tables) (m : accept.Message) (t : ℕ) where
               passed = ap (λ (q : Decision). q .drops) verdict ∙ h;
               words = ap (λ (q : Decision). q .words) verdict;
               echoes = record {
-                copies = ap (λ (q : accept.Echoes). q .copies) (sym same) ∙ he .copies;
+                all = ap (λ (q : accept.Echoes). q .all) (sym same) ∙ he .all;
                 words = ap (λ (q : accept.Echoes). q .words) (sym same) ∙ he .words;
                 first = he .first;
                 second = he .second;

@@ -20,10 +20,10 @@ use Rattle.spec_network.specs.Opening.{Draw, Opening, Settings, longestWire}
 use Rattle.spec_network.specs.Live.{Carried}
 use Rattle.spec_network.specs.Real.{chance}
 use Rattle.spec_network.specs.Accept as accept
-use Rattle.spec_network.specs.Accept.{Message, carriedOf, isEmpty, echo, timed, replayed, echoed, echoesOf}
+use Rattle.spec_network.specs.Accept.{Message, duplicateOf, replayOf, carriedOf, isEmpty, timed, replayed, echoed, echoesOf}
 use Rattle.call_offer.specs.declared.Replay.{Replay}
 use Rattle.call_offer.specs.declared.Echoes.{Echoes}
-use Rattle.call_offer.specs.Offering.{echoingAt, keyed, DelayedIf, Replays, echoesIn, noEchoes, Echoed}
+use Rattle.call_offer.specs.Offering.{echoingAt, keyed, DelayedIf, Replays, doubled, replayedAs, echoesIn, noEchoes, Echoed}
 use Rattle.call_offer.proofs.Readings.{and-off}
 
 -- ---- Latencies that are drawn where there is an echo
@@ -63,18 +63,18 @@ module _ (x : Settings) (prices : List ℕ) (m : Message) (t many : ℕ) (rings 
   abbrev at : Draw ℕ
   at = o .draws .index (m .from) t (length held) (hits .words)
 
-  abbrev yes : Draw (List Carried)
-  yes = record { value = getD held (at .value) (carriedOf m) ∷ []; words = at .words }
+  abbrev yes : Draw (List accept.Echoed)
+  yes = record { value = replayOf (getD held (at .value) (carriedOf m)) ∷ []; words = at .words }
 
-  abbrev nothing : Draw (List Carried)
+  abbrev nothing : Draw (List accept.Echoed)
   nothing = record { value = []; words = hits .words }
 
   unplayed : (hits .value && not (isEmpty held)) ≡ false → (r : Replay) → r .hit ≡ false → r .old ≡ none → r .next ≡ h .next → Replays (replayed o m t held (c .count)) c r
   unplayed e r a b n =
       let d : nothing ≡ replayed o m t held (c .count) = ap (λ (b : Bool). cond b yes nothing) (sym e) in
       record {
-        is = ap (λ (b : Bool). cond b (r .old ∷ []) []) a ∙ ap (λ (q : Draw (List Carried)). q .value) d;
-        words = ap (λ (q : Cursor). q .count) n ∙ s .words ∙ ap (λ (q : Draw (List Carried)). q .words) d;
+        is = ap (λ (b : Bool). cond b (replayOf (r .old) ∷ []) []) a ∙ ap (λ (q : Draw (List accept.Echoed)). q .value) d;
+        words = ap (λ (q : Cursor). q .count) n ∙ s .words ∙ ap (λ (q : Draw (List accept.Echoed)). q .words) d;
         key = ap (λ (q : Cursor). q .key) n ∙ s .key;
         holds = subst (λ (q : Cursor). Holds q) (sym n) (s .holds);
         few = omega (arith, ap (λ (q : Cursor). q .count) n, s .few);
@@ -101,8 +101,8 @@ module _ (x : Settings) (prices : List ℕ) (m : Message) (t many : ℕ) (rings 
       let is : old ≡ getD held (at .value) (carriedOf m) = q ∙ get-oldest many rings ring (d .value) sound ∙ any held (d .value) none (carriedOf m) (omega (arith, k .below, long)) ∙ ap (λ (i : ℕ). getD held i (carriedOf m)) v in
       let r : yes ≡ replayed o m t held (c .count) = ap (λ (b : Bool). cond b yes nothing) (sym full) in
       record {
-        is = ap (λ (y : Carried). y ∷ []) is ∙ ap (λ (y : Draw (List Carried)). y .value) r;
-        words = u ∙ ap (λ (y : Draw (List Carried)). y .words) r;
+        is = ap (λ (y : Carried). replayOf y ∷ []) is ∙ ap (λ (y : Draw (List accept.Echoed)). y .value) r;
+        words = u ∙ ap (λ (y : Draw (List accept.Echoed)). y .words) r;
         key = k .key ∙ s .key;
         holds = k .holds;
         few = omega (arith, k .few, s .few);
@@ -120,26 +120,26 @@ module _ (x : Settings) (prices key : List ℕ) (m : Message) (t : ℕ) where
 
   timed-is : (a b : Bool) (old : Carried) (w la wa lb wb : ℕ) → la ≡ cond a (drawAt (carriedOf m) w .value) 0 → wa ≡ cond a (drawAt (carriedOf m) w .words) w
       → lb ≡ cond b (drawAt old wa .value) 0 → wb ≡ cond b (drawAt old wa .words) wa
-      → timed O m t w (cond a (carriedOf m ∷ []) [] ++ cond b (old ∷ []) []) ≡ record { copies = cond a (echo m t (carriedOf m) la ∷ []) [] ++ cond b (echo m t old lb ∷ []) []; words = wb }
+      → timed O m t w (cond a (duplicateOf (carriedOf m) ∷ []) [] ++ cond b (replayOf old ∷ []) []) ≡ record { all = cond a (doubled m la ∷ []) [] ++ cond b (replayedAs old lb ∷ []) []; words = wb }
   timed-is true true old w la wa lb wb p q r s = (λ j. record {
-    copies = echo m t (carriedOf m) (sym p j) ∷ echo m t old ((ap (λ (k : ℕ). drawAt old k .value) (sym q) ∙ sym r) j) ∷ [];
+    all = doubled m (sym p j) ∷ replayedAs old ((ap (λ (k : ℕ). drawAt old k .value) (sym q) ∙ sym r) j) ∷ [];
     words = (ap (λ (k : ℕ). drawAt old k .words) (sym q) ∙ sym s) j;
   })
-  timed-is true false old w la wa lb wb p q r s = (λ j. record { copies = echo m t (carriedOf m) (sym p j) ∷ []; words = (sym q ∙ sym s) j })
+  timed-is true false old w la wa lb wb p q r s = (λ j. record { all = doubled m (sym p j) ∷ []; words = (sym q ∙ sym s) j })
   timed-is false true old w la wa lb wb p q r s = (λ j. record {
-    copies = echo m t old ((ap (λ (k : ℕ). drawAt old k .value) (sym q) ∙ sym r) j) ∷ [];
+    all = replayedAs old ((ap (λ (k : ℕ). drawAt old k .value) (sym q) ∙ sym r) j) ∷ [];
     words = (ap (λ (k : ℕ). drawAt old k .words) (sym q) ∙ sym s) j;
   })
-  timed-is false false old w la wa lb wb p q r s = (λ j. record { copies = []; words = (sym q ∙ sym s) j })
+  timed-is false false old w la wa lb wb p q r s = (λ j. record { all = []; words = (sym q ∙ sym s) j })
 
 module _ (x : Settings) (prices : List ℕ) (m : Message) (t : ℕ) (ring : List Carried) (c : Cursor) where
   pub silent : echoingAt x ≡ false → (e : Echoes) → e ≡ noEchoes (c .count) → Echoed m t (echoesOf (keyed x prices (c .key)) m t ring (c .count)) e
   silent h e q =
       let o : Opening = keyed x prices (c .key) in
-      let d : echoesOf o m t ring (c .count) ≡ record { copies = []; words = c .count } =
-      ap (λ (b : Bool). cond b (timed o m t (echoed o m t ring (c .count) .words) (echoed o m t ring (c .count) .value)) (record { copies = []; words = c .count })) h in
+      let d : echoesOf o m t ring (c .count) ≡ record { all = []; words = c .count } =
+      ap (λ (b : Bool). cond b (timed o m t (echoed o m t ring (c .count) .words) (echoed o m t ring (c .count) .value)) (record { all = []; words = c .count })) h in
       record {
-        copies = ap (λ (y : accept.Echoes). y .copies) d ∙ ap (echoesIn m t) (sym q);
+        all = ap (λ (y : accept.Echoes). y .all) d ∙ ap (echoesIn m) (sym q);
         words = ap (λ (y : accept.Echoes). y .words) d ∙ ap (λ (y : Echoes). y .words) (sym q);
         first = omega (arith, ap (λ (y : Echoes). y .duplicate .latency) q);
         second = omega (arith, ap (λ (y : Echoes). y .replay .latency) q);
@@ -152,14 +152,14 @@ module _ (x : Settings) (prices : List ℕ) (m : Message) (t : ℕ) (ring : List
       (record { duplicate = record { some = d .hit; latency = a .latency .ns }; replay = record { some = p .hit; latency = b .latency .ns }; old = p .old; words = b .next .count })
   echoing-from h d sd p sp a b sa sb =
       let o : Opening = keyed x prices (c .key) in
-      let e : Draw (List Carried) = echoed o m t ring (c .count) in
+      let e : Draw (List accept.Echoed) = echoed o m t ring (c .count) in
       let kp : p .next .key ≡ c .key = sp .key ∙ sd .key in
       let ka : a .next .key ≡ c .key = sa .key ∙ kp in
-      let r : Draw (List Carried) = replayed o m t ring (chance (c .key) (x .config .duplicate) (c .count) .words) in
+      let r : Draw (List accept.Echoed) = replayed o m t ring (chance (c .key) (x .config .duplicate) (c .count) .words) in
       let same : replayed (keyed x prices (d .next .key)) m t ring (d .next .count) ≡ r = (λ j. replayed (keyed x prices (sd .key j)) m t ring (sd .words j)) in
-      let wp : p .next .count ≡ e .words = sp .words ∙ ap (λ (q : Draw (List Carried)). q .words) same in
-      let vp : e .value ≡ cond (d .hit) (carriedOf m ∷ []) [] ++ cond (p .hit) (p .old ∷ []) [] =
-      (λ j. cond (sym (sd .hits) j) (carriedOf m ∷ []) [] ++ (ap (λ (q : Draw (List Carried)). q .value) (sym same) ∙ sym (sp .is)) j) in
+      let wp : p .next .count ≡ e .words = sp .words ∙ ap (λ (q : Draw (List accept.Echoed)). q .words) same in
+      let vp : e .value ≡ cond (d .hit) (duplicateOf (carriedOf m) ∷ []) [] ++ cond (p .hit) (replayOf (p .old) ∷ []) [] =
+      (λ j. cond (sym (sd .hits) j) (duplicateOf (carriedOf m) ∷ []) [] ++ (ap (λ (q : Draw (List accept.Echoed)). q .value) (sym same) ∙ sym (sp .is)) j) in
       let la : a .latency .ns ≡ cond (d .hit) (delayDraw x prices (m .from) t (m .wire) (c .key) (e .words) .value) 0 = sa .is ∙ (λ j. cond (d .hit) (delayDraw x prices (m .from) t (m .wire) (kp j) (wp j) .value) 0) in
       let wa : a .next .count ≡ cond (d .hit) (delayDraw x prices (m .from) t (m .wire) (c .key) (e .words) .words) (e .words) =
       sa .words ∙ (λ j. cond (d .hit) (delayDraw x prices (m .from) t (m .wire) (kp j) (wp j) .words) (wp j)) in
@@ -167,10 +167,10 @@ module _ (x : Settings) (prices : List ℕ) (m : Message) (t : ℕ) (ring : List
       let wb : b .next .count ≡ cond (p .hit) (delayDraw x prices (m .from) t (p .old .wire) (c .key) (a .next .count) .words) (a .next .count) =
       sb .words ∙ (λ j. cond (p .hit) (delayDraw x prices (m .from) t (p .old .wire) (ka j) (a .next .count) .words) (a .next .count)) in
       let all : echoesOf o m t ring (c .count) ≡ record {
-        copies = cond (d .hit) (echo m t (carriedOf m) (a .latency .ns) ∷ []) [] ++ cond (p .hit) (echo m t (p .old) (b .latency .ns) ∷ []) [];
+        all = cond (d .hit) (doubled m (a .latency .ns) ∷ []) [] ++ cond (p .hit) (replayedAs (p .old) (b .latency .ns) ∷ []) [];
         words = b .next .count;
       } =
-      ap (λ (q : Bool). cond q (timed o m t (e .words) (e .value)) (record { copies = []; words = c .count })) h
+      ap (λ (q : Bool). cond q (timed o m t (e .words) (e .value)) (record { all = []; words = c .count })) h
       ∙ ap (timed o m t (e .words)) vp
       ∙ timed-is x prices (c .key) m t (d .hit) (p .hit) (p .old) (e .words) (a .latency .ns) (a .next .count) (b .latency .ns) (b .next .count) la wa lb wb in
-      record { copies = ap (λ (y : accept.Echoes). y .copies) all; words = ap (λ (y : accept.Echoes). y .words) all; first = sa .below; second = sb .below }
+      record { all = ap (λ (y : accept.Echoes). y .all) all; words = ap (λ (y : accept.Echoes). y .words) all; first = sa .below; second = sb .below }

@@ -14,7 +14,6 @@ use Rattle.link_latency.specs.Latency.{longest}
 use Rattle.fault_decide.specs.Decide.{Decision, decideOf}
 use Rattle.table_rings.specs.Rings.{none}
 use Rattle.fault_blocks.specs.Blocks.{blocked, blocksOf}
-use Rattle.table_waiting.specs.declared.Copy.{Copy}
 use Rattle.link_draws.specs.Drawing.{delayDraw}
 use Rattle.spec_network.specs.Lending.{tablesOf}
 use Rattle.spec_network.specs.Lists.{bitAt}
@@ -24,7 +23,7 @@ use Rattle.spec_network.specs.Limits.{rateOf}
 use Rattle.spec_network.specs.Tables.{cell, live, sizesAt, tillForm, blocksAt}
 use Rattle.spec_network.specs.Real.{chance, faultKeyOf, idOf, openingAt}
 use Rattle.spec_network.specs.Accept as accept
-use Rattle.spec_network.specs.Accept.{Drawn, drawn, echo, carriedOf, deduplicated, partition, loss, fault, sent, classOf}
+use Rattle.spec_network.specs.Accept.{Drawn, drawn, Timed, duplicateOf, replayOf, carriedOf, deduplicated, partition, loss, fault, sent, classOf}
 use Rattle.call_offer.specs.declared.Message.{Message}
 use Rattle.call_offer.specs.declared.Replay.{Replay}
 use Rattle.call_offer.specs.declared.Echoes.{Echoes}
@@ -78,23 +77,30 @@ pub record DelayedIf (hit : Bool) (d : Draw ℕ) (c : Cursor) (r : Sample) : Typ
   pub below : r .latency .ns ≤ longest
 
 -- the replay draw, and what it echoes
-pub record Replays (d : Draw (List Carried)) (c : Cursor) (r : Replay) : Type 0 where
-  pub is : cond (r .hit) (r .old ∷ []) [] ≡ d .value
+pub record Replays (d : Draw (List accept.Echoed)) (c : Cursor) (r : Replay) : Type 0 where
+  pub is : cond (r .hit) (replayOf (r .old) ∷ []) [] ≡ d .value
   pub words : r .next .count ≡ d .words
   pub key : r .next .key ≡ c .key
   pub holds : Holds (r .next)
   pub few : r .next .count ≤ c .count + 4
   pub short : r .old .wire ≤ longestWire
 
--- the echoes as copies, duplicate first
-abbrev pub echoesIn : accept.Message → ℕ → Echoes → List Copy
-echoesIn m t e = cond (e .duplicate .some) (echo m t (carriedOf m) (e .duplicate .latency) ∷ []) [] ++ cond (e .replay .some) (echo m t (e .old) (e .replay .latency) ∷ []) []
+-- an echo of the message, and one of the ring's
+abbrev pub doubled : accept.Message → (latency : ℕ) → Timed
+doubled m latency = record { what = duplicateOf (carriedOf m); latency = latency }
+
+abbrev pub replayedAs : Carried → (latency : ℕ) → Timed
+replayedAs old latency = record { what = replayOf old; latency = latency }
+
+-- the echoes, duplicate first
+abbrev pub echoesIn : accept.Message → Echoes → List Timed
+echoesIn m e = cond (e .duplicate .some) (doubled m (e .duplicate .latency) ∷ []) [] ++ cond (e .replay .some) (replayedAs (e .old) (e .replay .latency) ∷ []) []
 
 abbrev pub noEchoes : ℕ → Echoes
 noEchoes words = record { duplicate = record { some = false; latency = 0 }; replay = record { some = false; latency = 0 }; old = none; words = words }
 
 pub record Echoed (m : accept.Message) (t : ℕ) (d : accept.Echoes) (e : Echoes) : Type 0 where
-  pub copies : d .copies ≡ echoesIn m t e
+  pub all : d .all ≡ echoesIn m e
   pub words : d .words ≡ e .words
   pub first : e .duplicate .latency ≤ longest
   pub second : e .replay .latency ≤ longest

@@ -1,5 +1,5 @@
 -- What an offer writes is what `Writes` says of its class and its draws. Assumes nothing.
-use Prim.Native.Nat.{ℕ, _≤_, _<_}
+use Prim.Native.Nat.{ℕ, suc, _≤_, _<_}
 use mathlib.Core.Path.{_≡_, refl, sym, ap, _∙_}
 use mathlib.Core.Bool.{Bool, true, false, cond}
 use mathlib.Core.List.{List, [], _∷_}
@@ -13,11 +13,11 @@ use Rattle.fault_decide.specs.Decide.{Decision}
 use Rattle.table_waiting.specs.declared.Copy.{Copy}
 use Rattle.table_rings.specs.Rings.{numberOf, pushed}
 use Rattle.spec_network.specs.Opening.{Opening, Sizes, link}
-use Rattle.spec_network.specs.Live.{idsAt, numbered, ringsOf}
+use Rattle.spec_network.specs.Live.{idsAt, ringsOf}
 use Rattle.spec_network.specs.Tables.{cell, Tables, live, sizesAt, settingsAt, idsStart, sequenceAt, faultWordsAt}
 use Rattle.spec_network.specs.Real.{drawsOf, openingAt}
 use Rattle.spec_network.specs.Accept as accept
-use Rattle.spec_network.specs.Accept.{Drawn, drawn, original, echo, carriedOf, Class, sent, classOf, add}
+use Rattle.spec_network.specs.Accept.{Timed, Drawn, drawn, original, echo, echoCopies, carriedOf, Class, sent, classOf, add}
 use Rattle.spec_network.specs.Writes.{setRings, setRules, wordsT, netT, ruledT, marksT, pushT, rememberT, effectT, offeredT}
 use Rattle.spec_network.specs.Lending.{tablesOf}
 use Rattle.call_offer.specs.declared.Message.{Message}
@@ -25,10 +25,10 @@ use Rattle.call_offer.specs.declared.Faulted.{Faulted}
 use Rattle.call_offer.specs.declared.Sending.{Sending}
 use Rattle.call_offer.specs.declared.Offer.{Offer}
 use Rattle.call_offer.specs.declared.Offer.the-variants.{Deduplicated, Partition, Loss, Fault, Sent}
-use Rattle.call_offer.specs.Offering.{told, echoesIn, Answers}
+use Rattle.call_offer.specs.Offering.{told, doubled, replayedAs, echoesIn, Answers}
 use Rattle.call_schedule.specs.declared.Counts.{Counts}
 use Rattle.call_schedule.specs.Writing.{markedSeen, pushedNet, pushedWaiting, remembered, sentT, offerT, Sends, Applies, classIn, countsOf}
-use Rattle.call_schedule.proofs.Pushing.{after, push-three}
+use Rattle.call_schedule.proofs.Pushing.{after, push-copies}
 
 -- ---- Sent
 
@@ -47,16 +47,16 @@ module _ (T : Tables) (m : accept.Message) (t : ℕ) (x : Sending) (below : t < 
   T₂ = marksT z (netT (wordsT T (link (m .from) t) (x .echoes .words)) faultWordsAt (x .fault)) t ids
 
   abbrev first : Copy
-  first = original m t (x .latency)
+  first = original m t 0 (x .latency)
 
-  abbrev second : Copy
-  second = echo m t (carriedOf m) (x .echoes .duplicate .latency)
+  abbrev second : Timed
+  second = doubled m (x .echoes .duplicate .latency)
 
-  abbrev third : Copy
-  third = echo m t (x .echoes .old) (x .echoes .replay .latency)
+  abbrev third : Timed
+  third = replayedAs (x .echoes .old) (x .echoes .replay .latency)
 
   abbrev T₅ : Tables
-  T₅ = after (after (after T₂ true first) (x .echoes .duplicate .some) second) (x .echoes .replay .some) third
+  T₅ = after (after (after T₂ true first) (x .echoes .duplicate .some) (echo m t 0 second)) (x .echoes .replay .some) (echo m t 0 third)
 
   ids-are : placed (m .id) (idsAt (live z T) t) ≡ ids
   ids-are = ap (placed (m .id)) (getD-upTo (z .tills) (λ k. idsOf (T .seen) (idsStart z k) (cell (T .seen) k)) t [] below)
@@ -71,15 +71,17 @@ module _ (T : Tables) (m : accept.Message) (t : ℕ) (x : Sending) (below : t < 
   pub sent-is : sentT o m T t x ≡ setRings T₅ (remembered (settingsAt (T .setup)) (T .rings) m)
   unfolding sentT drawsOf pushedNet pushedWaiting
   sent-is =
-      (λ j. rememberT o m (pushT z (marksT z (netT (wordsT T (link (m .from) t) (x .echoes .words)) faultWordsAt (x .fault)) t (ids-are j)) (numbered (same-sequence j) (first ∷ echoesIn m t (x .echoes)))))
-      ∙ ap (rememberT o m) (push-three z T₂ first second third (x .echoes .duplicate .some) (x .echoes .replay .some) (omega (arith, length-set (T .net) faultWordsAt (x .fault))))
+      (λ j.
+      let n = suc (same-sequence j) in
+      rememberT o m (pushT z (marksT z (netT (wordsT T (link (m .from) t) (x .echoes .words)) faultWordsAt (x .fault)) t (ids-are j)) (original m t n (x .latency) ∷ echoCopies m t n (echoesIn m (x .echoes)))))
+      ∙ ap (rememberT o m) (push-copies z T₂ m t (x .latency) second third (x .echoes .duplicate .some) (x .echoes .replay .some) (omega (arith, length-set (T .net) faultWordsAt (x .fault))))
       ∙ ring-by (o .draws .echoing) T₅ (pushed (ringsOf z) (T₅ .rings) (numberOf (m .kind) (m .scope)) (carriedOf m))
 
 pub sends : (m : Message) (t : ℕ) (x : Sending) (setup net words seen waiting rings : List ℕ) {seen′ n₁ n₂ n₃ w₁ w₂ w₃ rings′ : List ℕ} {c₁ c₂ c₃ : Copy}
     → t < sizesAt setup .tills → 2 ≤ length net → seen′ ≡ markedSeen (sizesAt setup) seen t (m .id)
-    → c₁ ≡ original (told m) t (x .latency) → n₁ ≡ pushedNet true (set net faultWordsAt (x .fault)) waiting c₁ → w₁ ≡ pushedWaiting true (set net faultWordsAt (x .fault)) waiting c₁
-    → c₂ ≡ echo (told m) t (carriedOf (told m)) (x .echoes .duplicate .latency) → n₂ ≡ pushedNet (x .echoes .duplicate .some) n₁ w₁ c₂ → w₂ ≡ pushedWaiting (x .echoes .duplicate .some) n₁ w₁ c₂
-    → c₃ ≡ echo (told m) t (x .echoes .old) (x .echoes .replay .latency) → n₃ ≡ pushedNet (x .echoes .replay .some) n₂ w₂ c₃ → w₃ ≡ pushedWaiting (x .echoes .replay .some) n₂ w₂ c₃
+    → c₁ ≡ original (told m) t 0 (x .latency) → n₁ ≡ pushedNet true (set net faultWordsAt (x .fault)) waiting c₁ → w₁ ≡ pushedWaiting true (set net faultWordsAt (x .fault)) waiting c₁
+    → c₂ ≡ echo (told m) t 0 (doubled (told m) (x .echoes .duplicate .latency)) → n₂ ≡ pushedNet (x .echoes .duplicate .some) n₁ w₁ c₂ → w₂ ≡ pushedWaiting (x .echoes .duplicate .some) n₁ w₁ c₂
+    → c₃ ≡ echo (told m) t 0 (replayedAs (x .echoes .old) (x .echoes .replay .latency)) → n₃ ≡ pushedNet (x .echoes .replay .some) n₂ w₂ c₃ → w₃ ≡ pushedWaiting (x .echoes .replay .some) n₂ w₂ c₃
     → rings′ ≡ remembered (settingsAt setup) rings (told m) → Sends m t x setup net words seen waiting rings n₃ (set words (link (m .from) t) (x .echoes .words)) seen′ w₃ rings′
 unfolding Sends
 sends m t x setup net words seen waiting rings {seen′} {n₁} {n₂} {n₃} {w₁} {w₂} {w₃} {rings′} {c₁} {c₂} {c₃} below size es k₁ p₁ q₁ k₂ p₂ q₂ k₃ p₃ q₃ er = λ names tills keys prices rules blocks log.
@@ -151,7 +153,9 @@ module _ (o : Opening) (m : accept.Message) (T : Tables) (t : ℕ) where
       let t₁ : netT (wordsT T (link (m .from) t) (x .echoes .words)) faultWordsAt (x .fault) ≡ ruledT (wordsT T (link (m .from) t) (d .echoes .words)) (d .verdict) =
       (λ j. netT (wordsT T (link (m .from) t) (words j)) faultWordsAt (sym (h .words) j)) ∙ unruled (wordsT T (link (m .from) t) (d .echoes .words)) (d .verdict) (h .passed) in (
         sym (a .0),
-        (λ j. rememberT o m (pushT (o .sizes) (marksT (o .sizes) (t₁ j) t (placed (m .id) (idsAt s t))) (numbered (s .queue .sequence) (original m t (sym (h .latency) j) ∷ sym (h .echoes .copies) j)))) ∙ by-class _ (a .0),
+        (λ j.
+            let n = suc (s .queue .sequence) in
+            rememberT o m (pushT (o .sizes) (marksT (o .sizes) (t₁ j) t (placed (m .id) (idsAt s t))) (original m t n (sym (h .latency) j) ∷ echoCopies m t n (sym (h .echoes .all) j)))) ∙ by-class _ (a .0),
       )
 
 -- ---- The counts

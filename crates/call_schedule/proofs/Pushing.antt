@@ -19,12 +19,12 @@ use Rattle.table_waiting.specs.Waiting.{insertCopy, copies, form, width, read}
 use Rattle.table_waiting.proofs.Order.{length-insert}
 use Rattle.table_rings.specs.Rings.{numberOf, pushed}
 use Rattle.spec_network.specs.Opening.{Sizes, Settings}
-use Rattle.spec_network.specs.Live.{withSequence, numbered, ringsOf}
+use Rattle.spec_network.specs.Live.{ringsOf}
 use Rattle.spec_network.specs.Tables.{cell, Tables, idsStart, sequenceAt, waitingAt, faultWordsAt}
-use Rattle.spec_network.specs.Accept.{Message, carriedOf}
+use Rattle.spec_network.specs.Accept.{Message, Timed, original, echo, echoCopies, carriedOf}
 use Rattle.spec_network.specs.Writes.{setNet, setWaiting, pushT}
 use Rattle.call_offer.specs.Offering.{echoingAt}
-use Rattle.call_schedule.specs.Writing.{markedSeen, queue, pushedNet, pushedWaiting, remembered, Room}
+use Rattle.call_schedule.specs.Writing.{markedSeen, withSequence, queue, pushedNet, pushedWaiting, remembered, Room}
 
 -- ---- Marks
 
@@ -110,6 +110,19 @@ room-after hit net waiting net′ waiting′ c n e l r =
 abbrev pub after : Tables → Bool → Copy → Tables
 after T hit c = setWaiting (setNet T (pushedNet hit (T .net) (T .waiting) c)) (pushedWaiting hit (T .net) (T .waiting) c)
 
+-- each takes the next sequence; n is the last one given
+abbrev numbered : ℕ → List Copy → List Copy
+numbered n [] = []
+numbered n (c ∷ cs) = withSequence c (suc n) ∷ numbered (suc n) cs
+
+-- an original and at most two echoes, made with their sequences, and made without
+copies-numbered : (m : Message) (t n latency : ℕ) (d r : Timed) (a b : Bool) → original m t (suc n) latency ∷ echoCopies m t (suc n) (cond a (d ∷ []) [] ++ cond b (r ∷ []) [])
+    ≡ numbered n (original m t 0 latency ∷ (cond a (echo m t 0 d ∷ []) [] ++ cond b (echo m t 0 r ∷ []) []))
+copies-numbered m t n latency d r true true = refl
+copies-numbered m t n latency d r true false = refl
+copies-numbered m t n latency d r false true = refl
+copies-numbered m t n latency d r false false = refl
+
 module _ (z : Sizes) where
   push-one : (T : Tables) (c : Copy) (cs : List Copy) → 2 ≤ length (T .net)
       → pushT z T (numbered (cell (T .net) sequenceAt) (c ∷ cs)) ≡ pushT z (after T true c) (numbered (cell (after T true c .net) sequenceAt) cs)
@@ -127,7 +140,7 @@ module _ (z : Sizes) where
   push-last T true c h = push-one T c [] h
   push-last T false c h = refl
 
-  pub push-three : (T : Tables) (c₁ c₂ c₃ : Copy) (a b : Bool) → 2 ≤ length (T .net)
+  push-three : (T : Tables) (c₁ c₂ c₃ : Copy) (a b : Bool) → 2 ≤ length (T .net)
       → pushT z T (numbered (cell (T .net) sequenceAt) (c₁ ∷ (cond a (c₂ ∷ []) [] ++ cond b (c₃ ∷ []) []))) ≡ after (after (after T true c₁) a c₂) b c₃
   push-three T c₁ c₂ c₃ a b h =
       let T₁ = after T true c₁ in
@@ -137,6 +150,12 @@ module _ (z : Sizes) where
       push-one T c₁ (cond a (c₂ ∷ []) [] ++ cond b (c₃ ∷ []) []) h
       ∙ push-some T₁ a c₂ (cond b (c₃ ∷ []) []) (omega (arith, l₁))
       ∙ push-last T₂ b c₃ (omega (arith, l₁, l₂))
+
+  pub push-copies : (T : Tables) (m : Message) (t latency : ℕ) (d r : Timed) (a b : Bool) → 2 ≤ length (T .net)
+      → let n = suc (cell (T .net) sequenceAt) in pushT z T (original m t n latency ∷ echoCopies m t n (cond a (d ∷ []) [] ++ cond b (r ∷ []) []))
+      ≡ after (after (after T true (original m t 0 latency)) a (echo m t 0 d)) b (echo m t 0 r)
+  push-copies T m t latency d r a b h =
+      ap (pushT z T) (copies-numbered m t (cell (T .net) sequenceAt) latency d r a b) ∙ push-three T (original m t 0 latency) (echo m t 0 d) (echo m t 0 r) a b h
 
 -- ---- The ring
 

@@ -12,10 +12,10 @@ use Rattle.table_waiting.specs.Waiting.{insertCopy, copies, form, width}
 use Rattle.link_latency.specs.Latency.{longest}
 use Rattle.table_rings.specs.Rings.{numberOf, pushed}
 use Rattle.spec_network.specs.Opening.{Opening, Sizes, Settings, link, links, lastNumber, mostTypes, mostTills}
-use Rattle.spec_network.specs.Live.{withSequence, numbered, idsAt, ringsOf}
+use Rattle.spec_network.specs.Live.{idsAt, ringsOf}
 use Rattle.spec_network.specs.Tables.{cell, Tables, live, sizesAt, setupWidth, netWidth, idsStart, sequenceAt, waitingAt, faultWordsAt}
 use Rattle.spec_network.specs.Accept as accept
-use Rattle.spec_network.specs.Accept.{original, carriedOf, Class, deduplicated, partition, loss, fault, sent}
+use Rattle.spec_network.specs.Accept.{original, echoCopies, carriedOf, Class, deduplicated, partition, loss, fault, sent}
 use Rattle.spec_network.specs.Writes.{wordsT, netT, ruledT, marksT, pushT, rememberT}
 use Rattle.spec_network.specs.Real.{openingAt}
 use Rattle.spec_network.specs.Lending.{tablesOf}
@@ -32,6 +32,9 @@ use Rattle.call_schedule.specs.declared.Counts.{Counts}
 -- a mark more for the till
 abbrev pub markedSeen : Sizes → List ℕ → (t id : ℕ) → List ℕ
 markedSeen z seen t id = let ids = placed id (idsOf seen (idsStart z t) (cell seen t)) in set (putWords seen (idsStart z t) ids) t (length ids)
+
+abbrev pub withSequence : Copy → ℕ → Copy
+withSequence c n = record { delivery = c .delivery; sequence = n; original = c .original; id = c .id; tag = c .tag }
 
 -- a copy takes the next sequence and stands among those that wait
 abbrev pub queue : (net waiting : List ℕ) → Copy → List Copy
@@ -86,7 +89,8 @@ sentT o m T t x =
     let s = live (o .sizes) T in
     let T₁ = netT (wordsT T (link (m .from) t) (x .echoes .words)) faultWordsAt (x .fault) in
     let T₂ = marksT (o .sizes) T₁ t (placed (m .id) (idsAt s t)) in
-    rememberT o m (pushT (o .sizes) T₂ (numbered (s .queue .sequence) (original m t (x .latency) ∷ echoesIn m t (x .echoes))))
+    let n = suc (s .queue .sequence) in
+    rememberT o m (pushT (o .sizes) T₂ (original m t n (x .latency) ∷ echoCopies m t n (echoesIn m (x .echoes))))
 
 unfoldable pub offerT : Opening → accept.Message → Tables → ℕ → Offer → Tables
 offerT o m T t Deduplicated = T

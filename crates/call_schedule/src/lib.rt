@@ -4,7 +4,7 @@ ghost use Prim.Native.Nat.{_+_, _*_, _<_, _≤_};
 ghost use lib.ListN.{length};
 ghost use Rattle.link_latency.specs.Latency.{longest};
 ghost use Rattle.spec_network.specs.Opening.{latestNow, mostTypes, link};
-ghost use Rattle.spec_network.specs.Accept.{original, echo, add, total};
+ghost use Rattle.spec_network.specs.Accept.{copyWith, original, add, total};
 ghost use Rattle.spec_network.specs.Tables.{cell, sizesAt, settingsAt, setupWidth};
 ghost use Rattle.call_offer.specs.Needed.{Ranged, RingsHeld, SeenHeld};
 ghost use Rattle.call_offer.specs.Offering.{told};
@@ -64,33 +64,10 @@ fn push_if(hit: bool, net: &mut [u64], waiting: &mut [u64], c: Copy)
     net[ask_tables::WAITING] = n + 1;
 }
 
-fn original(m: Message, to: usize, latency: u64) -> Copy
+// A copy of what is carried; it takes its sequence when it is pushed.
+fn copy_with(m: Message, to: usize, e: Entry, latency: u64, flag: u64, id: u64) -> Copy
     requires { ⌜ (m .now ≤ latestNow) × (latency ≤ longest) ⌝ }
-    ensures { λ r. ⌜ r ≡ original (told m) to latency ⌝ }
-{
-    let delivery = Delivery {
-        from: m.from,
-        to: to as u64,
-        kind: m.kind,
-        class: m.class,
-        sent: m.now,
-        time: m.now + latency,
-        scope: m.scope,
-        wire: m.wire,
-    };
-    Copy {
-        delivery,
-        sequence: 0,
-        original: 1,
-        id: m.id,
-        tag: m.tag,
-    }
-}
-
-// An echo carries no id.
-fn echo(m: Message, to: usize, e: Entry, latency: u64) -> Copy
-    requires { ⌜ (m .now ≤ latestNow) × (latency ≤ longest) ⌝ }
-    ensures { λ r. ⌜ r ≡ echo (told m) to e latency ⌝ }
+    ensures { λ r. ⌜ r ≡ copyWith (told m) to 0 e latency flag id ⌝ }
 {
     let delivery = Delivery {
         from: m.from,
@@ -105,10 +82,30 @@ fn echo(m: Message, to: usize, e: Entry, latency: u64) -> Copy
     Copy {
         delivery,
         sequence: 0,
-        original: 0,
-        id: 0,
+        original: flag,
+        id,
         tag: e.tag,
     }
+}
+
+fn original(m: Message, to: usize, latency: u64) -> Copy
+    requires { ⌜ (m .now ≤ latestNow) × (latency ≤ longest) ⌝ }
+    ensures { λ r. ⌜ r ≡ original (told m) to 0 latency ⌝ }
+{
+    let own = Entry {
+        class: m.class,
+        wire: m.wire,
+        tag: m.tag,
+    };
+    copy_with(m, to, own, latency, 1, m.id)
+}
+
+// An echo carries no id.
+fn echo(m: Message, to: usize, e: Entry, latency: u64) -> Copy
+    requires { ⌜ (m .now ≤ latestNow) × (latency ≤ longest) ⌝ }
+    ensures { λ r. ⌜ r ≡ copyWith (told m) to 0 e latency 0 0 ⌝ }
+{
+    copy_with(m, to, e, latency, 0, 0)
 }
 
 // The ring takes the message, where an echo rate is above 0.

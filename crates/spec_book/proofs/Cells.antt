@@ -55,7 +55,7 @@ In v = v < 2 ^ 64
 
 module _ (o : Opening) (lim : Limited (o .sizes)) (g : DrawsFit o) (m : Message) (k : NearMessage (o .sizes) m) (q : MessageFits m) where
   -- what an effect does to sequence, words and fault words
-  effect-sequence : (c : Class) (s : Live) (d : Drawn) (t : ℕ) → length (d .echoes .copies) ≤ 2 → effect o m c s d t .queue .sequence ≤ s .queue .sequence + 3
+  effect-sequence : (c : Class) (s : Live) (d : Drawn) (t : ℕ) → length (d .echoes .all) ≤ 2 → effect o m c s d t .queue .sequence ≤ s .queue .sequence + 3
   effect-sequence deduplicated s d t h = omega arith
   effect-sequence partition s d t h = omega arith
   effect-sequence loss s d t h = omega arith

@@ -25,8 +25,8 @@ use Rattle.table_rings.specs.Rings as rings
 use Rattle.fault_rules.specs.Rules.{ruleWidth, firedWord, fireTable}
 use Rattle.fault_decide.specs.Decide.{Decision}
 use Rattle.spec_network.specs.Opening.{Draw, Sizes, Opening, link, latestNow, longestWire}
-use Rattle.spec_network.specs.Live.{numbered, Carried, Live, idsAt, ringsOf}
-use Rattle.spec_network.specs.Accept.{Message, Echoes, Drawn, drawn, context, carriedOf, ringFor, isEmpty, timed, replayed, echoed, echoesOf, original, echo, Class, deduplicated, partition, loss, fault, sent, copies}
+use Rattle.spec_network.specs.Live.{Carried, Live, idsAt, ringsOf}
+use Rattle.spec_network.specs.Accept.{Message, Echoed, Timed, Echoes, Drawn, drawn, context, carriedOf, ringFor, isEmpty, timed, replayed, echoed, echoesOf, original, echo, echoCopies, Class, deduplicated, partition, loss, fault, sent, copies}
 use Rattle.spec_network.specs.Tables.{cell, Tables, live, idsStart, sequenceAt, waitingAt, faultWordsAt}
 use Rattle.spec_network.specs.Writes.{setNet, setTills, setWords, setSeen, setWaiting, setRings, setRules, setBlocks, setLog, netT, wordsT, marksT, waitingT, ruledT, pushT, rememberT, effectT}
 use Rattle.spec_book.specs.Cells.{Fit, CellsFit}
@@ -107,15 +107,6 @@ set-most (x ∷ l) zero v (suc j) B h k = h
 set-most (x ∷ l) (suc i) v zero B h k = h
 set-most (x ∷ l) (suc i) v (suc j) B h k = set-most l i v j B h k
 
--- each takes the next sequence
-numbered-fit : (n : ℕ) (cs : List Copy) → n + length cs < 2 ^ 64 → Each CopyFit cs → Each CopyFit (numbered n cs)
-numbered-fit n [] h e = tt
-numbered-fit n (c ∷ cs) h e =
-    let q = e .0 in (
-      (q .0, (q .1 .0, (q .1 .1 .0, (q .1 .1 .1 .0, (q .1 .1 .1 .1 .0, (q .1 .1 .1 .1 .1 .0, (q .1 .1 .1 .1 .1 .1 .0, (q .1 .1 .1 .1 .1 .1 .1 .0, (omega arith, q .1 .1 .1 .1 .1 .1 .1 .1 .1))))))))),
-      numbered-fit (suc n) cs (omega arith) (e .1),
-    )
-
 pub push-cells : (z : Sizes) (cs : List Copy) (T : Tables) (B : ℕ) → CellsFit T → Each CopyFit cs → cell (T .net) waitingAt ≤ B → cell (T .net) sequenceAt ≤ B → B + length cs < 2 ^ 64 → CellsFit (pushT z T cs)
 push-cells z [] T B f e w s h = f
 push-cells z (c ∷ cs) T B f e w s h =
@@ -186,30 +177,41 @@ module _ (o : Opening) (lim : Limited (o .sizes)) (g : DrawsFit o) (m : Message)
   abbrev Good : Carried → Type 0
   Good c = (c .wire ≤ longestWire) × Fit 64 (rings.words c)
 
-  original-fit : (w : ℕ) → CopyFit (original m t (o .draws .latency (m .from) t (m .wire) w .value))
-  original-fit w =
+  original-fit : (n w : ℕ) → n < 2 ^ 64 → CopyFit (original m t n (o .draws .latency (m .from) t (m .wire) w .value))
+  original-fit n w f =
       let l = g .latency (m .from) t (m .wire) w from-small b wire-small in (
         omega (arith, from-small, lim .tills),
-        (omega (arith, lim .tills), (kind-small, (class-small, (omega (arith, q .now), (omega (arith, q .now, l), (scope-small, (omega (arith, wire-small), (omega arith, (omega arith, (q .id, (q .tag, tt))))))))))),
+        (omega (arith, lim .tills), (kind-small, (class-small, (omega (arith, q .now), (omega (arith, q .now, l), (scope-small, (omega (arith, wire-small), (f, (omega arith, (q .id, (q .tag, tt))))))))))),
       )
 
-  echo-fit : (c : Carried) (w : ℕ) → Good c → CopyFit (echo m t c (o .draws .latency (m .from) t (c .wire) w .value))
-  echo-fit c w h =
-      let l = g .latency (m .from) t (c .wire) w from-small b (h .0) in (
+  -- and lands in time
+  abbrev Soon : Timed → Type 0
+  Soon e = Good (e .what .carried) × (m .now + e .latency < 2 ^ 64)
+
+  soon : (e : Echoed) (w : ℕ) → Good (e .carried) → Soon (record { what = e; latency = o .draws .latency (m .from) t (e .carried .wire) w .value })
+  soon e w h = (h, omega (arith, q .now, g .latency (m .from) t (e .carried .wire) w from-small b (h .0)))
+
+  echo-fit : (n : ℕ) (e : Timed) → n < 2 ^ 64 → Soon e → CopyFit (echo m t n e)
+  echo-fit n e f r =
+      let h = r .0 in (
         omega (arith, from-small, lim .tills),
-        (omega (arith, lim .tills), (kind-small, (h .1 .0, (omega (arith, q .now), (omega (arith, q .now, l), (scope-small, (h .1 .1 .0, (omega arith, (omega arith, (omega arith, (h .1 .1 .1 .0, tt))))))))))),
+        (omega (arith, lim .tills), (kind-small, (h .1 .0, (omega (arith, q .now), (r .1, (scope-small, (h .1 .1 .0, (f, (omega arith, (omega arith, (h .1 .1 .1 .0, tt))))))))))),
       )
+
+  echoes-fit : (n : ℕ) (es : List Timed) → n + length es < 2 ^ 64 → Each Soon es → Each CopyFit (echoCopies m t n es)
+  echoes-fit n [] h r = tt
+  echoes-fit n (e ∷ es) h r = (echo-fit (suc n) e (omega (arith, h)) (r .0), echoes-fit (suc n) es (omega (arith, h)) (r .1))
 
   own-good : Good (carriedOf m)
   own-good = (wire-small, (class-small, (omega (arith, wire-small), (q .tag, tt))))
 
   -- ---- Word counts
 
-  timed-words : (cs : List Carried) (w : ℕ) → timed o m t w cs .words ≤ w + 6 * length cs
+  timed-words : (es : List Echoed) (w : ℕ) → timed o m t w es .words ≤ w + 6 * length es
   timed-words [] w = omega arith
-  timed-words (c ∷ cs) w =
-      let n : ℕ = o .draws .latency (m .from) t (c .wire) w .words in
-      omega (arith, timed-words cs n, g .latency-words (m .from) t (c .wire) w)
+  timed-words (e ∷ es) w =
+      let n : ℕ = o .draws .latency (m .from) t (e .carried .wire) w .words in
+      omega (arith, timed-words es n, g .latency-words (m .from) t (e .carried .wire) w)
 
   replayed-words : (ring : List Carried) (w : ℕ) → replayed o m t ring w .words ≤ w + 4
   replayed-words ring w =
@@ -217,7 +219,7 @@ module _ (o : Opening) (lim : Limited (o .sizes)) (g : DrawsFit o) (m : Message)
       let at = o .draws .index (m .from) t (length ring) (hit .words) in
       go (hit .value && not (isEmpty ring)) _ (at .words) (hit .words) (omega (arith, g .index (m .from) t (length ring) (hit .words), g .replay (m .from) t w)) (omega (arith, g .replay (m .from) t w))
     where
-      go : (x : Bool) (l : List Carried) (u v : ℕ) → u ≤ w + 4 → v ≤ w + 4 → cond {A = Draw (List Carried)} x (record { value = l; words = u }) (record { value = []; words = v }) .words ≤ w + 4
+      go : (x : Bool) (l : List Echoed) (u v : ℕ) → u ≤ w + 4 → v ≤ w + 4 → cond {A = Draw (List Echoed)} x (record { value = l; words = u }) (record { value = []; words = v }) .words ≤ w + 4
       go true l u v h r = h
       go false l u v h r = r
 
@@ -229,7 +231,7 @@ module _ (o : Opening) (lim : Limited (o .sizes)) (g : DrawsFit o) (m : Message)
       let e = echoed o m t ring w in
       go (o .draws .echoing) (timed o m t (e .words) (e .value)) (omega (arith, timed-words (e .value) (e .words), echoed-words ring w, echoed-few o m t ring w))
     where
-      go : (x : Bool) (y : Echoes) → y .words ≤ w + 18 → cond x y (record { copies = []; words = w }) .words ≤ w + 18
+      go : (x : Bool) (y : Echoes) → y .words ≤ w + 18 → cond x y (record { all = []; words = w }) .words ≤ w + 18
       go true y h = h
       go false y h = omega arith
 
@@ -287,9 +289,10 @@ module _ (o : Opening) (lim : Limited (o .sizes)) (g : DrawsFit o) (m : Message)
       let ids = placed (m .id) (idsAt q₀ t) in
       let T₂ = marksT z T₁ t ids in
       let f₂ = marks-cells z T₁ t ids f₁ (placed-fit (m .id) (idsAt q₀ t) (q .id) (ids-fit z T t f)) (omega (arith, length-placed (m .id) (idsAt q₀ t))) in
-      let echoes = drawn-each o m t CopyFit Good echo-fit own-good q₀ (subst (λ (y : Live). Each Good (ringFor y m)) (sym h) (ring-good z T refl f s h fits)) in
+      let echoes = drawn-each o m t Soon Good soon own-good q₀ (subst (λ (y : Live). Each Good (ringFor y m)) (sym h) (ring-good z T refl f s h fits)) in
       let cs = copies o m q₀ d t in
-      let fit = numbered-fit (q₀ .queue .sequence) (original m t (d .latency .value) ∷ d .echoes .copies) (omega (arith, drawn-few o m t q₀)) (original-fit (d .loss .words), echoes) in
+      let first : ℕ = suc (q₀ .queue .sequence) in
+      let fit : Each CopyFit cs = (original-fit first (d .loss .words) (omega arith), echoes-fit first (d .echoes .all) (omega (arith, drawn-few o m t q₀)) echoes) in
       let same : (j : ℕ) → (faultWordsAt ≡ j → ⊥) → cell (T₂ .net) j ≡ cell (T .net) j = λ j ne. net-ruled (wordsT T (link (m .from) t) (d .echoes .words)) (d .verdict) j ne in
       let f₃ = push-cells z cs T₂ (2 ^ 33) f₂ fit (omega (arith, same waitingAt (λ e. omega arith))) (omega (arith, same sequenceAt (λ e. omega arith))) (omega (arith, few-copies o m q₀ d t (drawn-few o m t q₀))) in
       remember-cells (pushT z T₂ cs) f₃

@@ -12,11 +12,11 @@ use Rattle.spec_book.specs.History.{hasSequence, given}
 use Rattle.table_rows.specs.Lists.{front, behind}
 use Rattle.table_waiting.specs.Waiting.{before, ordered}
 use Rattle.table_waiting.specs.declared.Copy.{Copy}
-use Rattle.spec_network.specs.Accept.{insertAll}
+use Rattle.spec_network.specs.Accept.{Message, Timed, original, echoCopies, insertAll}
 use Rattle.spec_network.specs.Flush.{stops}
 use Rattle.spec_network.specs.Lists.{bit, count}
 use Rattle.spec_network.specs.Layout.{plain}
-use Rattle.spec_network.specs.Live.{LiveBy, numbered}
+use Rattle.spec_network.specs.Live.{LiveBy}
 
 -- one more sequence is given
 pub bit-next : (m n : ℕ) → bit (eqb (suc m) n) + bit (given n m) ≡ bit (given n (suc m))
@@ -89,13 +89,20 @@ flushing-moved p s (c ∷ cs) es = omega (arith, flushing-moved p s cs (cond (st
 
 -- ---- Copies that take the next sequences
 
-pub length-numbered : (m : ℕ) (ds : List Copy) → length (numbered m ds) ≡ length ds
-length-numbered m [] = refl
-length-numbered m (d ∷ ds) = ap suc (length-numbered (suc m) ds)
+-- an original and its echoes: each takes the next sequence
+module _ (m : Message) (t : ℕ) where
+  pub length-echoes : (n : ℕ) (es : List Timed) → length (echoCopies m t n es) ≡ length es
+  length-echoes n [] = refl
+  length-echoes n (e ∷ es) = ap suc (length-echoes (suc n) es)
 
--- up to the last one given each number is given one time, and no other
-pub numbered-count : (ds : List Copy) (m n : ℕ) → count (hasSequence n) (numbered m ds) + bit (given n m) ≡ bit (given n (length (numbered m ds) + m))
-numbered-count [] m n = let z : 0 + m ≡ m = omega arith in rw z (omega arith)
-numbered-count (d ∷ ds) m n =
-    let z : suc (length (numbered (suc m) ds)) + m ≡ length (numbered (suc m) ds) + suc m = omega arith in
-    rw z (omega (arith, numbered-count ds (suc m) n, bit-next m n))
+  echoes-count : (es : List Timed) (q n : ℕ) → count (hasSequence n) (echoCopies m t q es) + bit (given n q) ≡ bit (given n (length (echoCopies m t q es) + q))
+  echoes-count [] q n = let z : 0 + q ≡ q = omega arith in rw z (omega arith)
+  echoes-count (e ∷ es) q n =
+      let z : suc (length (echoCopies m t (suc q) es)) + q ≡ length (echoCopies m t (suc q) es) + suc q = omega arith in
+      rw z (omega (arith, echoes-count es (suc q) n, bit-next q n))
+
+  pub copies-count : (latency : ℕ) (es : List Timed) (q n : ℕ) → let cs = original m t (suc q) latency ∷ echoCopies m t (suc q) es in
+      count (hasSequence n) cs + bit (given n q) ≡ bit (given n (length cs + q))
+  copies-count latency es q n =
+      let z : suc (length (echoCopies m t (suc q) es)) + q ≡ length (echoCopies m t (suc q) es) + suc q = omega arith in
+      rw z (omega (arith, echoes-count es (suc q) n, bit-next q n))

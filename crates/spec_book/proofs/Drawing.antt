@@ -11,7 +11,7 @@ use Rattle.spec_network.specs.Lists.{bit}
 use Rattle.spec_network.specs.Opening.{Opening, Draw, Draws, link}
 use Rattle.spec_network.specs.Layout.{Layout, slotsOf}
 use Rattle.spec_network.specs.Live.{Carried, LiveBy, withEngine, marked, stopped, idsAt}
-use Rattle.spec_network.specs.Accept.{Entry, Message, messageOf, selected, Echoes, Drawn, carriedOf, ringFor, isEmpty, echo, timed, replayed, echoed, echoesOf, context, drawn, ruled, Class, deduplicated, partition, loss, fault, sent, firstFit, classOf, effect, offered, liveAfter, Booked, booked, tally}
+use Rattle.spec_network.specs.Accept.{Entry, Message, messageOf, selected, Echoed, duplicateOf, replayOf, Echoes, Drawn, carriedOf, ringFor, isEmpty, timed, replayed, echoed, echoesOf, context, drawn, ruled, Class, deduplicated, partition, loss, fault, sent, firstFit, classOf, effect, offered, liveAfter, Booked, booked, tally}
 use Rattle.spec_network.specs.Calls.{Call, number, counted, liveStep, answerOf, accept, flush, takeDown, bringUp, handlers, block, blockDuring, unblock, install, remove, decide, drain, reading}
 use Rattle.spec_network.specs.Questions.{Room, alone, pooled, ask, ask4, ask5, ask6, ask7, ask8, ask9, ask10, ask11, askRoom, askedIn, firstNo}
 use Rattle.spec_network.proofs.Opened.{SameDraws}
@@ -27,31 +27,31 @@ module _ (o : Opening) (d : Draws) (same : SameDraws (o .sizes .tills) d (o .dra
 
   module _ (m : Message) (from : m .from < o .sizes .tills) where
     module _ (t : ℕ) (to : t < o .sizes .tills) where
-      same-timed : (words : ℕ) (cs : List Carried) → timed (by o d) m t words cs ≡ timed o m t words cs
+      same-timed : (words : ℕ) (es : List Echoed) → timed (by o d) m t words es ≡ timed o m t words es
       same-timed words [] = refl
-      same-timed words (c ∷ cs) = (λ j.
-          let l : Draw ℕ = same .latency (m .from) t from to j (c .wire) words in
-          let rest : Echoes = same-timed (l .words) cs j in
-          record { copies = echo m t c (l .value) ∷ rest .copies; words = rest .words })
+      same-timed words (e ∷ es) = (λ j.
+          let l : Draw ℕ = same .latency (m .from) t from to j (e .carried .wire) words in
+          let rest : Echoes = same-timed (l .words) es j in
+          record { all = record { what = e; latency = l .value } ∷ rest .all; words = rest .words })
 
       same-replayed : (ring : List Carried) (words : ℕ) → replayed (by o d) m t ring words ≡ replayed o m t ring words
       same-replayed ring words = (λ j.
           let hit = same .replay (m .from) t from to j words in
           let at = same .index (m .from) t from to j (length ring) (hit .words) in
           cond (hit .value && not (isEmpty ring))
-          (record { value = getD ring (at .value) (carriedOf m) ∷ []; words = at .words })
+          (record { value = replayOf (getD ring (at .value) (carriedOf m)) ∷ []; words = at .words })
           (record { value = []; words = hit .words }))
 
       same-echoed : (ring : List Carried) (words : ℕ) → echoed (by o d) m t ring words ≡ echoed o m t ring words
       same-echoed ring words = (λ j.
           let u = same .duplicate (m .from) t from to j words in
           let r = same-replayed ring (u .words) j in
-          record { value = cond (u .value) (carriedOf m ∷ []) [] ++ r .value; words = r .words })
+          record { value = cond (u .value) (duplicateOf (carriedOf m) ∷ []) [] ++ r .value; words = r .words })
 
       same-echoes : (ring : List Carried) (words : ℕ) → echoesOf (by o d) m t ring words ≡ echoesOf o m t ring words
       same-echoes ring words = (λ j.
           let e = same-echoed ring words j in
-          cond (same .echoing j) (same-timed (e .words) (e .value) j) (record { copies = []; words = words }))
+          cond (same .echoing j) (same-timed (e .words) (e .value) j) (record { all = []; words = words }))
 
       same-drawn : {k : Layout} (s : LiveBy k) → drawn (by o d) m t s ≡ drawn o m t s
       unfolding drawn

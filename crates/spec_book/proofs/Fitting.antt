@@ -27,14 +27,14 @@ use Rattle.fault_blocks.specs.Blocks.{blockSlots}
 use Rattle.fault_blocks.specs.declared.BlockWindow.{BlockWindow}
 use Rattle.table_rings.specs.Rings.{slots, numberOf}
 use Rattle.spec_network.specs.Layout.{Layout, plain, table, withCopy}
-use Rattle.spec_network.specs.Live.{numbered, Carried, Till, Engine, Live, LiveBy, ringsOf, idsAt, marked, stopped}
+use Rattle.spec_network.specs.Live.{Carried, Till, Engine, Live, LiveBy, ringsOf, idsAt, marked, stopped}
 use Rattle.table_log.specs.Log as log
 use Rattle.table_log.specs.Log.{Log}
-use Rattle.spec_network.specs.Accept.{Message, Drawn, drawn, original, echo, carriedOf, ringFor, Class, deduplicated, partition, loss, fault, sent, classOf, copies, insertAll, mark, remembered, ruled, effect, offered, liveAfter}
+use Rattle.spec_network.specs.Accept.{Message, Timed, Drawn, drawn, original, echo, echoCopies, carriedOf, ringFor, Class, deduplicated, partition, loss, fault, sent, classOf, copies, insertAll, mark, remembered, ruled, effect, offered, liveAfter}
 use Rattle.spec_network.specs.Lent.{nearTill, nearDelivery, nearCopy, nearBlock, nearCarried}
 use Rattle.spec_book.proofs.Each.{both, join, each-set, each-at, each-push}
 use Rattle.spec_book.proofs.Marks.{found-placed}
-use Rattle.spec_book.proofs.Counting.{length-numbered}
+use Rattle.spec_book.proofs.Counting.{length-echoes}
 use Rattle.spec_book.proofs.Echoing.{drawn-few, drawn-each}
 use Rattle.spec_book.proofs.Sound.{Below, sent-unmarked}
 
@@ -159,21 +159,27 @@ ruled-fits z e v f = record { blocks = f .blocks; rules = rw (length-ruled v (e 
 -- ---- One recipient
 
 module _ (o : Opening) (m : Message) where
-  pub few-copies : {k : Layout} (s : LiveBy k) (d : Drawn) (t : ℕ) → length (d .echoes .copies) ≤ 2 → length (copies o m s d t) ≤ 3
-  few-copies s d t h = omega (arith, length-numbered (s .queue .sequence) (original m t (d .latency .value) ∷ d .echoes .copies))
+  pub few-copies : {k : Layout} (s : LiveBy k) (d : Drawn) (t : ℕ) → length (d .echoes .all) ≤ 2 → length (copies o m s d t) ≤ 3
+  few-copies s d t h = omega (arith, length-echoes m t (suc (s .queue .sequence)) (d .echoes .all))
 
   abbrev pub NearCopy : Copy → Type 0
   NearCopy c = nearCopy (o .sizes) c ≡ true
 
-  near-numbered : (n : ℕ) (ds : List Copy) → Each NearCopy ds → Each (λ (c : Copy). nearCopy (o .sizes) c ≡ true) (numbered n ds)
-  near-numbered n [] e = tt
-  near-numbered n (d ∷ ds) e = (e .0, near-numbered (suc n) ds (e .1))
+  -- what an echo carries is in range
+  abbrev pub NearTimed : Timed → Type 0
+  NearTimed e = nearCarried (o .sizes) (e .what .carried) ≡ true
 
-  near-original : NearMessage (o .sizes) m → (t l : ℕ) → t < o .sizes .tills → NearCopy (original m t l)
-  near-original k t l b = rw (k .from, lt-ltb t (o .sizes .tills) b, k .kind, k .class)
+  near-original : NearMessage (o .sizes) m → (t n l : ℕ) → t < o .sizes .tills → NearCopy (original m t n l)
+  near-original k t n l b = rw (k .from, lt-ltb t (o .sizes .tills) b, k .kind, k .class)
 
-  near-echo : NearMessage (o .sizes) m → (t : ℕ) → t < o .sizes .tills → (c : Carried) (l : ℕ) → nearCarried (o .sizes) c ≡ true → NearCopy (echo m t c l)
-  near-echo k t b c l h = rw (k .from, lt-ltb t (o .sizes .tills) b, k .kind, both (ltb (c .class) (o .sizes .classes)) (leb (c .wire) longestWire) h .0)
+  near-echo : NearMessage (o .sizes) m → (t : ℕ) → t < o .sizes .tills → (n : ℕ) (e : Timed) → NearTimed e → NearCopy (echo m t n e)
+  near-echo k t b n e h =
+      let c = e .what .carried in
+      rw (k .from, lt-ltb t (o .sizes .tills) b, k .kind, both (ltb (c .class) (o .sizes .classes)) (leb (c .wire) longestWire) h .0)
+
+  near-echoes : NearMessage (o .sizes) m → (t : ℕ) → t < o .sizes .tills → (n : ℕ) (es : List Timed) → Each NearTimed es → Each NearCopy (echoCopies m t n es)
+  near-echoes k t b n [] h = tt
+  near-echoes k t b n (e ∷ es) h = (near-echo k t b (suc n) e (h .0), near-echoes k t b (suc n) es (h .1))
 
   near-own : NearMessage (o .sizes) m → nearCarried (o .sizes) (carriedOf m) ≡ true
   near-own k = join _ _ (k .class) (k .wire)
@@ -183,14 +189,14 @@ module _ (o : Opening) (m : Message) where
 
   -- what the draws for a recipient give
   pub record Good (d : Drawn) : Type 0 where
-    pub few : length (d .echoes .copies) ≤ 2
-    pub near : Each NearCopy (d .echoes .copies)
+    pub few : length (d .echoes .all) ≤ 2
+    pub near : Each NearTimed (d .echoes .all)
 
   pub drawn-good : NearMessage (o .sizes) m → (s : Live) (t : ℕ) → t < o .sizes .tills → Fits (o .sizes) s → Good (drawn o m t s)
   unfolding drawn
   drawn-good k s t b f = record {
     few = drawn-few o m t s;
-    near = drawn-each o m t NearCopy (λ (c : Carried). nearCarried (o .sizes) c ≡ true) (λ c w. near-echo k t b c 0) (near-own k) s (near-ring s (f .rings));
+    near = drawn-each o m t NearTimed (λ (c : Carried). nearCarried (o .sizes) c ≡ true) (λ e w h. h) (near-own k) s (near-ring s (f .rings));
   }
 
   -- question 10 at a till
@@ -239,7 +245,7 @@ module _ (o : Opening) (m : Message) where
       queue = record {
         few = omega (arith, length-insertAll table (copies o m s d t) (s .queue .waiting), few-copies s d t (g .few));
         near = each-insertAll (λ (c : Copy). nearCopy (o .sizes) c ≡ true) (copies o m s d t) (s .queue .waiting)
-            (near-numbered (s .queue .sequence) (original m t (d .latency .value) ∷ d .echoes .copies) (near-original k t (d .latency .value) b, g .near)) (f .queue .near);
+            (near-original k t (suc (s .queue .sequence)) (d .latency .value) b, near-echoes k t b (suc (s .queue .sequence)) (d .echoes .all) (g .near)) (f .queue .near);
       };
       log = f .log;
     }

@@ -16,12 +16,12 @@ use Rattle.table_waiting.specs.declared.Copy.{Copy}
 use Rattle.table_marks.specs.Marks.{found, placed, removed, Ordered, Rises, member}
 use Rattle.table_marks.proofs.Rising.{place, placed-place, found-member-in, rises-placed-in, rises-keep}
 use Rattle.table_marks.proofs.Ordered.{none-ordered, found-member, member-placed, ordered-placed, ordered-removed}
-use Rattle.spec_network.specs.Accept.{mark}
+use Rattle.spec_network.specs.Accept.{Message, Timed, echo, echoCopies, mark}
 use Rattle.spec_book.proofs.Each.{each-at, each-set}
 use Rattle.spec_network.specs.Flush.{unmark, clearing, stops}
 use Rattle.spec_network.specs.Lists.{some-of}
 use Rattle.spec_network.specs.Layout.{plain, table, inserted, without}
-use Rattle.spec_network.specs.Live.{isOriginal, Live, LiveBy, numbered}
+use Rattle.spec_network.specs.Live.{isOriginal, Live, LiveBy}
 
 -- an original is scheduled only where none of its id stands for its till
 abbrev pub Apart : List Event → Type 0
@@ -174,19 +174,14 @@ flushing-apart s (c ∷ cs) es h = flushing-apart s cs (cond (stops s c) (droppe
 
 -- ---- Echoes neither stand for an id nor clear one
 
-abbrev pub Echo : Copy → Type 0
-Echo d = d .original ≡ 0
+module _ (m : Message) (u : ℕ) where
+  pub echoes-standing : (t i n : ℕ) (es : List Timed) (past : List Event) → standing t i (scheduling (echoCopies m u n es) past) ≡ standing t i past
+  echoes-standing t i n [] past = refl
+  echoes-standing t i n (e ∷ es) past = echoes-standing t i (suc n) es (scheduled (echo m u (suc n) e) ∷ past)
 
-echo-is : (d : Copy) → Echo d → not (eqb (d .original) 0) ≡ false
-echo-is d h = ap not (eq-eqb (d .original) 0 h)
-
-pub echoes-standing : (t i m : ℕ) (ds : List Copy) (es : List Event) → Each Echo ds → standing t i (scheduling (numbered m ds) es) ≡ standing t i es
-echoes-standing t i m [] es h = refl
-echoes-standing t i m (d ∷ ds) es h = echoes-standing t i (suc m) ds _ (h .1) ∙ rw (echo-is d (h .0))
-
-pub echoes-apart : (m : ℕ) (ds : List Copy) (es : List Event) → Each Echo ds → Apart es → Apart (scheduling (numbered m ds) es)
-echoes-apart m [] es h a = a
-echoes-apart m (d ∷ ds) es h a = echoes-apart (suc m) ds _ (h .1) (λ e. absurd (false≢true (sym (echo-is d (h .0)) ∙ e)), a)
+  pub echoes-apart : (n : ℕ) (es : List Timed) (past : List Event) → Apart past → Apart (scheduling (echoCopies m u n es) past)
+  echoes-apart n [] past a = a
+  echoes-apart n (e ∷ es) past a = echoes-apart (suc n) es (scheduled (echo m u (suc n) e) ∷ past) (λ z. absurd (false≢true z), a)
 
 -- ---- From `Apart` to the statement on two originals
 

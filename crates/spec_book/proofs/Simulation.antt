@@ -67,7 +67,7 @@ module _ (o : Opening) where
         let w = words-wrote (o .sizes) T f (link (m .from) t) n in
         ruled-wrote (o .sizes) (wordsT T (link (m .from) t) n) (w .formed) v
 
-    pub effect-wrote : (c : Class) (T : Tables) (d : Drawn) (t : ℕ) → Formed (o .sizes) T → length (d .echoes .copies) ≤ 2 → t < o .sizes .tills
+    pub effect-wrote : (c : Class) (T : Tables) (d : Drawn) (t : ℕ) → Formed (o .sizes) T → length (d .echoes .all) ≤ 2 → t < o .sizes .tills
         → (c ≡ sent → length (idsAt (live (o .sizes) T) t) < o .sizes .seenSlots) → cell (T .net) waitingAt + 3 ≤ o .sizes .waitSlots → Wrote (o .sizes) (effectT o m c T d t) (effect o m c (live (o .sizes) T) d t)
     effect-wrote deduplicated T d t f g b r w = record { formed = f; holds = refl }
     effect-wrote partition T d t f g b r w = record { formed = f; holds = refl }

@@ -27,11 +27,10 @@ use Rattle.spec_network.specs.Flush.{served, stops, unmark, clearing}
 use Rattle.spec_network.specs.Calls.{Call, liveStep, accept, flush, takeDown, bringUp, handlers, block, blockDuring, unblock, install, remove, decide, drain, reading}
 use Rattle.spec_book.specs.Book.{Book, Event, scheduledIn, landedIn, droppedIn, eventsOf, offerEvents, eventsAfter, happened, opened, bookStep}
 use Rattle.spec_book.specs.History.{hasSequence, given, standing}
-use Rattle.spec_book.proofs.Counting.{numbered-count, count-insertAll, scheduling-scheduled, scheduling-landed, scheduling-dropped, flushing-scheduled, flushing-moved}
+use Rattle.spec_book.proofs.Counting.{copies-count, count-insertAll, scheduling-scheduled, scheduling-landed, scheduling-dropped, flushing-scheduled, flushing-moved}
 use Rattle.spec_book.proofs.Serving.{later-sorted, served-count}
-use Rattle.spec_book.proofs.Marks.{Apart, Echo, echoes-standing, echoes-apart, member-set, member-empty, rises-inserted, clearing-rises, clearing-agrees, flushing-apart}
+use Rattle.spec_book.proofs.Marks.{Apart, echoes-standing, echoes-apart, member-set, member-empty, rises-inserted, clearing-rises, clearing-agrees, flushing-apart}
 use Rattle.spec_book.proofs.Each.{each-set, each-at, each-replicate, each-upTo}
-use Rattle.spec_book.proofs.Echoing.{drawn-echoes}
 
 -- It speaks of the parts that it needs, and so holds at once of a live part that differs elsewhere.
 pub record Sound (tills : ℕ) (waiting : List Copy) (sequence : ℕ) (seen : List (List ℕ)) (installed : ℕ) (rules : List FaultRule) (past : List Event) : Type 0 where
@@ -66,11 +65,11 @@ sent-unmarked false p l f h = refl
 -- ---- One recipient
 
 module _ (o : Opening) (m : Message) (s : LiveBy plain) (d : Drawn) (t : ℕ) (past : List Event) (h : SoundLive o s past) where
-  effect-sound : (k : Class) → (k ≡ sent → marked s t (m .id) ≡ false) → t < o .sizes .tills → Each Echo (d .echoes .copies) → SoundLive o (effect o m k s d t) (eventsOf o m k s d t past)
-  effect-sound deduplicated f b e = h
-  effect-sound partition f b e = h
-  effect-sound loss f b e = h
-  effect-sound fault f b e = record {
+  effect-sound : (k : Class) → (k ≡ sent → marked s t (m .id) ≡ false) → t < o .sizes .tills → SoundLive o (effect o m k s d t) (eventsOf o m k s d t past)
+  effect-sound deduplicated f b = h
+  effect-sound partition f b = h
+  effect-sound loss f b = h
+  effect-sound fault f b = record {
     places = h .places;
     numbers = h .numbers;
     marks = h .marks;
@@ -80,15 +79,16 @@ module _ (o : Opening) (m : Message) (s : LiveBy plain) (d : Drawn) (t : ℕ) (p
     rises = h .rises;
     ids = ruled-ascends (d .verdict) (s .engine .installed) (s .engine .rules) (h .ids);
   }
-  effect-sound sent f b e =
+  effect-sound sent f b =
       let cs = copies o m s d t in
-      let es = d .echoes .copies in
+      let es = d .echoes .all in
+      let n = suc (s .queue .sequence) in
       record {
         places = λ p. rw (scheduling-landed cs past, scheduling-dropped cs past)
             (omega (arith, scheduling-scheduled p cs past, count-insertAll p cs (s .queue .waiting), h .places p));
-        numbers = λ n. omega (arith, scheduling-scheduled (hasSequence n) cs past, numbered-count (original m t (d .latency .value) ∷ es) (s .queue .sequence) n, h .numbers n);
-        marks = λ u j. echoes-standing u j (suc (s .queue .sequence)) es _ e ∙ rw (h .marks u j) (sym (member-set (s .seen) t (m .id) u j (omega (arith, h .shape))));
-        apart = echoes-apart (suc (s .queue .sequence)) es _ e (λ z. h .marks t (m .id) ∙ f refl, h .apart);
+        numbers = λ n. omega (arith, scheduling-scheduled (hasSequence n) cs past, copies-count m t (d .latency .value) es (s .queue .sequence) n, h .numbers n);
+        marks = λ u j. echoes-standing m t u j n es _ ∙ rw (h .marks u j) (sym (member-set (s .seen) t (m .id) u j (omega (arith, h .shape))));
+        apart = echoes-apart m t n es _ (λ z. h .marks t (m .id) ∙ f refl, h .apart);
         order = sorted-insertAll cs (s .queue .waiting) (h .order);
         shape = length-set (s .seen) t _ ∙ h .shape;
         rises = each-set Rises (s .seen) t (inserted (m .id) (idsAt s t)) (h .rises) (rises-inserted (m .id) (idsAt s t) (f refl) (each-at Rises (s .seen) t [] (h .rises) tt));
@@ -118,7 +118,7 @@ module _ (o : Opening) (m : Message) where
   accept-sound (t ∷ ts) s past b h =
       let d = drawn o m t s in
       accept-sound ts (offered o m s t) (offerEvents o m s t past) (b .1)
-      (effect-sound o m s d t past h (classOf o m s t) (sent-unmarked (marked s t (m .id)) (stopped s (m .from) t (m .now)) (d .loss .value) (d .verdict .drops)) (b .0) (drawn-echoes o m t s))
+      (effect-sound o m s d t past h (classOf o m s t) (sent-unmarked (marked s t (m .id)) (stopped s (m .from) t (m .now)) (d .loss .value) (d .verdict .drops)) (b .0))
 
 -- ---- Every call
 

@@ -1,5 +1,5 @@
 -- Document 01, 'The book', Accept: each recipient in host order.
-use Prim.Native.Nat.{ℕ, _+_}
+use Prim.Native.Nat.{ℕ, suc, _+_}
 use mathlib.Core.Bool.{Bool, true, false, cond, not, _&&_, _||_}
 use mathlib.Core.List.{List, [], _∷_, _++_}
 use lib.Dec.{eqb}
@@ -12,7 +12,7 @@ use Rattle.spec_network.specs.Lists.{bit, below, bitAt}
 use Rattle.table_rings.specs.Rings.{slots}
 use Rattle.spec_network.specs.Opening.{Draw, Opening, link, global}
 use Rattle.spec_network.specs.Layout.{Layout, Marks, Rings, noMarks, withMark, withCopy, ringOf, withRing}
-use Rattle.spec_network.specs.Live.{numbered, Carried, Context, Engine, LiveBy, withRules, withSeen, withEngine, withRings, withWords, withWaiting, marked, tillAt, stopped}
+use Rattle.spec_network.specs.Live.{Carried, Context, Engine, LiveBy, withRules, withSeen, withEngine, withRings, withWords, withWaiting, marked, tillAt, stopped}
 
 -- an outbox entry as the caller lends it; the tag stands for its payload
 pub record Entry : Type 0 where
@@ -58,9 +58,24 @@ entered o e s = s
 
 -- ---- The draws for one recipient, in their order
 
+-- what is echoed: the message once more, or a replay of what the ring keeps
+pub record Echoed : Type 0 where
+  pub replay : Bool
+  pub carried : Carried
+
+abbrev pub duplicateOf : Carried → Echoed
+duplicateOf c = record { replay = false; carried = c }
+
+abbrev pub replayOf : Carried → Echoed
+replayOf c = record { replay = true; carried = c }
+
+pub record Timed : Type 0 where
+  pub what : Echoed
+  pub latency : ℕ
+
 -- echoes with their latencies, and the link's word count after these
 pub record Echoes : Type 0 where
-  pub copies : List Copy
+  pub all : List Timed
   pub words : ℕ
 
 pub record Drawn : Type 0 where
@@ -79,56 +94,58 @@ abbrev pub isEmpty : {A : Type 0} → List A → Bool
 isEmpty [] = true
 isEmpty (x ∷ xs) = false
 
--- the original: now plus latency. Its sequence comes when it is scheduled
-abbrev pub original : Message → ℕ → ℕ → Copy
-original m t latency = record {
-  delivery = record { from = m .from; to = t; kind = m .kind; class = m .class; sent = m .now; time = m .now + latency; scope = m .scope; wire = m .wire };
-  sequence = 0;
-  original = 1;
-  id = m .id;
-  tag = m .tag;
-}
-
--- an echo carries no id
-abbrev pub echo : Message → ℕ → Carried → ℕ → Copy
-echo m t c latency = record {
+-- a copy of what is carried: now plus latency; n is its sequence
+abbrev pub copyWith : Message → (t n : ℕ) → Carried → (latency flag id : ℕ) → Copy
+copyWith m t n c latency flag id = record {
   delivery = record { from = m .from; to = t; kind = m .kind; class = c .class; sent = m .now; time = m .now + latency; scope = m .scope; wire = c .wire };
-  sequence = 0;
-  original = 0;
-  id = 0;
+  sequence = n;
+  original = flag;
+  id = id;
   tag = c .tag;
 }
 
+abbrev pub original : Message → (t n latency : ℕ) → Copy
+original m t n latency = copyWith m t n (carriedOf m) latency 1 (m .id)
+
+-- an echo carries no id
+abbrev pub echo : Message → (t n : ℕ) → Timed → Copy
+echo m t n e = copyWith m t n (e .what .carried) (e .latency) 0 0
+
+-- each takes the next sequence; n is the last one given
+abbrev pub echoCopies : Message → (t n : ℕ) → List Timed → List Copy
+echoCopies m t n [] = []
+echoCopies m t n (e ∷ es) = echo m t (suc n) e ∷ echoCopies m t (suc n) es
+
 module _ (o : Opening) (m : Message) (t : ℕ) where
   -- each echo's latency, one after the other
-  abbrev pub timed : ℕ → List Carried → Echoes
-  timed words [] = record { copies = []; words = words }
-  timed words (c ∷ cs) =
-      let l = o .draws .latency (m .from) t (c .wire) words in
-      let rest = timed (l .words) cs in
-      record { copies = echo m t c (l .value) ∷ rest .copies; words = rest .words }
+  abbrev pub timed : ℕ → List Echoed → Echoes
+  timed words [] = record { all = []; words = words }
+  timed words (e ∷ es) =
+      let l = o .draws .latency (m .from) t (e .carried .wire) words in
+      let rest = timed (l .words) es in
+      record { all = record { what = e; latency = l .value } ∷ rest .all; words = rest .words }
 
   -- the replay draw; the ring index only after a hit on a ring that isn't empty
-  abbrev pub replayed : List Carried → ℕ → Draw (List Carried)
+  abbrev pub replayed : List Carried → ℕ → Draw (List Echoed)
   replayed ring words =
       let hit = o .draws .replay (m .from) t words in
       let at = o .draws .index (m .from) t (length ring) (hit .words) in
       cond (hit .value && not (isEmpty ring))
-      (record { value = getD ring (at .value) (carriedOf m) ∷ []; words = at .words })
+      (record { value = replayOf (getD ring (at .value) (carriedOf m)) ∷ []; words = at .words })
       (record { value = []; words = hit .words })
 
   -- duplicate draw, replay draw, ring index: what is echoed, duplicate first
-  abbrev pub echoed : List Carried → ℕ → Draw (List Carried)
+  abbrev pub echoed : List Carried → ℕ → Draw (List Echoed)
   echoed ring words =
       let d = o .draws .duplicate (m .from) t words in
       let r = replayed ring (d .words) in
-      record { value = cond (d .value) (carriedOf m ∷ []) [] ++ r .value; words = r .words }
+      record { value = cond (d .value) (duplicateOf (carriedOf m) ∷ []) [] ++ r .value; words = r .words }
 
   -- where either echo rate is above 0; then the echoes' latencies
   abbrev pub echoesOf : List Carried → ℕ → Echoes
   echoesOf ring words =
       let e = echoed ring words in
-      cond (o .draws .echoing) (timed (e .words) (e .value)) (record { copies = []; words = words })
+      cond (o .draws .echoing) (timed (e .words) (e .value)) (record { all = []; words = words })
 
   -- what the rules are asked of: the tier is gossip's, 0
   abbrev pub context : Context
@@ -175,7 +192,7 @@ module _ (o : Opening) (m : Message) where
 
   -- the copies of a sent recipient: the original, then its echoes; each takes the next sequence
   abbrev pub copies : {k : Layout} → LiveBy k → Drawn → ℕ → List Copy
-  copies s d t = numbered (s .queue .sequence) (original m t (d .latency .value) ∷ d .echoes .copies)
+  copies s d t = let n = suc (s .queue .sequence) in original m t n (d .latency .value) ∷ echoCopies m t n (d .echoes .all)
 
   abbrev pub wordsMoved : {k : Layout} → LiveBy k → ℕ → ℕ → LiveBy k
   wordsMoved s t n = withWords s (set (s .words) (link (m .from) t) n)

@@ -1,7 +1,7 @@
 -- Document 01, 'The book': what of it the calls go by.
-use Prim.Native.Nat.{ℕ, suc, _*_}
+use Prim.Native.Nat.{ℕ, _*_}
 use mathlib.Core.Bool.{Bool, not, _||_}
-use mathlib.Core.List.{List, [], _∷_, map}
+use mathlib.Core.List.{List, [], map}
 use lib.Dec.{eqb}
 use lib.ListN.{getD, replicate}
 use Rattle.table_waiting.specs.declared.Copy.{Copy}
@@ -22,14 +22,6 @@ use Rattle.spec_network.specs.Layout.{Layout, plain, table, Marks, Rings
 -- an original is a copy with an id
 abbrev pub isOriginal : Copy → Bool
 isOriginal c = not (eqb (c .original) 0)
-
-abbrev pub withSequence : Copy → ℕ → Copy
-withSequence c n = record { delivery = c .delivery; sequence = n; original = c .original; id = c .id; tag = c .tag }
-
--- each copy takes the next sequence; n is the last one given
-abbrev pub numbered : ℕ → List Copy → List Copy
-numbered n [] = []
-numbered n (c ∷ cs) = withSequence c (suc n) ∷ numbered (suc n) cs
 
 -- what a ring keeps of a message; its type and scope are the ring's
 abbrev pub Carried : Type 0
