@@ -1,11 +1,13 @@
 #!/usr/bin/env python3
-# check.py ORACLE [--write]: the expected output of each script of this folder, made from the answers of the original Rust (the oracle's program)
-# and a count of its own over them, and never from the program under test. Without --write it compares with NAME.expected.
-# check.py --program PROGRAM: what the program writes for each script, against NAME.expected.
+# check.py ORACLE [--write]: the expected output of each script, made from the answers of the original Rust (the oracle's program) and a count of its
+# own over them, and never from the program under test. Without --write it compares with the file stdout of simulate_scenarios.
+# check.py --program PROGRAM: what the program writes for each script on its standard input, against the same file.
 # Marks are read by `seen` lines put behind every call, waiting copies and tallies by `waiting` and `drain` at the end.
 import pathlib, re, subprocess, sys
-HERE = pathlib.Path(__file__).parent
+PROGRAM = pathlib.Path(__file__).parent.parent / 'crates/simulate_scenarios'
+HEAD = 'RUN OF '
 WIDE, LABEL = 48, 28
+MOST_WORDS, LAST = 2 ** 40, 2 ** 32 - 1
 
 
 def oracle(program, lines, *words):
@@ -16,24 +18,88 @@ def fields(line):
     return dict(w.split('=', 1) for w in line.split() if '=' in w)
 
 
-# each call of the script with its own answer lines and the marks of each till behind it
+# The counters that a script sets by hand, which the original does not have: what is answered to such a line and to a call that a counter refuses
+# (document 01, questions 8, 9 and 12); nothing where the original answers.
+class Counters:
+    def __init__(c, tills):
+        c.tills, c.fault, c.rules, c.sequence, c.links = tills, 0, 0, 0, {}
+
+    def answer(c, line):
+        w = line.split()
+        if w[0] == 'setseq':
+            c.sequence = int(w[1])
+        elif w[0] == 'setrules':
+            c.rules = int(w[1])
+        elif w[0] == 'setwords' and w[1] == 'fault':
+            c.fault = int(w[2])
+        elif w[0] == 'setwords':
+            c.links[int(w[1]), int(w[2])] = int(w[3])
+        elif w[0] == 'accept':
+            return c.accept(int(w[1]), w[5])
+        elif w[0] == 'install' and c.rules >= LAST:
+            return 'install refused 12'
+        else:
+            return None
+        return w[0] + ' ok'
+
+    def accept(c, me, scope):
+        others = [t for t in range(c.tills) if t != me]
+        spent = max([c.fault] + [c.links.get((me, t), 0) for t in others]) >= MOST_WORDS
+        passes = c.sequence + 3 * len(others) > LAST
+        assert scope == 'g' or not (spent or passes)
+        return 'accept refused 8' if spent else 'accept refused 9' if passes else None
+
+
+# The sequences of the answers as they are where `setseq` sets the counter: a copy's is that of the original, moved by the last jump before it was
+# scheduled. Due and waiting copies stand by time, then sequence; equal ones as they were scheduled.
+class Sequences:
+    def __init__(s):
+        s.last, s.jump, s.given = 0, 0, {}
+
+    def told(s, line, own):
+        w = line.split()
+        if w[0] == 'setseq':
+            s.jump = int(w[1]) - s.last
+        if w[0] == 'accept' and 'refused' not in own[0]:
+            last = int(fields(own[0])['sequence'])
+            s.given.update((q, q + s.jump) for q in range(s.last + 1, last + 1))
+            s.last = last
+            return [re.sub(r'sequence=\d+', f'sequence={last + s.jump}', own[0])]
+        if w[0] in ('flush', 'waiting') and s.jump:
+            return own[:1] + s.copies(own[1:])
+        return own
+
+    def copies(s, lines):
+        words = [l.split() for l in lines]
+        for w in words:
+            w[9] = str(s.given[int(w[9])])
+        return [' '.join(w) for w in sorted(words, key=lambda w: (int(w[6]), int(w[9])))]
+
+
+# each line of the script with its own answer lines and the marks of each till behind it
 def calls(program, lines):
     script = [l for l in lines if l.strip() and not l.startswith('#')]
+    tills = int(fields(script[0])['tills'])
+    counters, sequences = Counters(tills), Sequences()
+    fixed = [counters.answer(l) for l in script]
     marked = []
-    for l in script:
-        marked += [l, 'seen', 'fired 0']
+    for l, answer in zip(script, fixed):
+        marked += [] if answer else [l, 'seen', 'fired 0']
     out = oracle(program, marked + ['waiting', 'drain']).splitlines()
-    at, got = 0, []
-    for l in script:
-        own = []
-        end = next(k for k in range(at, len(out)) if out[k].startswith('fired ') and out[k - 1].startswith('seen ') and not (l.startswith('fired') and k == at))
-        part = out[at:end]
-        tills = int(fields(script[0])['tills'])
-        own, seen = part[:-tills], part[-tills:]
-        assert all(s.startswith('seen ') for s in seen)
-        got.append((l, own, [int(s.split()[2]) for s in seen]))
-        at = end + 1
-    return got, out[at:]
+    at, got, marks, told = 0, [], [0] * tills, []
+    for l, answer in zip(script, fixed):
+        own = [answer]
+        if not answer:
+            end = next(k for k in range(at, len(out)) if out[k].startswith('fired ') and out[k - 1].startswith('seen ') and not (l.startswith('fired') and k == at))
+            part = out[at:end]
+            own, seen = part[:-tills], part[-tills:]
+            assert all(s.startswith('seen ') for s in seen)
+            at, marks = end + 1, [int(s.split()[2]) for s in seen]
+            told += own
+        got.append((l, sequences.told(l, own), marks))
+    assert told == oracle(program, [l for l, answer in zip(script, fixed) if not answer]).splitlines()
+    end = next(k for k in range(at, len(out)) if out[k].startswith('drain '))
+    return got, sequences.told('waiting', out[at:end]) + out[end:]
 
 
 class Count:
@@ -165,7 +231,7 @@ class Count:
         together = [a + b + d for a, b, d in zip(c.waits, c.rows, c.drops)]
         for what, n in (('waiting', c.waits), ('landed', c.rows), ('dropped', c.drops), ('= together', together)):
             c.table(what.ljust(12), n + [sum(n)], 12)
-        planned = [five[0], c.sequence - five[0], c.sequence]
+        planned = [five[0], max(c.sequence - five[0], 0), c.sequence]
         c.table('= scheduled '.ljust(12), planned, 12)
         page.append(' ' * 12 + ''.join(c.verdict(a == b).rjust(12) for a, b in zip(together + [sum(together)], planned)))
         page += ['scheduled: originals as sent, all by the', 'sequences given, echoes what is left']
@@ -210,34 +276,40 @@ class Count:
         return c.page
 
 
-def expected(program, path):
-    lines = path.read_text().splitlines()
-    answers = oracle(program, lines).splitlines()
-    assert not any(a.startswith('err') for a in answers), path
+# the answers to a script, and its page
+def expected(program, lines):
     got, rest = calls(program, lines)
-    assert [a for _, own, _ in got for a in own] == answers, path
+    answers = [a for _, own, _ in got for a in own]
+    assert not any(a.startswith('err') for a in answers)
     c, before = Count(got[0][0]), [0] * 64
     for line, own, after in got:
         c.call(line, own, before, after)
         before = after
     c.end(rest)
     page = c.print()
-    assert all(len(p) <= WIDE for p in page), path
+    assert all(len(p) <= WIDE for p in page)
     return '\n'.join(answers + page) + '\n'
+
+
+# the parts of the file stdout, by the name above each
+def parts():
+    text = '\n' + (PROGRAM / 'stdout').read_text() if (PROGRAM / 'stdout').exists() else ''
+    return {p.split('\n', 1)[0]: p.split('\n', 1)[1] for p in text.split('\n' + HEAD)[1:]}
 
 
 def main():
     own, program, write = sys.argv[1] == '--program', sys.argv[-1] if sys.argv[1] == '--program' else sys.argv[1], '--write' in sys.argv
-    bad = 0
-    for path in sorted(HERE.glob('*.script')):
-        lines, file = path.read_text().splitlines(), path.with_suffix('.expected')
-        got = oracle(program, lines, 'checklist') if own else expected(program, path)
-        if write:
-            file.write_text(got)
-        same = file.exists() and file.read_text() == got
-        bad += not same
-        print(path.stem, 'as expected' if same else 'DIFFERS')
-    sys.exit(bad != 0)
+    names, made = (PROGRAM / 'args').read_text().split()[1:], {}
+    for name in names:
+        path = PROGRAM / 'data' / (name if name.endswith('.script') else name + '.script')
+        lines = path.read_text().splitlines()
+        made[name] = oracle(program, lines, 'checklist') if own else expected(program, lines)
+    if write:
+        (PROGRAM / 'stdout').write_text(''.join(HEAD + name + '\n' + made[name] for name in names))
+    was = {name: text + ('' if name == names[-1] else '\n') for name, text in parts().items()}
+    for name in names:
+        print(name, 'as expected' if was.get(name) == made[name] else 'DIFFERS')
+    sys.exit(was != made)
 
 
 main()

@@ -1,7 +1,8 @@
 #!/usr/bin/env python3
-# make.py: writes the six scripts of this folder, always the same ones. Then see check.py.
+# make.py: writes the scripts of the program simulate_scenarios and their names into its args, always the same ones. Then see check.py.
 import pathlib, struct
-HERE = pathlib.Path(__file__).parent
+CRATES = pathlib.Path(__file__).parent.parent / 'crates'
+PROGRAM = CRATES / 'simulate_scenarios'
 TYPES = ['stamp.add', 'stamp.put_back', 'price.change', 'day.close', 'till.hello']
 ADD, PUT_BACK, PRICE, CLOSE, HELLO = range(5)
 SECOND = 10 ** 9
@@ -56,7 +57,7 @@ class Script:
         self.call('flush', int(now * SECOND))
 
     def write(self):
-        (HERE / (self.name + '.script')).write_text('\n'.join(self.lines) + '\n')
+        (PROGRAM / 'data' / (self.name + '.script')).write_text('\n'.join(self.lines) + '\n')
 
 
 def morning():
@@ -283,15 +284,77 @@ def storm():
     s.write()
 
 
+def skipped():
+    s = Script('skipped', [
+        'Counters set by hand, so that the checklist has something to find. First each limit is tried, and the counter put back: questions',
+        '8 (words), 9 (sequences) and 12 (rules) refuse. Then the sequence jumps to 500, as if copies had been scheduled that nobody saw.',
+        'Look for: four calls refused, by question; in part D echoes and all DIFFER by what was skipped, and originals agree.'], 2)
+    s.open([[0, 1, 2], [3]], 17, lat=50, jit=0.2, loss=0.1, dup=0.4, rep=0.3)
+    s.say('the fault stream has given its 2^40 words; then the link from till 1 to till 2 has')
+    s.call('setwords', 'fault', 2 ** 40)
+    s.accept(0, 1, ADD, None, 'refused by question 8')
+    s.call('setwords', 'fault', 0)
+    s.call('setwords', 1, 2, 2 ** 40)
+    s.accept(1, 1, ADD, None, 'refused by question 8 too')
+    s.call('setwords', 1, 2, 0)
+    s.say('three copies for each of three tills would pass the last sequence; every rule number is given')
+    s.call('setseq', 2 ** 32 - 4)
+    s.accept(0, 1, ADD, None, 'refused by question 9')
+    s.call('setseq', 0)
+    s.call('setrules', 2 ** 32 - 1)
+    s.call('install', 'x' + '01' + '%02x' % PUT_BACK)
+    s.call('setrules', 0)
+    s.say('a rule against put-backs, about to have fired 2^64 times')
+    s.call('install', 'x' + '01' + '%02x' % PUT_BACK)
+    s.call('setfired', 0, 2 ** 64 - 2)
+    s.accept(3, 2, PUT_BACK, None, 'put back card 5 1')
+    s.call('fired', 0)
+    s.say('six stamps and their echoes, then the jump, and six more')
+    for k in range(6):
+        s.accept(k % 4, 3 + k, ADD, None, f'card {k} +1')
+    s.flush(6)
+    s.call('setseq', 500)
+    for k in range(6):
+        s.accept(k % 4, 10 + k, ADD, None, f'card {10 + k} +1')
+    s.flush(13)
+    s.write()
+
+
+def repeated():
+    s = Script('repeated', [
+        'Counters set by hand, so that the checklist has something to find: the sequence is set back, so that three stamps of one moment',
+        'have the same sequences. Copies of one time and one sequence are flushed in the order in which they were scheduled.',
+        'Look for: in part E rows out of order, which DIFFER; in part D all DIFFER, since fewer sequences were given than copies scheduled;',
+        'originals agree, and so do marks, drops by cause (till 3 is down at the last flush), rows and tallies.'], 4)
+    s.open([[0, 1, 2, 3]], 23, lat=70, jit=0.0)
+    for moment in (1, 2):
+        s.say(f'three stamps at second {moment}, the sequence set back before the second and the third')
+        for k in range(3):
+            if k:
+                s.call('setseq', 0)
+            s.accept(k, moment, ADD, None, f'card {k} +{moment}')
+        if moment == 2:
+            s.call('down', 3)
+        s.flush(moment + 0.5)
+    s.write()
+
+
 # the morning again, as the text that the program carries
 def embedded():
-    text = (HERE / 'morning.script').read_text()
+    text = (PROGRAM / 'data/morning.script').read_text()
     assert '"' not in text and '\\' not in text
-    code = HERE.parent / 'crates/sim_morning/src/lib.rt'
+    code = CRATES / 'sim_morning/src/lib.rt'
     front, back = code.read_text().split('b"')[0], code.read_text().rsplit('";', 1)[1]
     code.write_text(front + 'b"' + text + '";' + back)
 
 
-for make in (morning, partition, lossy, crash, put_back, storm):
+# the words of the program: every script, and the morning that it carries
+def words():
+    scripts = sorted(p.name for p in (PROGRAM / 'data').glob('*.script'))
+    (PROGRAM / 'args').write_text('\n'.join(['checklist'] + scripts + ['morning']) + '\n')
+
+
+for make in (morning, partition, lossy, crash, put_back, storm, skipped, repeated):
     make()
 embedded()
+words()

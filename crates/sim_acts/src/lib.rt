@@ -199,7 +199,7 @@ fn size_of(which: u64, v: [u64; 8]) -> usize {
     v[0] as usize
 }
 
-// A call on the tables of the largest sizes, and the notes for the figures of the run, which stand behind the due copies; `room` holds the bytes
+// A call on the tables of the largest sizes, and the notes for the figures of the run, which stand before the due copies; `room` holds the bytes
 // that the call was given.
 pub fn call(
     which: u64,
@@ -244,7 +244,7 @@ pub fn call(
         blocks,
         sim_lend::front(log, n.log as usize),
         out,
-        due,
+        sim_notes::copies_in(due),
         text,
         r.used,
     );

@@ -1,7 +1,13 @@
 // Parts D and E of the checklist, and the closing slips, printed: copies, the order of deliveries, class tallies.
 mod slips;
 
+ghost use mathlib.Core.Path.{_≡_};
 ghost use Prim.Native.Nat.{_≤_};
+ghost use Rattle.sim_printer.specs.Printer.{page};
+ghost use Rattle.sim_figures.specs.Figures.{size};
+ghost use Rattle.sim_sheet.specs.Sheet.{Prints};
+ghost use Rattle.sim_checklist_copies.specs.Copies as is;
+use sim_comparison::Pair;
 use sim_figures::DROPPED;
 use sim_figures::LANDED;
 use sim_figures::LOG;
@@ -17,13 +23,19 @@ use sim_sheet::verdict;
 use sim_sheet::verdict_in;
 
 // Originals, echoes and all of what stands at a place.
-fn kinds(figures: &[u64], buf: &mut [u8], used: usize, what: &[u8], b: usize) -> usize {
+fn kinds(figures: &[u64], buf: &mut [u8], used: usize, what: &[u8], b: usize) -> usize
+    requires { ⌜ b ≤ size ⌝ }
+    ensures { λ r. ⌜ Prints (is.kindsOf (now (figures .entry)) (now (what .entry)) b) (page (now (buf .entry)) used) (page (now (buf .exit)) r) ⌝ }
+{
     let n = get(figures, b);
-    let m = get(figures, std::num::wrapping_add_usize(b, 1));
+    let m = get(figures, b + 1);
     three(buf, used, what, n, m, std::num::wrapping_add_u64(n, m))
 }
 
-pub fn copies(figures: &[u64], buf: &mut [u8], used: usize) -> usize {
+// Part D.
+pub fn copies(figures: &[u64], buf: &mut [u8], used: usize) -> usize
+    ensures { λ r. ⌜ Prints (is.copiesPart (now (figures .entry))) (page (now (buf .entry)) used) (page (now (buf .exit)) r) ⌝ }
+{
     let a = say(
         buf,
         used,
@@ -50,7 +62,10 @@ pub fn copies(figures: &[u64], buf: &mut [u8], used: usize) -> usize {
     say(buf, m, b"sequences given, echoes what is left\n")
 }
 
-pub fn order(figures: &[u64], buf: &mut [u8], used: usize) -> usize {
+// Part E, without the log's part.
+pub fn order(figures: &[u64], buf: &mut [u8], used: usize) -> usize
+    ensures { λ r. ⌜ Prints (is.orderPart (now (figures .entry))) (page (now (buf .entry)) used) (page (now (buf .exit)) r) ⌝ }
+{
     let a = say(buf, used, b"\nE. DELIVERY ORDER AND CLASS TALLIES\n");
     let b = compared(
         buf,
@@ -75,15 +90,24 @@ pub fn order(figures: &[u64], buf: &mut [u8], used: usize) -> usize {
     )
 }
 
+// Are both figures 0?
+fn has_none(p: Pair) -> bool
+    ensures { λ r. ⌜ r ≡ is.noneIn p ⌝ }
+{
+    if p.left == 0 {
+        return p.right == 0;
+    }
+    false
+}
+
 // A class's line in the table of deliveries (of is 0) or bytes (1); nothing where both figures are 0.
 fn class_line(figures: &[u64], buf: &mut [u8], used: usize, of: usize, class: u64) -> usize
     requires { ⌜ of ≤ 1 ⌝ }
+    ensures { λ r. ⌜ Prints (is.classLine (now (figures .entry)) of «class») (page (now (buf .entry)) used) (page (now (buf .exit)) r) ⌝ }
 {
     let p = sim_comparison::class(figures, of, class);
-    if p.left == 0 {
-        if p.right == 0 {
-            return used;
-        }
+    if has_none(p) {
+        return used;
     }
     let a = sim_printer::decimal_right(buf, used, class, 5);
     let b = sim_printer::decimal_right(buf, a, p.left, 21);
@@ -91,8 +115,10 @@ fn class_line(figures: &[u64], buf: &mut [u8], used: usize, of: usize, class: u6
     say(buf, c, b"\n")
 }
 
+// The lines of every class.
 fn class_lines(figures: &[u64], buf: &mut [u8], used: usize, of: usize) -> usize
     requires { ⌜ of ≤ 1 ⌝ }
+    ensures { λ r. ⌜ Prints (is.classLines (now (figures .entry)) of) (page (now (buf .entry)) used) (page (now (buf .exit)) r) ⌝ }
 {
     let mut u = used;
     let mut class: u64 = 0;
@@ -103,8 +129,10 @@ fn class_lines(figures: &[u64], buf: &mut [u8], used: usize, of: usize) -> usize
     u
 }
 
+// The table of deliveries or bytes, and whether every class agrees.
 fn class_table(figures: &[u64], buf: &mut [u8], used: usize, of: usize) -> usize
     requires { ⌜ of ≤ 1 ⌝ }
+    ensures { λ r. ⌜ Prints (is.classTable (now (figures .entry)) of) (page (now (buf .entry)) used) (page (now (buf .exit)) r) ⌝ }
 {
     if get(figures, LOG) == 0 {
         let b = right(buf, used, b"no log", WIDE);
@@ -120,7 +148,9 @@ fn class_table(figures: &[u64], buf: &mut [u8], used: usize, of: usize) -> usize
 }
 
 // The log's part, and the slips.
-pub fn tables(figures: &[u64], buf: &mut [u8], used: usize) -> usize {
+pub fn tables(figures: &[u64], buf: &mut [u8], used: usize) -> usize
+    ensures { λ r. ⌜ Prints (is.tablesPart (now (figures .entry))) (page (now (buf .entry)) used) (page (now (buf .exit)) r) ⌝ }
+{
     let a = say(buf, used, b"deliveries by class\n");
     let b = class_table(figures, buf, a, 0);
     let c = say(buf, b, b"wire bytes by class\n");

@@ -1,4 +1,7 @@
 // The head of the checklist and its parts A to C, printed: recipients, seen marks, drops by cause and by the till that sent.
+ghost use Rattle.sim_printer.specs.Printer.{page};
+ghost use Rattle.sim_sheet.specs.Sheet.{Prints};
+ghost use Rattle.sim_checklist_counts.specs.Counts as is;
 use sim_figures::ACCEPTS;
 use sim_figures::DOWN_MARKS;
 use sim_figures::FIVE;
@@ -18,8 +21,13 @@ use sim_sheet::line;
 use sim_sheet::say;
 use sim_sheet::verdict;
 
+// The numbers that have a line, where they refused a call.
+const QUESTIONS: u64 = 15;
+
 // How many calls a question refused; nothing where none.
-fn refusal(figures: &[u64], buf: &mut [u8], used: usize, number: u64) -> usize {
+fn refusal(figures: &[u64], buf: &mut [u8], used: usize, number: u64) -> usize
+    ensures { λ r. ⌜ Prints (is.refusalOf (now (figures .entry)) number) (page (now (buf .entry)) used) (page (now (buf .exit)) r) ⌝ }
+{
     let n = get(figures, refused_at(number));
     if n == 0 {
         return used;
@@ -30,17 +38,23 @@ fn refusal(figures: &[u64], buf: &mut [u8], used: usize, number: u64) -> usize {
     say(buf, c, b"\n")
 }
 
-fn refusals(figures: &[u64], buf: &mut [u8], used: usize) -> usize {
+// The same of every question.
+fn refusals(figures: &[u64], buf: &mut [u8], used: usize) -> usize
+    ensures { λ r. ⌜ Prints (is.refusalsOf (now (figures .entry)) 15) (page (now (buf .entry)) used) (page (now (buf .exit)) r) ⌝ }
+{
     let mut u = used;
-    let mut number: u64 = 1;
-    while number < 16 {
-        u = refusal(figures, buf, u, number);
-        number += 1;
+    let mut n: u64 = 0;
+    while n < QUESTIONS {
+        u = refusal(figures, buf, u, n + 1);
+        n += 1;
     }
     u
 }
 
-pub fn head(figures: &[u64], buf: &mut [u8], used: usize) -> usize {
+// How much there was, what was refused, and how many comparisons differ.
+pub fn head(figures: &[u64], buf: &mut [u8], used: usize) -> usize
+    ensures { λ r. ⌜ Prints (is.headOf (now (figures .entry))) (page (now (buf .entry)) used) (page (now (buf .exit)) r) ⌝ }
+{
     let a = say(buf, used, b"CHECKLIST OF THE RUN\n");
     let b = line(buf, a, b"tills", get(figures, TILLS));
     let c = line(buf, b, b"messages accepted", get(figures, ACCEPTS));
@@ -60,7 +74,10 @@ pub fn head(figures: &[u64], buf: &mut [u8], used: usize) -> usize {
     )
 }
 
-pub fn recipients(figures: &[u64], buf: &mut [u8], used: usize) -> usize {
+// Part A.
+pub fn recipients(figures: &[u64], buf: &mut [u8], used: usize) -> usize
+    ensures { λ r. ⌜ Prints (is.recipientsOf (now (figures .entry))) (page (now (buf .entry)) used) (page (now (buf .exit)) r) ⌝ }
+{
     let a = say(buf, used, b"\nA. RECIPIENTS, BY THE ANSWERS OF ACCEPT\n");
     let b = line(buf, a, b"sent", get(figures, FIVE));
     let c = line(buf, b, b"deduplicated", get(figures, FIVE + 1));
@@ -76,7 +93,10 @@ pub fn recipients(figures: &[u64], buf: &mut [u8], used: usize) -> usize {
     )
 }
 
-pub fn marks(figures: &[u64], buf: &mut [u8], used: usize) -> usize {
+// Part B.
+pub fn marks(figures: &[u64], buf: &mut [u8], used: usize) -> usize
+    ensures { λ r. ⌜ Prints (is.marksPart (now (figures .entry))) (page (now (buf .entry)) used) (page (now (buf .exit)) r) ⌝ }
+{
     let a = say(buf, used, b"\nB. SEEN MARKS\n");
     let b = line(buf, a, b"set by sent originals", get(figures, FIVE));
     let c = line(buf, b, b"gone with take-downs", get(figures, DOWN_MARKS));
@@ -97,7 +117,10 @@ pub fn marks(figures: &[u64], buf: &mut [u8], used: usize) -> usize {
     )
 }
 
-pub fn drops(figures: &[u64], buf: &mut [u8], used: usize) -> usize {
+// Part C, by cause.
+pub fn drops(figures: &[u64], buf: &mut [u8], used: usize) -> usize
+    ensures { λ r. ⌜ Prints (is.dropsPart (now (figures .entry))) (page (now (buf .entry)) used) (page (now (buf .exit)) r) ⌝ }
+{
     let a = say(buf, used, b"\nC. DROPS BY CAUSE\n");
     let b = line(buf, a, b"partition", get(figures, FIVE + 2));
     let c = line(buf, b, b"loss", get(figures, FIVE + 3));
@@ -118,7 +141,10 @@ pub fn drops(figures: &[u64], buf: &mut [u8], used: usize) -> usize {
     )
 }
 
-fn sender_row(figures: &[u64], buf: &mut [u8], used: usize, t: u64) -> usize {
+// The drops of what a till sent.
+fn sender_row(figures: &[u64], buf: &mut [u8], used: usize, t: u64) -> usize
+    ensures { λ r. ⌜ Prints (is.senderRow (now (figures .entry)) t) (page (now (buf .entry)) used) (page (now (buf .exit)) r) ⌝ }
+{
     let b = till_row(t);
     let a = sim_printer::decimal_right(buf, used, t, 4);
     four(
@@ -131,7 +157,10 @@ fn sender_row(figures: &[u64], buf: &mut [u8], used: usize, t: u64) -> usize {
     )
 }
 
-fn sender_rows(figures: &[u64], buf: &mut [u8], used: usize, tills: u64) -> usize {
+// The same of the first tills.
+fn sender_rows(figures: &[u64], buf: &mut [u8], used: usize, tills: u64) -> usize
+    ensures { λ r. ⌜ Prints (is.senderRows (now (figures .entry)) tills) (page (now (buf .entry)) used) (page (now (buf .exit)) r) ⌝ }
+{
     let mut u = used;
     let mut t: u64 = 0;
     while t < tills {
@@ -141,7 +170,10 @@ fn sender_rows(figures: &[u64], buf: &mut [u8], used: usize, tills: u64) -> usiz
     u
 }
 
-pub fn senders(figures: &[u64], buf: &mut [u8], used: usize) -> usize {
+// Part C, by the till that sent.
+pub fn senders(figures: &[u64], buf: &mut [u8], used: usize) -> usize
+    ensures { λ r. ⌜ Prints (is.sendersPart (now (figures .entry))) (page (now (buf .entry)) used) (page (now (buf .exit)) r) ⌝ }
+{
     let a = say(buf, used, b"drops by the till that sent\n");
     let b = say(
         buf,

@@ -1,4 +1,4 @@
-// The figures of a run, in a lent slice of SIZE numbers, for the checklist that is filled in from it.
+// The figures of a run, the first SIZE numbers of a lent table, for the checklist that is filled in from it.
 //
 // After each accepted call the caller takes a note: opened, accepted, row and dropped for each due copy of a flush and then
 // flushed, went_down, came_up, tallied for each class before a drain; refused for a call that a number refused. At the end it
@@ -427,14 +427,14 @@ pub fn row(figures: &mut [u64], out: &[u64], b: usize)
     note_landed(figures, c, out[b + GOSSIP], out[b + HOST]);
 }
 
-// A due copy that a flush dropped, whose words start at b.
-pub fn dropped(figures: &mut [u64], copies: &[u64], b: usize)
-    ensures { λ r. ⌜ now (figures .exit) ≡ note.dropNote (now (figures .entry)) (now (copies .entry)) b ⌝ }
+// A due copy that a flush dropped, whose words start at b of the same table, behind the figures.
+pub fn dropped(figures: &mut [u64], b: usize)
+    ensures { λ r. ⌜ now (figures .exit) ≡ note.dropNote (now (figures .entry)) (now (figures .entry)) b ⌝ }
 {
-    if !has_words(copies, b, table_waiting::WIDTH) {
+    if !has_words(figures, b, table_waiting::WIDTH) {
         return;
     }
-    let c = table_waiting::get(copies, b);
+    let c = table_waiting::get(figures, b);
     note_dropped(figures, c);
 }
 

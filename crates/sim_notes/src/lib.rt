@@ -1,5 +1,9 @@
-// The notes that a run of a script takes: behind each call, from the call's words, its outcome, and how many marks the tables count.
-// The figures stand behind the copies that a flush keeps for its answer, in one table, `due`.
+// The notes that a run of a script takes: behind each line, from its words, its outcome, and how many marks the tables count.
+// One table, `due`, holds the figures and, behind them, the copies that a flush keeps for its answer.
+ghost use mathlib.Core.Path.{_≡_};
+ghost use Prim.Native.Nat.{_+_, _-_, _≤_};
+ghost use Rattle.spec_network.specs.Opening.{mostClasses, mostSlots};
+ghost use Rattle.sim_notes.specs.Noted as noted;
 use sim_script::calls;
 
 // Where a copy has its sequence.
@@ -10,19 +14,30 @@ const LAST: u64 = 14;
 
 const CLASSES: u64 = ask_tables::MOST_CLASSES;
 
-// Words of the table of due copies before the figures.
-pub const FIGURES: usize = ask_tables::MOST_SLOTS as usize * table_waiting::WIDTH;
+// Where the due copies stand in their table, and how many words it has.
+const COPIES: usize = sim_figures::SIZE;
 
-// The figures of the table.
-pub fn figures_in(due: &mut [u64]) -> &mut [u64] {
-    if due.len() < FIGURES {
+pub const WIDTH: usize = COPIES + ask_tables::MOST_SLOTS as usize * table_waiting::WIDTH;
+
+// The due copies of the table.
+pub fn copies_in(due: &mut [u64]) -> &mut [u64] {
+    if due.len() < COPIES {
         return &mut due[0..0];
     }
-    &mut due[FIGURES..]
+    &mut due[COPIES..]
+}
+
+// What is left of a without b; 0 where b is more.
+fn less(a: u64, b: u64) -> u64
+    ensures { λ r. ⌜ r ≡ a - b ⌝ }
+{
+    if b < a { a - b } else { 0 }
 }
 
 // How many marks stand, of all tills.
-pub fn marks(setup: &[u64], seen: &[u64]) -> u64 {
+pub fn marks(setup: &[u64], seen: &[u64]) -> u64
+    ensures { λ r. ⌜ r ≡ noted.marksIn (now (setup .entry)) (now (seen .entry)) ⌝ }
+{
     let n = sim_figures::least(
         ask_tables::cell(setup, ask_tables::TILLS),
         ask_tables::MOST_TILLS,
@@ -37,7 +52,9 @@ pub fn marks(setup: &[u64], seen: &[u64]) -> u64 {
 }
 
 // How many words of the log's table an opening uses.
-fn log_size(setup: &[u64]) -> usize {
+fn log_size(setup: &[u64]) -> usize
+    ensures { λ r. ⌜ r ≡ noted.logWords (now (setup .entry)) ⌝ }
+{
     let slots = sim_figures::least(
         ask_tables::cell(setup, ask_tables::LOG_SLOTS),
         ask_tables::MOST_SLOTS,
@@ -45,74 +62,105 @@ fn log_size(setup: &[u64]) -> usize {
     table_log::RECORDS + slots * table_delivery::WIDTH
 }
 
-// The log's tallies of every class.
-fn tallies(figures: &mut [u64], setup: &[u64], log: &[u64]) {
+// The tally of a class.
+fn tally(due: &mut [u64], setup: &[u64], log: &[u64], class: u64)
+    ensures { λ r. ⌜ now (due .exit) ≡ noted.classTallied (now (due .entry)) (now (setup .entry)) (now (log .entry)) «class» ⌝ }
+{
+    let t = call_log::tally_of(setup, log, class);
+    sim_figures::tallied(due, class, t.deliveries, t.bytes);
+}
+
+// The tallies of every class, in a log of the opening's size.
+fn tallies_of(due: &mut [u64], setup: &[u64], log: &[u64])
+    ensures { λ r. ⌜ now (due .exit) ≡ noted.talliesOf (now (due .entry)) (now (setup .entry)) (now (log .entry)) mostClasses ⌝ }
+{
     let mut class: u64 = 0;
     while class < CLASSES {
-        let t = call_log::tally_of(setup, log, class);
-        sim_figures::tallied(figures, class, t.deliveries, t.bytes);
+        tally(due, setup, log, class);
         class += 1;
     }
 }
 
-// Before a call: a drain takes the tallies away.
-pub fn before(due: &mut [u64], which: u64, setup: &[u64], log: &[u64]) {
+// The log's tallies of every class.
+fn tallies(due: &mut [u64], setup: &[u64], log: &[u64])
+    ensures { λ r. ⌜ now (due .exit) ≡ noted.talliesNote (now (due .entry)) (now (setup .entry)) (now (log .entry)) ⌝ }
+{
+    tallies_of(due, setup, sim_lend::part(log, log_size(setup)));
+}
+
+// Before a line: a drain takes the tallies away.
+pub fn before(due: &mut [u64], which: u64, setup: &[u64], log: &[u64])
+    ensures { λ r. ⌜ now (due .exit) ≡ noted.beforeNote (now (due .entry)) which (now (setup .entry)) (now (log .entry)) ⌝ }
+{
     if which == calls::DRAIN {
-        tallies(figures_in(due), setup, sim_lend::part(log, log_size(setup)));
+        tallies(due, setup, log);
         return;
     }
 }
 
-fn word(due: &[u64], at: usize, k: usize) -> u64 {
-    ask_tables::cell(due, std::num::wrapping_add_usize(at, k))
-}
-
-// The copy at `at`.
-fn copy_at(due: &[u64], at: usize) -> [u64; table_waiting::WIDTH] {
-    let mut copy = [0u64; table_waiting::WIDTH];
-    let mut k: usize = 0;
-    while k < table_waiting::WIDTH {
-        copy[k] = word(due, at, k);
-        k += 1;
-    }
-    copy
-}
-
 // A copy that was due, at `at`: landed where it is the row at `row`, else dropped; where the next row stands then.
-fn due_copy(due: &mut [u64], at: usize, out: &[u64], row: usize) -> usize {
-    if word(due, at, SEQUENCE) == word(out, row, SEQUENCE) {
-        sim_figures::row(figures_in(due), out, row);
-        return std::num::wrapping_add_usize(row, call_flush_pass::ROW);
+fn due_copy(due: &mut [u64], at: usize, out: &[u64], row: usize) -> usize
+    requires { ⌜ (at ≤ noted.copiesEnd) × (row ≤ noted.rowsEnd) ⌝ }
+    ensures is { λ r. ⌜ noted.noted (now (due .exit)) r ≡ noted.dueNote (noted.noted (now (due .entry)) row) (now (out .entry)) at ⌝ }
+    ensures within { λ r. ⌜ r ≤ row + noted.rowWidth ⌝ }
+{
+    if ask_tables::cell(due, at + SEQUENCE) == ask_tables::cell(out, row + SEQUENCE) {
+        sim_figures::row(due, out, row);
+        return row + call_flush_pass::ROW;
     }
-    let copy = copy_at(due, at);
-    sim_figures::dropped(figures_in(due), &copy, 0);
+    sim_figures::dropped(due, at);
     row
 }
 
-fn due_copies(due: &mut [u64], n: u64, out: &[u64]) {
+// The first n copies that were due.
+fn due_copies(due: &mut [u64], n: u64, out: &[u64])
+    requires { ⌜ n ≤ mostSlots ⌝ }
+    ensures { λ r. ⌜ now (due .exit) ≡ noted.dueNotes (now (due .entry)) (now (out .entry)) n .held ⌝ }
+{
     let mut row: usize = 0;
-    let mut at: usize = 0;
     let mut i: u64 = 0;
     while i < n {
-        row = due_copy(due, at, out, row);
-        at = std::num::wrapping_add_usize(at, table_waiting::WIDTH);
+        row = due_copy(due, COPIES + i as usize * table_waiting::WIDTH, out, row);
         i += 1;
     }
 }
 
 // Words of so many rows.
-fn rows_size(rows: u64) -> usize {
+fn rows_size(rows: u64) -> usize
+    ensures { λ r. ⌜ r ≡ noted.rowsWords rows ⌝ }
+{
     let n = sim_figures::least(rows, ask_tables::MOST_SLOTS) as usize;
     n * call_flush_pass::ROW
 }
 
 // A flush: its rows, delivered, dropped and due copies are counted; `gone` marks went. What lies behind the rows is older.
-fn flushed(due: &mut [u64], counts: [u64; 5], gone: u64, out: &[u64]) {
-    due_copies(due, counts[3], sim_lend::part(out, rows_size(counts[0])));
-    sim_figures::flushed(figures_in(due), counts[0], counts[1], counts[2], gone);
+fn flushed(due: &mut [u64], counts: [u64; 5], gone: u64, out: &[u64])
+    ensures { λ r. ⌜ now (due .exit) ≡ noted.flushNote (now (due .entry)) counts gone (now (out .entry)) ⌝ }
+{
+    let n = sim_figures::least(counts[3], ask_tables::MOST_SLOTS);
+    due_copies(due, n, sim_lend::part(out, rows_size(counts[0])));
+    sim_figures::flushed(due, counts[0], counts[1], counts[2], gone);
 }
 
-// A call that no number refused. Its words are those of the script's line.
+// An accepted message.
+fn accepted(due: &mut [u64], v: [u64; 8], counts: [u64; 5], net: &[u64])
+    ensures { λ r. ⌜ now (due .exit) ≡ noted.acceptNote (now (due .entry)) v counts (now (net .entry)) ⌝ }
+{
+    sim_figures::accepted(
+        due,
+        v[0],
+        v[4],
+        v[6],
+        counts[0],
+        counts[1],
+        counts[2],
+        counts[3],
+        counts[4],
+        ask_tables::cell(net, ask_tables::SEQUENCE),
+    );
+}
+
+// A line that no number refused. Its words are those of the script's line.
 fn taken(
     due: &mut [u64],
     which: u64,
@@ -121,28 +169,32 @@ fn taken(
     gone: u64,
     net: &[u64],
     out: &[u64],
-) {
-    match which {
-        calls::ACCEPT => sim_figures::accepted(
-            figures_in(due),
-            v[0],
-            v[4],
-            v[6],
-            counts[0],
-            counts[1],
-            counts[2],
-            counts[3],
-            counts[4],
-            ask_tables::cell(net, ask_tables::SEQUENCE),
-        ),
-        calls::FLUSH | calls::FLUSH_ROWS => flushed(due, counts, gone, out),
-        calls::DOWN => sim_figures::went_down(figures_in(due), v[0], gone),
-        calls::UP => sim_figures::came_up(figures_in(due), v[0], v[1]),
-        _ => {}
+)
+    ensures { λ r. ⌜ now (due .exit) ≡ noted.takenNote (now (due .entry)) which v counts gone (now (net .entry)) (now (out .entry)) ⌝ }
+{
+    if which == calls::ACCEPT {
+        accepted(due, v, counts, net);
+        return;
+    }
+    if which == calls::FLUSH {
+        flushed(due, counts, gone, out);
+        return;
+    }
+    if which == calls::FLUSH_ROWS {
+        flushed(due, counts, gone, out);
+        return;
+    }
+    if which == calls::DOWN {
+        sim_figures::went_down(due, v[0], gone);
+        return;
+    }
+    if which == calls::UP {
+        sim_figures::came_up(due, v[0], v[1]);
+        return;
     }
 }
 
-// Behind a call: its number and counts; so many marks stood before it.
+// Behind a line: its number and counts; so many marks stood before it.
 pub fn after(
     due: &mut [u64],
     which: u64,
@@ -154,51 +206,63 @@ pub fn after(
     net: &[u64],
     seen: &[u64],
     out: &[u64],
-) {
+)
+    ensures { λ r. ⌜ now (due .exit) ≡ noted.afterNote (now (due .entry)) which v number counts stood (now (setup .entry)) (now (net .entry)) (now (seen .entry)) (now (out .entry)) ⌝ }
+{
     if LAST < number {
         return;
     }
     if 0 < number {
-        sim_figures::refused(figures_in(due), number);
+        sim_figures::refused(due, number);
         return;
     }
-    let gone = std::num::wrapping_sub_u64(stood, marks(setup, seen));
+    let gone = less(stood, marks(setup, seen));
     taken(due, which, v, counts, gone, net, out);
 }
 
 // Behind an opening: its number, and the line's tills, masks and log slots.
-pub fn opened(due: &mut [u64], number: u64, tills: u64, masks: &[u64], log: u64, net: &[u64]) {
+pub fn opened(due: &mut [u64], number: u64, tills: u64, masks: &[u64], log: u64, net: &[u64])
+    ensures { λ r. ⌜ now (due .exit) ≡ noted.openingNote (now (due .entry)) number tills (now (masks .entry)) log (now (net .entry)) ⌝ }
+{
     if LAST < number {
         return;
     }
     if 0 < number {
-        sim_figures::refused(figures_in(due), number);
+        sim_figures::refused(due, number);
         return;
     }
     let first = ask_tables::cell(net, ask_tables::SEQUENCE);
-    sim_figures::opened(figures_in(due), tills, masks, log, first);
+    sim_figures::opened(due, tills, masks, log, first);
 }
 
-fn waiting_copies(figures: &mut [u64], waiting: &[u64], n: u64) {
-    let mut at: usize = 0;
+// The first n copies that wait.
+fn waiting_copies(due: &mut [u64], waiting: &[u64], n: u64)
+    requires { ⌜ n ≤ mostSlots ⌝ }
+    ensures { λ r. ⌜ now (due .exit) ≡ noted.waitsOf (now (due .entry)) (now (waiting .entry)) n ⌝ }
+{
     let mut i: u64 = 0;
     while i < n {
-        sim_figures::waits(figures, waiting, at);
-        at = std::num::wrapping_add_usize(at, table_waiting::WIDTH);
+        sim_figures::waits(due, waiting, i as usize * table_waiting::WIDTH);
         i += 1;
     }
 }
 
 // At the end: what waits, the tallies that stand, the marks that stand.
 pub fn ended(
-    figures: &mut [u64],
+    due: &mut [u64],
     setup: &[u64],
     net: &[u64],
     seen: &[u64],
     waiting: &[u64],
     log: &[u64],
-) {
-    waiting_copies(figures, waiting, ask_tables::cell(net, ask_tables::WAITING));
-    tallies(figures, setup, sim_lend::part(log, log_size(setup)));
-    sim_figures::stands(figures, marks(setup, seen));
+)
+    ensures { λ r. ⌜ now (due .exit) ≡ noted.endNote (now (due .entry)) (now (setup .entry)) (now (net .entry)) (now (seen .entry)) (now (waiting .entry)) (now (log .entry)) ⌝ }
+{
+    let n = sim_figures::least(
+        ask_tables::cell(net, ask_tables::WAITING),
+        ask_tables::MOST_SLOTS,
+    );
+    waiting_copies(due, waiting, n);
+    tallies(due, setup, log);
+    sim_figures::stands(due, marks(setup, seen));
 }

@@ -1,36 +1,59 @@
-// The parts of a run beside its calls: the word behind the program's name, where the lines come from, an opening, the end.
+// The parts of a run beside its calls: the words behind the program's name, where the lines come from, an opening, the end.
 use sim_openings::Opening;
 use sim_session::input;
 use sim_session::lines;
 use sim_session::lines::Session;
 use sim_session::opens;
 
-// The word behind the program's name.
+// What a word behind the program's name asks for.
 const NOTHING: u64 = 0;
 
-const CHECKLIST: u64 = 1;
+pub const CHECKLIST: u64 = 1;
 
-const MORNING: u64 = 2;
+pub const MORNING: u64 = 2;
 
-pub fn asked() -> u64 {
-    let mut word = [0u8; 16];
-    let n = os::arg(1, &mut word);
-    let said = sim_spelling::words::part(&word, 0, n);
-    if sim_spelling::words::same(said, b"checklist") {
+// The first word that can name a file, behind the program's name and `checklist`.
+pub const FILES: usize = 2;
+
+// What a word asks for.
+pub fn asked_by(word: &[u8]) -> u64 {
+    if sim_spelling::words::same(word, b"checklist") {
         return CHECKLIST;
     }
-    if sim_spelling::words::same(said, b"morning") {
+    if sim_spelling::words::same(word, b"morning") {
         return MORNING;
     }
     NOTHING
 }
 
-// Where the lines come from: standard input, or the morning that the program carries.
-pub fn source(asked: u64, piece: &mut [u8]) -> input::Input {
-    if asked == MORNING {
-        return input::start(true, sim_morning::script(piece));
+// What the first word behind the program's name asks for.
+pub fn asked() -> u64 {
+    let mut word = [0u8; 16];
+    let n = os::arg(1, &mut word);
+    asked_by(sim_spelling::words::part(&word, 0, n))
+}
+
+// Of so many words, do some name files with scripts?
+pub fn names_files(asked: u64, words: usize) -> bool {
+    if asked == CHECKLIST {
+        return FILES < words;
     }
-    input::start(false, 0)
+    false
+}
+
+// The line above the answers to a file's script.
+pub fn headed(name: &[u8]) {
+    io::write_all(libc::STDOUT_FILENO, b"RUN OF ");
+    io::write_all(libc::STDOUT_FILENO, name);
+    io::write_all(libc::STDOUT_FILENO, b"\n");
+}
+
+// Where the lines come from: what the descriptor reads, or the morning that the program carries.
+pub fn source(asked: u64, from: i32, piece: &mut [u8]) -> input::Input {
+    if asked == MORNING {
+        return input::start(input::NOWHERE, sim_morning::script(piece));
+    }
+    input::start(from, 0)
 }
 
 // An opening.
@@ -92,9 +115,8 @@ pub fn finish(
     if asked == NOTHING {
         return sim_printer::finish(text, used);
     }
-    let figures = sim_notes::figures_in(due);
-    sim_notes::ended(figures, setup, net, seen, waiting, log);
+    sim_notes::ended(due, setup, net, seen, waiting, log);
     let a = sim_printer::text(text, used, b"\n");
-    let b = sim_checklist::print(figures, text, a);
+    let b = sim_checklist::print(due, text, a);
     sim_printer::finish(text, b)
 }

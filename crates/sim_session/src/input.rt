@@ -1,7 +1,7 @@
-// Standard input, read piece by piece: a line at a time is gathered in a buffer.
+// A script, read piece by piece from a descriptor: a line at a time is gathered in a buffer.
 
 // Where the reading stands: the piece's bytes from `at` up to `end` are still to come; the line has n bytes so far; more than its buffer
-// holds and it is too long; the input has ended. A carried script stands in the first piece whole, and nothing is read behind it.
+// holds and it is too long; the input has ended. `from` is the descriptor; a carried script stands in the first piece whole, and is read from nowhere.
 pub struct Input {
     pub at: usize,
     pub end: usize,
@@ -9,11 +9,14 @@ pub struct Input {
     pub long: bool,
     pub ended: bool,
     pub ready: bool,
-    pub carried: bool,
+    pub from: i32,
 }
 
+// No descriptor.
+pub const NOWHERE: i32 = -1;
+
 // Nothing read yet; of a carried script so many bytes stand in the piece.
-pub fn start(carried: bool, end: usize) -> Input {
+pub fn start(from: i32, end: usize) -> Input {
     Input {
         at: 0,
         end,
@@ -21,7 +24,7 @@ pub fn start(carried: bool, end: usize) -> Input {
         long: false,
         ended: false,
         ready: false,
-        carried,
+        from,
     }
 }
 
@@ -37,7 +40,7 @@ fn with_byte(line: &mut [u8], i: Input, b: u8) -> Input {
             long: i.long,
             ended: false,
             ready: true,
-            carried: i.carried,
+            from: i.from,
         };
     }
     if n < line.len() {
@@ -49,7 +52,7 @@ fn with_byte(line: &mut [u8], i: Input, b: u8) -> Input {
             long: i.long,
             ended: false,
             ready: false,
-            carried: i.carried,
+            from: i.from,
         };
     }
     Input {
@@ -59,13 +62,13 @@ fn with_byte(line: &mut [u8], i: Input, b: u8) -> Input {
         long: true,
         ended: false,
         ready: false,
-        carried: i.carried,
+        from: i.from,
     }
 }
 
 // The bytes of the piece, up to the end of a line.
-fn gathered(piece: &[u8], line: &mut [u8], from: Input) -> Input {
-    let mut i = from;
+fn gathered(piece: &[u8], line: &mut [u8], before: Input) -> Input {
+    let mut i = before;
     let mut left = piece.len();
     while 0 < left {
         let at = i.at;
@@ -86,17 +89,17 @@ fn gathered(piece: &[u8], line: &mut [u8], from: Input) -> Input {
 }
 
 // The bytes of the next piece: none behind a carried script.
-fn got(piece: &mut [u8], carried: bool) -> usize {
-    if carried {
+fn got(piece: &mut [u8], from: i32) -> usize {
+    if from < 0 {
         return 0;
     }
-    let n = libc::read(libc::STDIN_FILENO, piece);
+    let n = libc::read(from, piece);
     io::count(n, piece)
 }
 
 // The next piece; a last line without an end is a line too.
 fn refilled(piece: &mut [u8], i: Input) -> Input {
-    let end = got(piece, i.carried);
+    let end = got(piece, i.from);
     Input {
         at: 0,
         end,
@@ -104,7 +107,7 @@ fn refilled(piece: &mut [u8], i: Input) -> Input {
         long: i.long,
         ended: end == 0,
         ready: end == 0,
-        carried: i.carried,
+        from: i.from,
     }
 }
 
@@ -127,7 +130,7 @@ pub fn next_line(piece: &mut [u8], line: &mut [u8], before: Input) -> Input {
         long: false,
         ended: false,
         ready: false,
-        carried: before.carried,
+        from: before.from,
     };
     let mut left = TURNS;
     while 0 < left {

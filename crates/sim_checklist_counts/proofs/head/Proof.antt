@@ -1,4 +1,6 @@
+use Rattle.sim_sheet.proofs.Laws.{onward, shown}
 use native.Mathlib.Omega.{arith}
+use Rattle.sim_checklist_counts.specs.Counts.{headOf}
 use borrow.Author.Needs.{needs}
 use Rattle.sim_checklist_counts.proofs.head.Statement.{statement}
 use Rattle.sim_checklist_counts.proofs.head.Tie as tie
@@ -61,7 +63,8 @@ same-length : tie.Need-same-length
 same-length c = omega (arith, c .before .before .line5 .kept .0, c .before .before .before .before .before .before .before .before .refusals .kept .1 .0, c .before .before .before .before .before .before .before .before .before .before .before .before .line4 .kept .0, c .before .before .before .before .before .before .before .before .before .before .before .before .before .before .before .before .before .before .line3 .kept .0, c .before .before .before .before .before .before .before .before .before .before .before .before .before .before .before .before .before .before .before .before .before .before .before .before .line2 .kept .0, c .before .before .before .before .before .before .before .before .before .before .before .before .before .before .before .before .before .before .before .before .before .before .before .before .before .before .before .before .before .before .line .kept .0, c .before .before .before .before .before .before .before .before .before .before .before .before .before .before .before .before .before .before .before .before .before .before .before .before .before .before .before .before .before .before .before .before .before .before .before .before .say .kept .0)
 
 returns : tie.Need-returns
-returns c = search needs
+unfolding headOf
+returns c = onward _ _ _ _ _ (c .before .before .before .before .before .before .before .before .before .before .before .before .before .before .before .before .before .before .before .before .before .before .before .before .before .before .before .before .before .before .before .before .before .before .before .before .say .ensures) (onward _ _ _ _ _ (shown _ _ _ _ _ (c .before .before .before .before .before .before .before .before .before .before .before .before .before .before .before .before .before .before .before .before .before .before .before .before .before .before .before .before .before .before .before .get .ensures) (c .before .before .before .before .before .before .before .before .before .before .before .before .before .before .before .before .before .before .before .before .before .before .before .before .before .before .before .before .before .before .line .ensures)) (onward _ _ _ _ _ (shown _ _ _ _ _ (c .before .before .before .before .before .before .before .before .before .before .before .before .before .before .before .before .before .before .before .before .before .before .before .before .before .get2 .ensures) (c .before .before .before .before .before .before .before .before .before .before .before .before .before .before .before .before .before .before .before .before .before .before .before .before .line2 .ensures)) (onward _ _ _ _ _ (shown _ _ _ _ _ (c .before .before .before .before .before .before .before .before .before .before .before .before .before .before .before .before .before .before .before .get3 .ensures) (c .before .before .before .before .before .before .before .before .before .before .before .before .before .before .before .before .before .before .line3 .ensures)) (onward _ _ _ _ _ (shown _ _ _ _ _ (c .before .before .before .before .before .before .before .before .before .before .before .before .before .sum .ensures) (c .before .before .before .before .before .before .before .before .before .before .before .before .line4 .ensures)) (onward _ _ _ _ _ (c .before .before .before .before .before .before .before .before .refusals .ensures) (shown _ _ _ _ _ (c .before .before .before .differ .ensures) (c .before .before .line5 .ensures)))))))
 
 pub head-spec : {M : Type 1} → statement M
 head-spec =

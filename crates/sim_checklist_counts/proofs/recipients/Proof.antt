@@ -1,4 +1,6 @@
+use Rattle.sim_sheet.proofs.Laws.{onward, shown, shown-pair}
 use native.Mathlib.Omega.{arith}
+use Rattle.sim_checklist_counts.specs.Counts.{recipientsOf}
 use borrow.Author.Needs.{needs}
 use Rattle.sim_checklist_counts.proofs.recipients.Statement.{statement}
 use Rattle.sim_checklist_counts.proofs.recipients.Tie as tie
@@ -82,7 +84,8 @@ same-length : tie.Need-same-length
 same-length c = omega (arith, c .before .before .compared .kept .0, c .before .before .before .before .before .before .before .before .before .line5 .kept .0, c .before .before .before .before .before .before .before .before .before .before .before .before .before .before .before .line4 .kept .0, c .before .before .before .before .before .before .before .before .before .before .before .before .before .before .before .before .before .before .before .before .before .line3 .kept .0, c .before .before .before .before .before .before .before .before .before .before .before .before .before .before .before .before .before .before .before .before .before .before .before .before .before .before .before .line2 .kept .0, c .before .before .before .before .before .before .before .before .before .before .before .before .before .before .before .before .before .before .before .before .before .before .before .before .before .before .before .before .before .before .before .before .before .line .kept .0, c .before .before .before .before .before .before .before .before .before .before .before .before .before .before .before .before .before .before .before .before .before .before .before .before .before .before .before .before .before .before .before .before .before .before .before .before .before .before .before .say .kept .0)
 
 returns : tie.Need-returns
-returns c = search needs
+unfolding recipientsOf
+returns c = onward _ _ _ _ _ (c .before .before .before .before .before .before .before .before .before .before .before .before .before .before .before .before .before .before .before .before .before .before .before .before .before .before .before .before .before .before .before .before .before .before .before .before .before .before .before .say .ensures) (onward _ _ _ _ _ (shown _ _ _ _ _ (c .before .before .before .before .before .before .before .before .before .before .before .before .before .before .before .before .before .before .before .before .before .before .before .before .before .before .before .before .before .before .before .before .before .before .get .ensures) (c .before .before .before .before .before .before .before .before .before .before .before .before .before .before .before .before .before .before .before .before .before .before .before .before .before .before .before .before .before .before .before .before .before .line .ensures)) (onward _ _ _ _ _ (shown _ _ _ _ _ (c .before .before .before .before .before .before .before .before .before .before .before .before .before .before .before .before .before .before .before .before .before .before .before .before .before .before .before .before .get2 .ensures) (c .before .before .before .before .before .before .before .before .before .before .before .before .before .before .before .before .before .before .before .before .before .before .before .before .before .before .before .line2 .ensures)) (onward _ _ _ _ _ (shown _ _ _ _ _ (c .before .before .before .before .before .before .before .before .before .before .before .before .before .before .before .before .before .before .before .before .before .before .get3 .ensures) (c .before .before .before .before .before .before .before .before .before .before .before .before .before .before .before .before .before .before .before .before .before .line3 .ensures)) (onward _ _ _ _ _ (shown _ _ _ _ _ (c .before .before .before .before .before .before .before .before .before .before .before .before .before .before .before .before .get4 .ensures) (c .before .before .before .before .before .before .before .before .before .before .before .before .before .before .before .line4 .ensures)) (onward _ _ _ _ _ (shown _ _ _ _ _ (c .before .before .before .before .before .before .before .before .before .before .get5 .ensures) (c .before .before .before .before .before .before .before .before .before .line5 .ensures)) (shown-pair _ _ _ _ _ _ (c .before .before .before .before .before .counts .ensures) (c .before .before .compared .ensures)))))))
 
 pub recipients-spec : {M : Type 1} → statement M
 recipients-spec =

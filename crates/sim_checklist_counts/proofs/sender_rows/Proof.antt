@@ -1,19 +1,23 @@
-use native.Mathlib.Omega.{arith}
+use Rattle.sim_sheet.proofs.Laws.{table-none, table-more, table-end}
 use borrow.Author.Needs.{needs}
-use Prim.Native.Nat.{_≤_, _-_}
-use lib.ListN.{length}
+use native.Mathlib.Omega.{arith}
 use mathlib.Core.Path.{_≡_, refl}
+use lib.ListN.{length}
+use Prim.Native.Nat.{_-_, _≤_}
+use Rattle.sim_printer.specs.Printer.{page}
+use Rattle.sim_sheet.specs.Sheet.{Prints}
+use Rattle.sim_checklist_counts.specs.Counts.{senderRows}
 use Rattle.sim_checklist_counts.proofs.sender_rows.Statement.{statement}
 use Rattle.sim_checklist_counts.proofs.sender_rows.Tie as tie
 
 abbrev Inv-loop : tie.InvT-loop
-Inv-loop figures buf₀ used tills u₀ t₀ buf u t = (t ≤ tills) × (length buf ≡ length buf₀)
+Inv-loop figures buf₀ used tills u₀ t₀ buf u t = (t ≤ tills) × (length buf ≡ length buf₀) × Prints (senderRows figures t) (page buf₀ used) (page buf u)
 
 abbrev μ-loop : tie.MeasureT-loop
 μ-loop figures buf₀ used tills u₀ t₀ buf u t = tills - t
 
 loop-holds : tie.Need-loop-holds Inv-loop μ-loop
-loop-holds c = (omega arith, refl)
+loop-holds c = (omega arith, refl, table-none _ _)
 
 sender-row-requires : tie.Need-sender-row-requires Inv-loop μ-loop
 sender-row-requires c κs = search needs
@@ -25,13 +29,13 @@ loop-less : tie.Need-loop-less Inv-loop μ-loop
 loop-less c = search needs
 
 loop-again : tie.Need-loop-again Inv-loop μ-loop
-loop-again c = (omega arith, search needs)
+loop-again c = (omega arith, search needs, table-more _ _ _ _ _ (c .before .before .before .before .before .loop .inv .2) (c .before .before .sender-row .ensures))
 
 same-length : tie.Need-same-length Inv-loop μ-loop
 same-length c = search needs
 
 returns : tie.Need-returns Inv-loop μ-loop
-returns c = tt
+returns c = table-end _ _ _ _ _ (c .before .loop .inv .0) (c .loop-test .left) (c .before .loop .inv .2)
 
 pub sender-rows-spec : {M : Type 1} → statement M
 sender-rows-spec =

@@ -1,4 +1,8 @@
+use Rattle.sim_sheet.proofs.Laws.{onward, shown-four, shown-none, shown-table}
 use native.Mathlib.Omega.{arith}
+use mathlib.Core.Path.{ap}
+use Rattle.sim_comparison.specs.declared.Pair.{Pair}
+use Rattle.sim_checklist_counts.specs.Counts.{sendersPart}
 use borrow.Author.Needs.{needs}
 use Rattle.sim_checklist_counts.proofs.senders.Statement.{statement}
 use Rattle.sim_checklist_counts.proofs.senders.Tie as tie
@@ -91,7 +95,8 @@ same-length : tie.Need-same-length
 same-length c = omega (arith, c .before .before .verdict .kept .0, c .before .before .before .before .before .before .before .four2 .kept .0, c .before .before .before .before .before .before .before .before .before .before .before .before .before .before .before .say4 .kept .0, c .before .before .before .before .before .before .before .before .before .before .before .before .before .before .before .before .before .before .before .before .four .kept .0, c .before .before .before .before .before .before .before .before .before .before .before .before .before .before .before .before .before .before .before .before .before .before .before .before .before .before .before .before .say3 .kept .0, c .before .before .before .before .before .before .before .before .before .before .before .before .before .before .before .before .before .before .before .before .before .before .before .before .before .before .before .before .before .before .before .before .before .sender-rows .kept .1 .0, c .before .before .before .before .before .before .before .before .before .before .before .before .before .before .before .before .before .before .before .before .before .before .before .before .before .before .before .before .before .before .before .before .before .before .before .before .before .before .say2 .kept .0, c .before .before .before .before .before .before .before .before .before .before .before .before .before .before .before .before .before .before .before .before .before .before .before .before .before .before .before .before .before .before .before .before .before .before .before .before .before .before .before .before .before .before .before .say .kept .0)
 
 returns : tie.Need-returns
-returns c = search needs
+unfolding sendersPart
+returns c = onward _ _ _ _ _ (c .before .before .before .before .before .before .before .before .before .before .before .before .before .before .before .before .before .before .before .before .before .before .before .before .before .before .before .before .before .before .before .before .before .before .before .before .before .before .before .before .before .before .before .say .ensures) (onward _ _ _ _ _ (c .before .before .before .before .before .before .before .before .before .before .before .before .before .before .before .before .before .before .before .before .before .before .before .before .before .before .before .before .before .before .before .before .before .before .before .before .before .before .say2 .ensures) (onward _ _ _ _ _ (shown-table _ _ _ _ _ (c .before .before .before .before .before .before .before .before .before .before .before .before .before .before .before .before .before .before .before .before .before .before .before .before .before .before .before .before .before .before .before .before .before .before .tills .ensures) (c .before .before .before .before .before .before .before .before .before .before .before .before .before .before .before .before .before .before .before .before .before .before .before .before .before .before .before .before .before .before .before .before .before .sender-rows .ensures)) (onward _ _ _ _ _ (c .before .before .before .before .before .before .before .before .before .before .before .before .before .before .before .before .before .before .before .before .before .before .before .before .before .before .before .before .say3 .ensures) (onward _ _ _ _ _ (shown-four _ _ _ _ _ _ _ _ _ _ (c .before .before .before .before .before .before .before .before .before .before .before .before .before .before .before .before .before .before .before .before .before .before .before .before .column .ensures) (c .before .before .before .before .before .before .before .before .before .before .before .before .before .before .before .before .before .before .before .before .before .before .before .column2 .ensures) (c .before .before .before .before .before .before .before .before .before .before .before .before .before .before .before .before .before .before .before .before .before .before .column3 .ensures) (c .before .before .before .before .before .before .before .before .before .before .before .before .before .before .before .before .before .before .before .before .before .column4 .ensures) (c .before .before .before .before .before .before .before .before .before .before .before .before .before .before .before .before .before .before .before .before .four .ensures)) (onward _ _ _ _ _ (c .before .before .before .before .before .before .before .before .before .before .before .before .before .before .before .say4 .ensures) (onward _ _ _ _ _ (shown-four _ _ _ _ _ _ _ _ _ _ (c .before .before .before .before .before .before .before .before .before .before .get .ensures) (c .before .before .before .before .before .before .before .before .before .get2 .ensures) (c .before .before .before .before .before .before .before .before .get3 .ensures) (ap (λ (x : Pair). x .left) (c .before .before .before .before .before .before .before .before .before .before .before .before .flush-drops .ensures)) (c .before .before .before .before .before .before .before .four2 .ensures)) (shown-none _ _ _ _ (c .before .before .before .senders-differ .ensures) (c .before .before .verdict .ensures))))))))
 
 pub senders-spec : {M : Type 1} → statement M
 senders-spec =

@@ -1,0 +1,158 @@
+-- What is noted behind each line of a script. One table holds the figures of the run and, behind them, the copies that were due at the last flush.
+use mathlib.Core.Bool.{cond}
+use mathlib.Core.List.{List, []}
+use Prim.Native.Nat.{ℕ, zero, suc, _+_, _*_, _-_, _%_, _^_, min}
+use lib.Dec.{eqb, ltb}
+use lib.ListN.{getD, take}
+use Rattle.table_delivery.specs.Delivery as delivery
+use Rattle.table_waiting.specs.Waiting as waiting
+use Rattle.table_log.specs.Log.{sizeOf}
+use Rattle.spec_network.specs.Opening.{mostTills, mostClasses, mostSlots}
+use Rattle.spec_network.specs.Tables.{Tables, cell, sizesAt, sequenceAt, waitingAt}
+use Rattle.spec_network.specs.Writes.{callReply}
+use Rattle.call_log.specs.Call.{lend, talliedOf, tallyCall}
+use Rattle.call_log.specs.declared.Tallied.{Tallied}
+use Rattle.sim_figures.specs.Figures.{size}
+use Rattle.sim_figures.specs.Notes.{openedNote, downNote, upNote, acceptedNote, refusedNote, rowNote, dropNote, waitNote, flushedNote, talliedNote, standingNote}
+
+-- ---- The lines of a script that are noted, by number
+
+abbrev pub acceptLine : ℕ
+acceptLine = 2
+
+abbrev pub flushLine : ℕ
+flushLine = 3
+
+abbrev pub flushRowsLine : ℕ
+flushRowsLine = 4
+
+abbrev pub downLine : ℕ
+downLine = 5
+
+abbrev pub upLine : ℕ
+upLine = 6
+
+abbrev pub drainLine : ℕ
+drainLine = 17
+
+-- the last number of a question
+abbrev pub lastNumber : ℕ
+lastNumber = 14
+
+-- ---- The marks that stand, of all tills; the sum wraps at 2^64
+
+unfoldable pub totalOf : List ℕ → ℕ → ℕ
+totalOf seen zero = 0
+totalOf seen (suc t) = (totalOf seen t + cell seen t) % 2 ^ 64
+
+unfoldable pub marksIn : (setup seen : List ℕ) → ℕ
+marksIn setup seen = totalOf seen (min (sizesAt setup .tills) mostTills)
+
+-- ---- The log's tallies of every class, as `tally_of` answers them: what a drain takes away, and what stands at the end
+
+-- of the other tables nothing is read
+abbrev pub bare : Tables
+bare = record { setup = []; net = []; names = []; tills = []; words = []; keys = []; prices = []; seen = []; waiting = []; rings = []; rules = []; blocks = []; log = [] }
+
+unfoldable pub tallyIn : (setup log : List ℕ) → ℕ → Tallied
+tallyIn setup log class = talliedOf (callReply (lend bare setup log) (tallyCall class))
+
+unfoldable pub classTallied : List ℕ → (setup log : List ℕ) → ℕ → List ℕ
+classTallied l setup log class = talliedNote l class (tallyIn setup log class .deliveries) (tallyIn setup log class .bytes)
+
+-- the first n classes
+unfoldable pub talliesOf : List ℕ → (setup log : List ℕ) → ℕ → List ℕ
+talliesOf l setup log zero = l
+talliesOf l setup log (suc n) = classTallied (talliesOf l setup log n) setup log n
+
+-- the words of the log's table that the opening uses
+abbrev pub logWords : (setup : List ℕ) → ℕ
+logWords setup = sizeOf (min (sizesAt setup .logSlots) mostSlots)
+
+unfoldable pub talliesNote : List ℕ → (setup log : List ℕ) → List ℕ
+talliesNote l setup log = talliesOf l setup (take (logWords setup) log) mostClasses
+
+unfoldable pub beforeNote : List ℕ → (which : ℕ) → (setup log : List ℕ) → List ℕ
+beforeNote l which setup log = cond (eqb which drainLine) (talliesNote l setup log) l
+
+-- ---- A flush: a copy that was due landed where the next row has its sequence; else the flush dropped it
+
+-- where a copy has its sequence, how many words a row has
+abbrev pub sequenceOf : ℕ
+sequenceOf = delivery.width
+
+abbrev pub rowWidth : ℕ
+rowWidth = waiting.width + 2
+
+-- where the due copies stand, and where the last of them and the last of the rows end
+abbrev pub copiesAt : ℕ
+copiesAt = size
+
+abbrev pub copiesEnd : ℕ
+copiesEnd = copiesAt + mostSlots * waiting.width
+
+abbrev pub rowsEnd : ℕ
+rowsEnd = mostSlots * rowWidth
+
+-- the table, and where the next row starts
+pub record Noted : Type 0 where
+  pub held : List ℕ
+  pub row : ℕ
+
+abbrev pub noted : List ℕ → ℕ → Noted
+noted l row = record { held = l; row = row }
+
+unfoldable pub dueNote : Noted → (out : List ℕ) → (at : ℕ) → Noted
+dueNote p out at =
+    cond (eqb (getD (p .held) (at + sequenceOf) 0) (getD out (p .row + sequenceOf) 0))
+    (noted (rowNote (p .held) out (p .row)) (p .row + rowWidth))
+    (noted (dropNote (p .held) (p .held) at) (p .row))
+
+-- the first n copies that were due
+unfoldable pub dueNotes : List ℕ → (out : List ℕ) → ℕ → Noted
+dueNotes l out zero = noted l 0
+dueNotes l out (suc n) = dueNote (dueNotes l out n) out (copiesAt + n * waiting.width)
+
+-- the words of so many rows
+abbrev pub rowsWords : ℕ → ℕ
+rowsWords rows = min rows mostSlots * rowWidth
+
+-- the counts are the flush's rows, delivered and dropped copies, and how many were due
+unfoldable pub flushNote : List ℕ → (counts : List ℕ) → (gone : ℕ) → (out : List ℕ) → List ℕ
+flushNote l counts gone out =
+    flushedNote (dueNotes l (take (rowsWords (cell counts 0)) out) (min (cell counts 3) mostSlots) .held) (cell counts 0) (cell counts 1) (cell counts 2) gone
+
+-- ---- A line that no number refused, from its words and the call's counts; gone is how many marks went
+
+-- the words of an accept's line are its sender first, its scope and whether its payload opens behind; its counts are the five
+unfoldable pub acceptNote : List ℕ → (v counts : List ℕ) → (net : List ℕ) → List ℕ
+acceptNote l v counts net =
+    acceptedNote l (cell v 0) (cell v 4) (cell v 6) (cell counts 0) (cell counts 1) (cell counts 2) (cell counts 3) (cell counts 4) (cell net sequenceAt)
+
+unfoldable pub takenNote : List ℕ → (which : ℕ) → (v counts : List ℕ) → (gone : ℕ) → (net out : List ℕ) → List ℕ
+takenNote l which v counts gone net out =
+    cond (eqb which acceptLine) (acceptNote l v counts net)
+    (cond (eqb which flushLine) (flushNote l counts gone out)
+    (cond (eqb which flushRowsLine) (flushNote l counts gone out)
+    (cond (eqb which downLine) (downNote l (cell v 0) gone)
+    (cond (eqb which upLine) (upNote l (cell v 0) (cell v 1)) l))))
+
+-- ---- Behind a line: nothing where it is no call, its number where one refused it; so many marks stood before it
+
+unfoldable pub afterNote : List ℕ → (which : ℕ) → (v : List ℕ) → (number : ℕ) → (counts : List ℕ) → (stood : ℕ) → (setup net seen out : List ℕ) → List ℕ
+afterNote l which v number counts stood setup net seen out =
+    cond (ltb lastNumber number) l (cond (ltb 0 number) (refusedNote l number) (takenNote l which v counts (stood - marksIn setup seen) net out))
+
+unfoldable pub openingNote : List ℕ → (number tills : ℕ) → (masks : List ℕ) → (log : ℕ) → (net : List ℕ) → List ℕ
+openingNote l number tills masks log net =
+    cond (ltb lastNumber number) l (cond (ltb 0 number) (refusedNote l number) (openedNote l tills masks log (cell net sequenceAt)))
+
+-- ---- At the end: what waits, the tallies and the marks that stand
+
+unfoldable pub waitsOf : List ℕ → (waiting : List ℕ) → ℕ → List ℕ
+waitsOf l copies zero = l
+waitsOf l copies (suc n) = waitNote (waitsOf l copies n) copies (n * waiting.width)
+
+unfoldable pub endNote : List ℕ → (setup net seen waiting log : List ℕ) → List ℕ
+endNote l setup net seen copies log =
+    standingNote (talliesNote (waitsOf l copies (min (cell net waitingAt) mostSlots)) setup log) (marksIn setup seen)
