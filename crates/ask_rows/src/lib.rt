@@ -1,4 +1,4 @@
-// Question 1, of the tables whose rows are scanned: waiting, log, rings, names and prices. Definitions and the other tables are in `held`.
+// Question 1, of the tables whose rows are scanned: waiting, log, rings, names and prices. Definitions and the other tables are in `ask_tables`.
 ghost use mathlib.Core.Path.{_≡_};
 ghost use mathlib.Core.Bool.{true};
 ghost use Prim.Native.Nat.{_+_, _*_, _≤_, _<_};

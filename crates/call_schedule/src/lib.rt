@@ -1,4 +1,4 @@
-// What an offer writes: word counts, the fired count, the mark, the copies and the ring. The decision is `offer`'s.
+// What an offer writes: word counts, the fired count, the mark, the copies and the ring. The decision is `call_offer`'s.
 ghost use mathlib.Core.Path.{_≡_};
 ghost use Prim.Native.Nat.{_+_, _*_, _<_, _≤_};
 ghost use lib.ListN.{length};

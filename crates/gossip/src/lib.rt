@@ -1,4 +1,4 @@
-// The network as C functions: each call takes and writes the lent tables, and is proved equal to its definition in `network`.
+// The network as C functions: each call takes and writes the lent tables, and is proved equal to its definition in `spec_network`.
 mod accepting;
 mod engine;
 mod flushing;

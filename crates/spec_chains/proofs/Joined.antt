@@ -79,7 +79,7 @@ back a o l r n pool s k e p hs hk he =
 flat-two : (x y : List Copy) → flat waiting.words (x ++ y) ≡ flat waiting.words x ++ flat waiting.words y
 flat-two x y = flat-append waiting.width waiting.read waiting.words (λ c. true) (exact .long) (exact .back) x y
 
--- THE LAW: what `pooling::{grow, shrink}` write (`putBack`, on words) is `standNext`'s pool; r are the unused words
+-- THE LAW: what `call_pooling::{grow, shrink}` write (`putBack`, on words) is `standNext`'s pool; r are the unused words
 pub rows-back : (n i : ℕ) (f : ℕ → List Copy) (new : List Copy) (pool r : List ℕ) → i < n → pool ≡ flat waiting.words (joined n f) ++ r
     → take (length (joined i f) * waiting.width) pool
     ++ (flat waiting.words new ++ (take (length (joined n f) * waiting.width - (length (joined i f) * waiting.width + length (f i) * waiting.width)) (drop (length (joined i f) * waiting.width + length (f i) * waiting.width) pool)

@@ -1,7 +1,7 @@
 use Rattle.math_time.proofs.Limits.{in-limits}
 use Rattle.math_time.specs.Seconds.{second, millisecond}
 use Prim.Native.Nat.{_≤_, _*_, _^_}
--- `time::nanos` meets its contract: each need is a fact of `proofs/Pattern.antt`.
+-- `nanos` meets its contract: each need is a fact of `proofs/Pattern.antt`.
 use mathlib.Core.Path.{sym, subst, _∙_}
 use lib.Dec.{T}
 use lib.Ieee.{binary64, fits}

@@ -1,4 +1,4 @@
--- `time::rounded` meets its contract: each need is a fact of `proofs/Rounding.antt`.
+-- `rounded` meets its contract: each need is a fact of `proofs/Rounding.antt`.
 use native.Mathlib.Omega.{arith}
 use borrow.Author.Needs.{needs}
 use Rattle.math_time.proofs.Rounding as R
