@@ -12,7 +12,8 @@ use Rattle.spec_network.specs.Tables.{cell, sequenceAt, waitingAt}
 use Rattle.call_log.specs.Call.{DoesTally}
 use Rattle.call_log.specs.declared.Tallied.{Tallied}
 use Rattle.sim_figures.specs.Notes.{openedNote, downNote, upNote, acceptedNote, refusedNote, rowNote, dropNote, waitNote, flushedNote, talliedNote, standingNote}
-use Rattle.sim_notes.specs.Noted.{acceptLine, flushLine, flushRowsLine, downLine, upLine, drainLine, lastNumber, totalOf, marksIn, bare, tallyIn, classTallied, talliesOf, logWords, talliesNote}
+use Rattle.spec_network.specs.Lending.{noTables}
+use Rattle.sim_notes.specs.Noted.{acceptLine, flushLine, flushRowsLine, downLine, upLine, drainLine, lastNumber, totalOf, marksIn, tallyIn, classTallied, talliesOf, logWords, talliesNote}
 use Rattle.sim_notes.specs.Noted.{beforeNote, sequenceOf, rowWidth, copiesAt, Noted, noted, dueNote, dueNotes, rowsWords, flushNote, acceptNote, takenNote, afterNote, openingNote, waitsOf, endNote}
 
 -- ---- Marks
@@ -38,7 +39,7 @@ total-end setup seen total t n k a b ek en e =
 
 pub class-noted : (d d' setup log : List ℕ) (k : ℕ) (r : Tallied) → DoesTally setup log k r → d' ≡ talliedNote d k (r .deliveries) (r .bytes) → d' ≡ classTallied d setup log k
 unfolding DoesTally classTallied tallyIn
-class-noted d d' setup log k r does e = e ∙ ap (λ (t : Tallied). talliedNote d k (t .deliveries) (t .bytes)) (does bare .0)
+class-noted d d' setup log k r does e = e ∙ ap (λ (t : Tallied). talliedNote d k (t .deliveries) (t .bytes)) (does noTables .0)
 
 pub tallies-none : (d setup log : List ℕ) → d ≡ talliesOf d setup log 0
 unfolding talliesOf

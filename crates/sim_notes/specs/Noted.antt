@@ -8,9 +8,10 @@ use Rattle.table_delivery.specs.Delivery as delivery
 use Rattle.table_waiting.specs.Waiting as waiting
 use Rattle.table_log.specs.Log.{sizeOf}
 use Rattle.spec_network.specs.Opening.{mostTills, mostClasses, mostSlots}
-use Rattle.spec_network.specs.Tables.{Tables, cell, sizesAt, sequenceAt, waitingAt}
+use Rattle.spec_network.specs.Tables.{cell, sizesAt, sequenceAt, waitingAt}
 use Rattle.spec_network.specs.Writes.{callReply}
-use Rattle.call_log.specs.Call.{lend, talliedOf, tallyCall}
+use Rattle.spec_network.specs.Lending.{lendLog, noTables}
+use Rattle.call_log.specs.Call.{talliedOf, tallyCall}
 use Rattle.call_log.specs.declared.Tallied.{Tallied}
 use Rattle.sim_figures.specs.Figures.{size}
 use Rattle.sim_figures.specs.Notes.{openedNote, downNote, upNote, acceptedNote, refusedNote, rowNote, dropNote, waitNote, flushedNote, talliedNote, standingNote}
@@ -51,11 +52,8 @@ marksIn setup seen = totalOf seen (min (sizesAt setup .tills) mostTills)
 -- ---- The log's tallies of every class, as `tally_of` answers them: what a drain takes away, and what stands at the end
 
 -- of the other tables nothing is read
-abbrev pub bare : Tables
-bare = record { setup = []; net = []; names = []; tills = []; words = []; keys = []; prices = []; seen = []; waiting = []; rings = []; rules = []; blocks = []; log = [] }
-
 unfoldable pub tallyIn : (setup log : List ℕ) → ℕ → Tallied
-tallyIn setup log class = talliedOf (callReply (lend bare setup log) (tallyCall class))
+tallyIn setup log class = talliedOf (callReply (lendLog noTables setup log) (tallyCall class))
 
 unfoldable pub classTallied : List ℕ → (setup log : List ℕ) → ℕ → List ℕ
 classTallied l setup log class = talliedNote l class (tallyIn setup log class .deliveries) (tallyIn setup log class .bytes)
