@@ -7,7 +7,6 @@ use mathlib.Core.List.{List}
 use lib.Dec.{eqb}
 use lib.ListN.{length}
 use borrow.Author.Tests.{eq-eqb, ne-eqb}
-use Rattle.spec_network.specs.Accept as accept
 use Rattle.spec_network.specs.Accept.{Entry, messageOf, Counts, noCounts, booked, tally}
 use Rattle.spec_network.specs.Calls.{Call, accept}
 use Rattle.spec_network.specs.Tables.{Tables, live, sizesAt}

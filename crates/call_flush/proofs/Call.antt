@@ -20,7 +20,7 @@ use Rattle.spec_network.specs.Lists.{count}
 use Rattle.spec_network.specs.Opening.{latestNow}
 use Rattle.spec_network.specs.Live.{Live}
 use Rattle.spec_network.specs.Flush.{stops, rowOf, lands, rowsOf, dropsOf, handled, served}
-use Rattle.spec_network.specs.Calls.{flush, movedBy}
+use Rattle.spec_network.specs.Calls.{movedBy}
 use Rattle.spec_network.specs.Tables.{Tables, cell, live, sizesAt, setupWidth, netWidth, waitingAt, blocksAt}
 use Rattle.spec_network.specs.Lending.{lendFlush}
 use Rattle.spec_network.specs.Writes.{Reply, rowWidth, rowWords, outputOf, callReply}

@@ -7,7 +7,7 @@ use native.Mathlib.Omega.{arith}
 use lib.Ieee.Bits.{cond-no}
 use lib.Dec.{T, eqb, eqb→eq, ltb, ltb→lt, lit≤, nltb→le}
 use lib.Pow.{pow-add, pow-pos, pow-mono, pow-lt}
-use lib.Ieee.{Float, nan, inf, fin, binary64, up, down, size, nearest, round, sum, add, mul, div, neg, units}
+use lib.Ieee.{Float, nan, inf, fin, binary64, up, down, size, nearest, round, sum, add, mul, div, neg}
 use lib.Ieee.Digits.{size-le}
 use lib.Ieee.Fits.{up-pos, down-pos, round-is}
 use lib.Ieee.Exact.{HasValue, units-val}

@@ -1,12 +1,11 @@
 -- laws of the whole range, over the width W, and of how a draw moves a cursor
-use Prim.Native.Nat.{ℕ, zero, suc, _+_, _-_, _*_, _/_, _%_, _^_, _<_, _≤_}
-use mathlib.Core.Path.{_≡_, refl, ap, ap₂, sym, _∙_, subst}
+use Prim.Native.Nat.{ℕ, suc, _+_, _-_, _*_, _/_, _%_, _^_, _<_, _≤_}
+use mathlib.Core.Path.{_≡_, ap, ap₂, sym, _∙_, subst}
 use mathlib.Core.Bool.{Bool, true, false}
 use mathlib.Core.List.{List}
 use native.Mathlib.Omega.{arith}
 use native.Mathlib.Nat.{mul-comm, mul-le-mul, suc-mul, mul-le-mul-right, mul-lt-mul-of-pos-right, div-lt-iff-lt-mul, div-add-mod', lt-of-mul-lt-mul-right}
 use borrow.Author.Tests.{le-ltb, lt-ltb, le-leb, lt-leb}
-use lib.Pow.{pow-pos}
 use Rattle.rand_chacha.specs.Chacha.{wordAt}
 use Rattle.rand_streams.specs.declared.Cursor.{Cursor}
 use Rattle.rand_streams.specs.Streams.{Moved, wordPair}

@@ -11,7 +11,7 @@ use lib.Pow.{pow-pos}
 use Rattle.math_word.specs.Word.{add32}
 use Rattle.rand_chacha.specs.Chacha.{sums, doubleRounds, initial, blockOf, wordAt}
 use Rattle.rand_streams.specs.Streams.{wordPair}
-use Rattle.rand_draw.specs.Draw.{choose, again, carries, wholeOf, whole64At, whole32At}
+use Rattle.rand_draw.specs.Draw.{choose, again, carries, wholeOf, whole64At}
 use Rattle.rand_draw.proofs.Laws.{high-below, high-room}
 
 add-small : (x y : ℕ) → add32 x y < 2 ^ 32

@@ -1,12 +1,12 @@
 -- laws of a cursor, for each function
 use Prim.Native.Nat.{ℕ, _+_, _*_, _/_, _%_, _^_, _<_, _≤_}
-use mathlib.Core.Path.{_≡_, refl, ap, ap₂, sym, _∙_}
+use mathlib.Core.Path.{_≡_, ap, ap₂, sym, _∙_}
 use mathlib.Core.List.{List}
 use lib.ListN.{getD}
 use native.Mathlib.Omega.{arith}
 use Rattle.rand_chacha.specs.Chacha.{wordAt, blockOf}
 use Rattle.rand_streams.specs.declared.Cursor.{Cursor}
-use Rattle.rand_streams.specs.Streams.{Holds, Moved, keepsBlock, wordPair, stepOf, pick}
+use Rattle.rand_streams.specs.Streams.{Holds, Moved, keepsBlock, wordPair, stepOf}
 use Rattle.rand_streams.specs.declared.Step.{Step}
 use borrow.Author.Tests.{lt-ltb, le-ltb}
 

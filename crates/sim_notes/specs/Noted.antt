@@ -1,6 +1,6 @@
 -- What is noted behind each line of a script. One table holds the figures of the run and, behind them, the copies that were due at the last flush.
 use mathlib.Core.Bool.{cond}
-use mathlib.Core.List.{List, []}
+use mathlib.Core.List.{List}
 use Prim.Native.Nat.{ℕ, zero, suc, _+_, _*_, _-_, _%_, _^_, min}
 use lib.Dec.{eqb, ltb}
 use lib.ListN.{getD, take}

@@ -29,7 +29,7 @@ use Rattle.fault_blocks.specs.declared.BlockWindow.{BlockWindow}
 use Rattle.spec_network.specs.Opening.{Sizes, Opening, link, global, lastNumber, latestNow, longestWire, mostWords}
 use Rattle.spec_network.specs.Lists.{within, below}
 use Rattle.spec_network.specs.Live.{Till, downTill, upTill, Live, isOriginal, idsAt, marked, stopped, tillAt}
-use Rattle.spec_network.specs.Accept.{Message, messageOf, receives, selected, Drawn, drawn, context, copies, Class, deduplicated, partition, loss, fault, sent, classOf, effect, offered}
+use Rattle.spec_network.specs.Accept.{Message, messageOf, receives, selected, Drawn, drawn, context, Class, deduplicated, partition, loss, fault, sent, classOf, effect, offered}
 use Rattle.spec_network.specs.Flush.{served, later, stops, lands}
 use Rattle.spec_network.specs.Calls.{Call, withHandlers, accept, flush, takeDown, bringUp, handlers, block, blockDuring, unblock, install, remove, decide, drain, reading}
 use Rattle.spec_network.specs.Questions.{Room, askedIn, asked, firstNo}

@@ -4,10 +4,10 @@ use Prim.Native.Nat.{ℕ, zero, suc, _+_, _*_, _^_, _≤_, _<_}
 use native.Mathlib.Omega.{arith}
 use native.Mathlib.Nat.{mod-lt}
 use mathlib.Core.Bool.{Bool, true, false, cond, not, _&&_}
-use mathlib.Core.List.{List, [], _∷_, _++_}
+use mathlib.Core.List.{List, [], _∷_}
 use lib.Dec.{leb, ltb}
 use lib.Pow.{pow-pos}
-use lib.ListN.{length, getD, set, take, drop}
+use lib.ListN.{length, getD, set, drop}
 use lib.Seq.{getD-set-other}
 use borrow.Author.Tests.{ltb-true, leb-true}
 use Rattle.table_shift.specs.Shift.{putWords}
@@ -20,7 +20,7 @@ use Rattle.table_waiting.specs.Waiting.{insertCopy}
 use Rattle.table_waiting.specs.declared.Copy.{Copy}
 use Rattle.table_waiting.proofs.Order.{length-insert, each-insert}
 use Rattle.table_marks.proofs.Ordered.{each-placed, each-removed, length-placed}
-use Rattle.table_marks.specs.Marks.{idsOf, placed, removed, position, found}
+use Rattle.table_marks.specs.Marks.{idsOf, placed, removed}
 use Rattle.table_rings.specs.Rings as rings
 use Rattle.fault_rules.specs.Rules.{ruleWidth, firedWord, fireTable}
 use Rattle.fault_decide.specs.Decide.{Decision}
@@ -30,7 +30,7 @@ use Rattle.spec_network.specs.Accept.{Message, Echoed, Timed, Echoes, Drawn, dr
 use Rattle.spec_network.specs.Tables.{cell, Tables, live, idsStart, sequenceAt, waitingAt, faultWordsAt}
 use Rattle.spec_network.specs.Writes.{setNet, setTills, setWords, setSeen, setWaiting, setRings, setRules, setBlocks, setLog, netT, wordsT, marksT, waitingT, ruledT, pushT, rememberT, effectT}
 use Rattle.spec_book.specs.Cells.{Fit, CellsFit}
-use Rattle.spec_book.proofs.Each.{both, each-set, each-at, each-append, each-upTo}
+use Rattle.spec_book.proofs.Each.{both, each-set, each-at, each-upTo}
 use Rattle.spec_book.proofs.Echoing.{drawn-each, drawn-few, echoed-few}
 use Rattle.spec_book.proofs.Fitting.{Limited, Fits, NearMessage, NearRing, few-copies}
 use Rattle.spec_book.proofs.Fit.{each-take, cell-fits, fit-put, rows-fit, fit-over, fit-pushed}

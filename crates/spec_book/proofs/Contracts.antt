@@ -1,13 +1,10 @@
 -- From the contracts to demand 3: whatever calls met their contracts one after the other, demand 3 holds of them.
 use mathlib.Core.Path.{_≡_, refl, sym, ap, _∙_, subst}
-use Prim.Native.Nat.{ℕ}
 use mathlib.Core.List.{List, [], _∷_, map}
-use Rattle.spec_network.specs.Opening.{Settings}
 use Rattle.spec_network.specs.Calls.{silent}
-use Rattle.spec_network.specs.Questions.{alone}
 use Rattle.spec_network.specs.Tables.{Tables}
 use Rattle.spec_network.specs.Real.{openingAt}
-use Rattle.spec_network.specs.Open.{openNumber, openTables, openExit}
+use Rattle.spec_network.specs.Open.{openTables, openExit}
 use Rattle.spec_network.specs.Writes.{Reply, callTables, callReply, callOutput}
 use Rattle.spec_book.specs.Demand3.{AllAdmitted, repliesTo, tablesAtEnd}
 use Rattle.spec_book.specs.Contracts.{Called, Opened, MeetsOpening, Done, here, elsewhere, refusedOpening, Follow, itemOf, replyOf, lastTables, OutputsAre, Tied}

@@ -22,7 +22,7 @@ use Rattle.spec_network.specs.Lists.{bit, count, below}
 use Rattle.spec_network.specs.Opening.{Opening}
 use Rattle.spec_network.specs.Layout.{Layout, plain, Marks, inserted}
 use Rattle.spec_network.specs.Live.{LiveBy, isOriginal, marked, idsAt, stopped}
-use Rattle.spec_network.specs.Accept.{Message, messageOf, selected, Drawn, drawn, original, Class, deduplicated, partition, loss, fault, sent, firstFit, classOf, copies, effect, offered, liveAfter, insertAll}
+use Rattle.spec_network.specs.Accept.{Message, messageOf, selected, Drawn, drawn, Class, deduplicated, partition, loss, fault, sent, firstFit, classOf, copies, effect, offered, liveAfter, insertAll}
 use Rattle.spec_network.specs.Flush.{served, stops, unmark, clearing}
 use Rattle.spec_network.specs.Calls.{Call, liveStep, accept, flush, takeDown, bringUp, handlers, block, blockDuring, unblock, install, remove, decide, drain, reading}
 use Rattle.spec_book.specs.Book.{Book, Event, scheduledIn, landedIn, droppedIn, eventsOf, offerEvents, eventsAfter, happened, opened, bookStep}

@@ -1,7 +1,7 @@
 -- Document 02, M-113, and document 01, 'The book': DEMAND 3 for each chain of a bench over its own list of calls, with 23 answered from all the chains' books; what the others cannot do to a chain inside its share.
 use mathlib.Core.Path.{_≡_}
 use Prim.Native.Nat.{ℕ, _+_, _*_, _≤_, _<_}
-use mathlib.Core.Bool.{true, false, cond}
+use mathlib.Core.Bool.{cond}
 use mathlib.Core.List.{List, [], _∷_}
 use lib.Dec.{eqb}
 use lib.ListN.{length}

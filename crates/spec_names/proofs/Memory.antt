@@ -5,7 +5,6 @@ use native.Mathlib.Omega.{arith}
 use native.Mathlib.Nat.{le-trans, mul-le-mul-left, mul-le-mul-right}
 use mathlib.Core.List.{List, [], _∷_, _++_, append-assoc}
 use lib.ListN.{length, take, drop, length-append, take-append-drop}
-use Rattle.table_rings.specs.Rings as rings
 use Rattle.table_log.specs.Log as log
 use Rattle.spec_network.specs.Opening.{Sizes, links}
 use Rattle.spec_network.specs.Tables.{Tables, netWidth}

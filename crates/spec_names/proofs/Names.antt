@@ -15,7 +15,7 @@ use Rattle.spec_network.specs.Lists.{every}
 use Rattle.spec_network.specs.Opening.{Sizes, Settings, Opening}
 use Rattle.spec_network.specs.Live.{Live}
 use Rattle.spec_network.specs.Accept.{Entry}
-use Rattle.spec_network.specs.Calls.{Call, accept, flush}
+use Rattle.spec_network.specs.Calls.{accept, flush}
 use Rattle.spec_network.specs.Questions.{firstNo}
 use Rattle.spec_network.specs.Tables.{cell, Tables, sizesAt}
 use Rattle.spec_network.specs.Real.{openingOf}
@@ -23,7 +23,7 @@ use Rattle.spec_network.specs.Lent.{everyOf, setupTests, lentTests}
 use Rattle.spec_network.specs.Writes.{isNumber}
 use Rattle.spec_network.specs.Open.{openNumber, openTables}
 use Rattle.spec_book.specs.Book.{Book, opened}
-use Rattle.spec_book.specs.Demand3.{Item, own, others, reopen, Admitted, AllAdmitted, tablesAfter, tablesAtEnd, bookAfter, bookAtEnd, CallHolds, CallsHold}
+use Rattle.spec_book.specs.Demand3.{Item, Admitted, AllAdmitted, tablesAfter, tablesAtEnd, bookAfter, bookAtEnd, CallHolds, CallsHold}
 use Rattle.spec_book.proofs.Each.{both, join, each-all, each-every, all-each, each-set}
 use Rattle.spec_book.proofs.Formed.{fourOf}
 use Rattle.spec_book.proofs.Unwritten.{same-end}

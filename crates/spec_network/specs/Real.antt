@@ -18,7 +18,7 @@ use Rattle.fault_decide.specs.Decide.{decideOf}
 use Rattle.table_rows.specs.Lists.{upTo}
 use Rattle.spec_network.specs.Opening.{Plan, Settings, Draw, Draws, Opening, global}
 use Rattle.spec_network.specs.Limits.{rateOf}
-use Rattle.spec_network.specs.Tables.{Tables, cell, keyCells, sizesAt, settingsAt, nameAt, shardAt, textAt}
+use Rattle.spec_network.specs.Tables.{Tables, cell, keyCells, settingsAt, nameAt, shardAt, textAt}
 
 -- ---- A link's key and cost, as the book has them
 

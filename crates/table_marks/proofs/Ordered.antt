@@ -1,18 +1,18 @@
 -- Ordered ids: each answer is membership, one id more or less, and the ids are kept again. Assumes nothing.
 use mathlib.Core.Path.{_≡_, refl, sym, ap, ap₂, _∙_, subst}
-use mathlib.Core.List.{List, [], _∷_, _++_, append-nil}
+use mathlib.Core.List.{List, [], _∷_, _++_}
 use mathlib.Core.Bool.{Bool, true, false, cond, not, _&&_, _||_, true≢false, false≢true}
 use Prim.Native.Nat.{ℕ, zero, suc, _+_, _-_, _%_, _≤_, _<_}
 use native.Mathlib.Omega.{arith}
 use lib.Dec.{ltb, eqb}
 use lib.ListN.{length, take, drop, length-append, length-drop, take-append-drop}
 use lib.Seq.{length-take-le, take-at, drop-at}
-use borrow.Author.Tests.{ltb-true, ltb-false, eqb-true, eqb-false, eq-eqb, ne-eqb}
-use Rattle.table_rows.specs.Rows.{keep, pick}
+use borrow.Author.Tests.{ltb-true, ltb-false, eqb-true, eqb-false, ne-eqb}
+use Rattle.table_rows.specs.Rows.{pick}
 use Rattle.table_rows.specs.Lists.{Each, front, behind}
 use Rattle.table_rows.proofs.Lists.{each-map, each-drop}
-use Rattle.table_marks.specs.Marks.{position, foundIn, placedIn, removedIn, merged, refilled, newest, older, oldOf, newOf, found, grown, listed, placed, removed, Rises, member, Ordered}
-use Rattle.table_marks.proofs.Rising.{place, without, each-place, each-keep, found-member-in, placed-place, removed-without, rises-placed-in, rises-removed-in, length-placed-in, length-removed-in, length-found-in}
+use Rattle.table_marks.specs.Marks.{position, foundIn, placedIn, removedIn, merged, refilled, newest, older, oldOf, newOf, found, listed, placed, removed, Rises, member, Ordered}
+use Rattle.table_marks.proofs.Rising.{place, without, found-member-in, placed-place, removed-without, rises-placed-in, rises-removed-in, length-placed-in, length-removed-in, length-found-in}
 use Rattle.table_marks.proofs.Parts.{both-parts, length-merged}
 use Rattle.table_marks.proofs.Both.{length-refilled}
 

@@ -1,16 +1,16 @@
 -- The newer ids among the older ones, merged in place, one by one. Assumes nothing.
 use mathlib.Core.Path.{_≡_, refl, sym, ap, ap₂, _∙_}
 use mathlib.Core.List.{List, [], _∷_, _++_}
-use mathlib.Core.Bool.{Bool, true, false, cond, _&&_, true≢false, false≢true}
+use mathlib.Core.Bool.{Bool, true, false, cond, _&&_, false≢true}
 use Prim.Native.Nat.{ℕ, suc, _+_, _-_, _≤_, _<_}
 use native.Mathlib.Omega.{arith}
 use lib.Dec.{ltb}
 use lib.ListN.{length, getD, take, drop, set, length-append, length-drop, length-set, take-append-drop, drop-of-length-le, List·getD-append}
 use lib.Seq.{append-snoc, drop-cons, drop-append-le, drop-at, drop-drop, drop-set-lt, getD-drop, getD-take, length-take-le, take-at, take-suc-set}
-use borrow.Author.Tests.{ltb-true, ltb-false, lt-ltb, le-ltb}
+use borrow.Author.Tests.{ltb-true, ltb-false}
 use Rattle.table_rows.specs.Lists.{front, behind}
-use Rattle.table_shift.specs.Shift.{opened, putWords}
-use Rattle.table_marks.specs.Marks.{idsOf, merged}
+use Rattle.table_shift.specs.Shift.{opened}
+use Rattle.table_marks.specs.Marks.{merged}
 
 -- the two parts of a list make it up
 pub both-parts : (q : ℕ → Bool) (l : List ℕ) → front q l ++ behind q l ≡ l

@@ -7,7 +7,7 @@ use native.Mathlib.Nat.{add-mul, mul-le-mul-right}
 use native.Mathlib.Omega.{arith}
 use lib.ListN.{length, take, drop, set, length-set, length-drop, take-append-drop}
 use lib.Seq.{drop-drop, length-take-le, take-set-le, take-set-lt, drop-set-lt, drop-set-add}
-use Rattle.table_rows.specs.Rows.{rows, kept}
+use Rattle.table_rows.specs.Rows.{rows}
 use Rattle.table_rows.proofs.Rows.{rows-put}
 
 -- a store at word j of the S words from b

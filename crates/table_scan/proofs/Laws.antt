@@ -27,7 +27,7 @@ use Rattle.table_rings.proofs.Laws.{get-oldest}
 use Rattle.table_log.specs.Log.{recordsAt, recordsOf, soundLog, SoundLog}
 use Rattle.table_log.proofs.Writing.{sound-log}
 use Rattle.table_scan.specs.declared.Limits.{Limits}
-use Rattle.table_scan.specs.Scan.{near, nearEntry, copiesNear, logNear, ringNear, ringsNear, column, columnWithin}
+use Rattle.table_scan.specs.Scan.{near, nearEntry, copiesNear, logNear, ringNear, ringsNear, column}
 
 -- the ways out of `is_near`
 module _ (l : Limits) (d : Delivery) where

@@ -3,9 +3,6 @@ use Rattle.call_keeping.proofs.Laws.{fetched}
 use borrow.Author.Needs.{needs}
 use Rattle.call_keeping.proofs.fetch.Statement.{statement}
 use Rattle.call_keeping.proofs.fetch.Tie as tie
-use Rattle.call_keeping.proofs.fetch.Reads as reads
-use Rattle.call_keeping.proofs.fetch.Lts as lts
-use Rattle.ask_tables.proofs.copy_front.Reads as copy-front-reads
 
 -- src/lib.rt:23:5
 copy-front-requires : tie.Need-copy-front-requires

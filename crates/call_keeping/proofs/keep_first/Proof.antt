@@ -4,9 +4,6 @@ use native.Mathlib.Omega.{arith}
 use borrow.Author.Needs.{needs}
 use Rattle.call_keeping.proofs.keep_first.Statement.{statement}
 use Rattle.call_keeping.proofs.keep_first.Tie as tie
-use Rattle.call_keeping.proofs.keep_first.Reads as reads
-use Rattle.call_keeping.proofs.keep_first.Lts as lts
-use Rattle.call_keeping.proofs.store.Reads as store-reads
 
 -- src/lib.rt:39:5
 store-requires : tie.Need-store-requires

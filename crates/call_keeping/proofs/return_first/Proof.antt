@@ -2,9 +2,6 @@ use native.Mathlib.Omega.{arith}
 use borrow.Author.Needs.{needs}
 use Rattle.call_keeping.proofs.return_first.Statement.{statement}
 use Rattle.call_keeping.proofs.return_first.Tie as tie
-use Rattle.call_keeping.proofs.return_first.Reads as reads
-use Rattle.call_keeping.proofs.return_first.Lts as lts
-use Rattle.call_keeping.proofs.fetch.Reads as fetch-reads
 
 -- src/lib.rt:68:13
 add-b : tie.Need-add-b

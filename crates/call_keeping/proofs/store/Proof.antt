@@ -3,9 +3,6 @@ use Rattle.call_keeping.proofs.Laws.{part-stored}
 use borrow.Author.Needs.{needs}
 use Rattle.call_keeping.proofs.store.Statement.{statement}
 use Rattle.call_keeping.proofs.store.Tie as tie
-use Rattle.call_keeping.proofs.store.Reads as reads
-use Rattle.call_keeping.proofs.store.Lts as lts
-use Rattle.ask_tables.proofs.copy_front.Reads as copy-front-reads
 
 -- src/lib.rt:14:35
 mul-copy-front : tie.Need-mul-copy-front

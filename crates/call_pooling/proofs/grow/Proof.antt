@@ -3,10 +3,6 @@ use Rattle.call_pooling.proofs.Laws.{grown}
 use borrow.Author.Needs.{needs}
 use Rattle.call_pooling.proofs.grow.Statement.{statement}
 use Rattle.call_pooling.proofs.grow.Tie as tie
-use Rattle.call_pooling.proofs.grow.Reads as reads
-use Rattle.call_pooling.proofs.grow.Lts as lts
-use Rattle.call_keeping.proofs.store.Reads as store-reads
-use Rattle.table_shift.proofs.move_up.Reads as move-up-reads
 
 -- src/lib.rt:12:14
 sub-by : tie.Need-sub-by

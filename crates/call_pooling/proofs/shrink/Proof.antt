@@ -3,10 +3,6 @@ use Rattle.call_pooling.proofs.Laws.{shrunk}
 use borrow.Author.Needs.{needs}
 use Rattle.call_pooling.proofs.shrink.Statement.{statement}
 use Rattle.call_pooling.proofs.shrink.Tie as tie
-use Rattle.call_pooling.proofs.shrink.Reads as reads
-use Rattle.call_pooling.proofs.shrink.Lts as lts
-use Rattle.call_keeping.proofs.store.Reads as store-reads
-use Rattle.table_shift.proofs.move_down.Reads as move-down-reads
 
 -- src/lib.rt:22:14
 sub-by : tie.Need-sub-by

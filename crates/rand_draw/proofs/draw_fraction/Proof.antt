@@ -2,10 +2,6 @@ use Rattle.rand_draw.proofs.Real.{fraction-at}
 use borrow.Author.Needs.{needs}
 use Rattle.rand_draw.proofs.draw_fraction.Statement.{statement}
 use Rattle.rand_draw.proofs.draw_fraction.Tie as tie
-use Rattle.rand_draw.proofs.draw_fraction.Reads as reads
-use Rattle.rand_draw.proofs.draw_fraction.Lts as lts
-use Rattle.rand_draw.proofs.fraction.Reads as fraction-reads
-use Rattle.rand_streams.proofs.draw64.Reads as draw64-reads
 
 -- src/lib.rt:39:9
 draw64-requires : tie.Need-draw64-requires

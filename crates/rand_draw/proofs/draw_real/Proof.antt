@@ -2,10 +2,6 @@ use Rattle.rand_draw.proofs.Real.{real-at}
 use borrow.Author.Needs.{needs}
 use Rattle.rand_draw.proofs.draw_real.Statement.{statement}
 use Rattle.rand_draw.proofs.draw_real.Tie as tie
-use Rattle.rand_draw.proofs.draw_real.Reads as reads
-use Rattle.rand_draw.proofs.draw_real.Lts as lts
-use Rattle.rand_draw.proofs.real_of.Reads as real-of-reads
-use Rattle.rand_streams.proofs.draw64.Reads as draw64-reads
 
 -- src/lib.rt:57:9
 draw64-requires : tie.Need-draw64-requires

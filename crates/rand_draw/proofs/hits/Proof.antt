@@ -3,9 +3,6 @@ use Rattle.rand_draw.proofs.Real.{drawn, undrawn}
 use borrow.Author.Needs.{needs}
 use Rattle.rand_draw.proofs.hits.Statement.{statement}
 use Rattle.rand_draw.proofs.hits.Tie as tie
-use Rattle.rand_draw.proofs.hits.Reads as reads
-use Rattle.rand_draw.proofs.hits.Lts as lts
-use Rattle.rand_draw.proofs.draw_fraction.Reads as draw-fraction-reads
 
 -- src/lib.rt:69:13
 draw-fraction-requires : tie.Need-draw-fraction-requires

@@ -4,9 +4,6 @@ use Rattle.rand_draw.proofs.Laws.{moved-most, sum-below}
 use borrow.Author.Needs.{needs}
 use Rattle.rand_draw.proofs.range64.Statement.{statement}
 use Rattle.rand_draw.proofs.range64.Tie as tie
-use Rattle.rand_draw.proofs.range64.Reads as reads
-use Rattle.rand_draw.proofs.range64.Lts as lts
-use Rattle.rand_draw.proofs.whole64.Reads as whole64-reads
 
 -- src/lib.rt:142:9
 whole64-requires : tie.Need-whole64-requires

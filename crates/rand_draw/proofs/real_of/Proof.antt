@@ -6,8 +6,6 @@ use lib.Ieee.{ofBits, inFloat}
 use Rattle.rand_draw.specs.Real.{realOf}
 use Rattle.rand_draw.proofs.real_of.Statement.{statement}
 use Rattle.rand_draw.proofs.real_of.Tie as tie
-use Rattle.rand_draw.proofs.real_of.Reads as reads
-use Rattle.rand_draw.proofs.real_of.Lts as lts
 
 -- src/lib.rt:49:6
 int-to-float-result : tie.Need-int-to-float-result

@@ -3,9 +3,6 @@ use Rattle.rand_draw.proofs.Laws.{settled, kept, carried, answer32, wor
 use borrow.Author.Needs.{needs}
 use Rattle.rand_draw.proofs.whole32.Statement.{statement}
 use Rattle.rand_draw.proofs.whole32.Tie as tie
-use Rattle.rand_draw.proofs.whole32.Reads as reads
-use Rattle.rand_draw.proofs.whole32.Lts as lts
-use Rattle.rand_streams.proofs.draw32.Reads as draw32-reads
 
 -- src/lib.rt:37:9
 draw32-requires : tie.Need-draw32-requires

@@ -1,15 +1,9 @@
 use Rattle.rand_draw.proofs.Laws.{test-settled, test-again, test-kept, test-carried, below-le, less-one, room}
 use mathlib.Core.Path.{refl}
-use Prim.Native.Nat.{_+_, _*_}
-use native.Mathlib.Omega.{arith}
-use Rattle.rand_draw.proofs.Laws.{settled, kept, carried, answer64, pair-on, moved-on, high-room}
+use Rattle.rand_draw.proofs.Laws.{settled, kept, carried, answer64, pair-on, moved-on}
 use borrow.Author.Needs.{needs}
 use Rattle.rand_draw.proofs.whole64.Statement.{statement}
 use Rattle.rand_draw.proofs.whole64.Tie as tie
-use Rattle.rand_draw.proofs.whole64.Reads as reads
-use Rattle.rand_draw.proofs.whole64.Lts as lts
-use Rattle.math_word.proofs.product.Reads as product-reads
-use Rattle.rand_streams.proofs.draw64.Reads as draw64-reads
 
 -- src/lib.rt:14:9
 draw64-requires : tie.Need-draw64-requires

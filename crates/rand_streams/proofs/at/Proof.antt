@@ -2,8 +2,6 @@ use mathlib.Core.Path.{refl}
 use Rattle.rand_streams.proofs.Laws.{holds-none}
 use Rattle.rand_streams.proofs.at.Statement.{statement}
 use Rattle.rand_streams.proofs.at.Tie as tie
-use Rattle.rand_streams.proofs.at.Reads as reads
-use Rattle.rand_streams.proofs.at.Lts as lts
 
 -- src/lib.rt:29:1
 returns : tie.Need-returns

@@ -2,9 +2,6 @@ use Rattle.rand_streams.proofs.Laws.{pair, moved-twice}
 use borrow.Author.Needs.{needs}
 use Rattle.rand_streams.proofs.draw_twice.Statement.{statement}
 use Rattle.rand_streams.proofs.draw_twice.Tie as tie
-use Rattle.rand_streams.proofs.draw_twice.Reads as reads
-use Rattle.rand_streams.proofs.draw_twice.Lts as lts
-use Rattle.rand_streams.proofs.draw32.Reads as draw32-reads
 
 -- src/lib.rt:92:9
 draw32-requires : tie.Need-draw32-requires

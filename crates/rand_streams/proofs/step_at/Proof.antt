@@ -2,10 +2,6 @@ use Rattle.rand_streams.proofs.Laws.{stepped, stands}
 use borrow.Author.Needs.{needs}
 use Rattle.rand_streams.proofs.step_at.Statement.{statement}
 use Rattle.rand_streams.proofs.step_at.Tie as tie
-use Rattle.rand_streams.proofs.step_at.Reads as reads
-use Rattle.rand_streams.proofs.step_at.Lts as lts
-use Rattle.rand_streams.proofs.at.Reads as at-reads
-use Rattle.rand_streams.proofs.draw64.Reads as draw64-reads
 
 -- src/lib.rt:111:13
 at-requires : tie.Need-at-requires

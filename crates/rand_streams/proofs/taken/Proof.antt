@@ -3,8 +3,6 @@ use Rattle.rand_streams.proofs.Laws.{taken-word, taken-moved}
 use borrow.Author.Needs.{needs}
 use Rattle.rand_streams.proofs.taken.Statement.{statement}
 use Rattle.rand_streams.proofs.taken.Tie as tie
-use Rattle.rand_streams.proofs.taken.Reads as reads
-use Rattle.rand_streams.proofs.taken.Lts as lts
 
 -- src/lib.rt:69:17
 mul-value : tie.Need-mul-value

@@ -1,6 +1,5 @@
 use borrow.Author.Needs.{needs}
-use native.Mathlib.Omega.{arith}
-use mathlib.Core.Path.{_≡_, subst}
+use mathlib.Core.Path.{subst}
 use Prim.Native.Nat.{ℕ, _≤_}
 use Rattle.sim_accept.proofs.id_in.Statement.{statement}
 use Rattle.sim_accept.proofs.id_in.Tie as tie

@@ -2,7 +2,7 @@ use Rattle.sim_figures.proofs.Laws.{mask-more, mask-end}
 use Rattle.sim_figures.specs.Notes.{masked}
 use borrow.Author.Needs.{needs}
 use native.Mathlib.Omega.{arith}
-use mathlib.Core.Path.{_≡_, refl, ap, _∙_}
+use mathlib.Core.Path.{_≡_, refl}
 use Prim.Native.Nat.{_≤_, _-_}
 use lib.ListN.{length}
 use Rattle.sim_figures.proofs.put_masks.Statement.{statement}

@@ -2,7 +2,7 @@ use Rattle.sim_figures.proofs.Laws.{one-more, count-none, count-end}
 use Rattle.sim_figures.specs.Notes.{recipientsOf}
 use borrow.Author.Needs.{needs}
 use native.Mathlib.Omega.{arith}
-use mathlib.Core.Path.{_≡_, refl}
+use mathlib.Core.Path.{_≡_}
 use Prim.Native.Nat.{_≤_, _-_}
 use Rattle.sim_figures.proofs.recipients.Statement.{statement}
 use Rattle.sim_figures.proofs.recipients.Tie as tie

@@ -1,15 +1,9 @@
-use native.Mathlib.Omega.{arith}
-use mathlib.Core.Path.{_≡_, refl}
+use mathlib.Core.Path.{_≡_}
 use lib.ListN.{length}
 use borrow.Author.Needs.{needs}
 use Prim.Native.Nat.{_-_}
 use Rattle.sim_flush.proofs.copy_row.Statement.{statement}
 use Rattle.sim_flush.proofs.copy_row.Tie as tie
-use Rattle.sim_flush.proofs.copy_row.Reads as reads
-use Rattle.sim_flush.proofs.copy_row.Lts as lts
-use Rattle.ask_tables.proofs.cell.Reads as cell-reads
-use Rattle.ask_tables.proofs.put.Reads as put-reads
-use Rattle.std.proofs.num.wrapping_add_usize.Reads as wrapping-add-usize-reads
 
 abbrev Inv-loop : tie.InvT-loop
 Inv-loop to₀ from row i₀ to i = (length to ≡ length to₀)

@@ -1,14 +1,9 @@
-use native.Mathlib.Omega.{arith}
-use mathlib.Core.Path.{_≡_, refl}
+use mathlib.Core.Path.{_≡_}
 use lib.ListN.{length}
 use borrow.Author.Needs.{needs}
 use Prim.Native.Nat.{_-_}
 use Rattle.sim_flush.proofs.copy_rows.Statement.{statement}
 use Rattle.sim_flush.proofs.copy_rows.Tie as tie
-use Rattle.sim_flush.proofs.copy_rows.Reads as reads
-use Rattle.sim_flush.proofs.copy_rows.Lts as lts
-use Rattle.sim_flush.proofs.copy_row.Reads as copy-row-reads
-use Rattle.std.proofs.num.wrapping_add_usize.Reads as wrapping-add-usize-reads
 
 abbrev Inv-loop : tie.InvT-loop
 Inv-loop to₀ from n row₀ i₀ to row i = (length to ≡ length to₀)

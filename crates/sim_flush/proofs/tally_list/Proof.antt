@@ -1,13 +1,9 @@
-use native.Mathlib.Omega.{arith}
-use mathlib.Core.Path.{_≡_, refl}
+use mathlib.Core.Path.{_≡_}
 use lib.ListN.{length}
 use borrow.Author.Needs.{needs}
 use Prim.Native.Nat.{_-_}
 use Rattle.sim_flush.proofs.tally_list.Statement.{statement}
 use Rattle.sim_flush.proofs.tally_list.Tie as tie
-use Rattle.sim_flush.proofs.tally_list.Reads as reads
-use Rattle.sim_flush.proofs.tally_list.Lts as lts
-use Rattle.sim_flush.proofs.tally.Reads as tally-reads
 
 abbrev Inv-loop : tie.InvT-loop
 Inv-loop text₀ used v u₀ i₀ text u i = (length text ≡ length text₀)

@@ -1,14 +1,9 @@
-use native.Mathlib.Omega.{arith}
-use mathlib.Core.Path.{_≡_, refl}
+use mathlib.Core.Path.{_≡_}
 use lib.ListN.{length}
 use borrow.Author.Needs.{needs}
 use Prim.Native.Nat.{_-_}
 use Rattle.sim_openings.proofs.copy.Statement.{statement}
 use Rattle.sim_openings.proofs.copy.Tie as tie
-use Rattle.sim_openings.proofs.copy.Reads as reads
-use Rattle.sim_openings.proofs.copy.Lts as lts
-use Rattle.sim_openings.proofs.store.Reads as store-reads
-use Rattle.std.proofs.num.wrapping_add_usize.Reads as wrapping-add-usize-reads
 
 abbrev Inv-loop : tie.InvT-loop
 Inv-loop out₀ at src i₀ out i = (length out ≡ length out₀)

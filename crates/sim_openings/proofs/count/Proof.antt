@@ -1,14 +1,7 @@
-use native.Mathlib.Omega.{arith}
-use mathlib.Core.Path.{_≡_, refl}
-use lib.ListN.{length}
 use borrow.Author.Needs.{needs}
 use Prim.Native.Nat.{_-_}
 use Rattle.sim_openings.proofs.count.Statement.{statement}
 use Rattle.sim_openings.proofs.count.Tie as tie
-use Rattle.sim_openings.proofs.count.Reads as reads
-use Rattle.sim_openings.proofs.count.Lts as lts
-use Rattle.sim_spelling.proofs.words.next_word.Reads as next-word-reads
-use Rattle.std.proofs.num.wrapping_add_usize.Reads as wrapping-add-usize-reads
 
 abbrev Inv-loop : tie.InvT-loop
 Inv-loop s at₀ n₀ left₀ at n left = Unit {0}

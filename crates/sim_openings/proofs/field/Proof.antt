@@ -1,16 +1,7 @@
-use native.Mathlib.Omega.{arith}
-use mathlib.Core.Path.{_≡_, refl}
-use lib.ListN.{length}
 use borrow.Author.Needs.{needs}
 use Prim.Native.Nat.{_-_}
 use Rattle.sim_openings.proofs.field.Statement.{statement}
 use Rattle.sim_openings.proofs.field.Tie as tie
-use Rattle.sim_openings.proofs.field.Reads as reads
-use Rattle.sim_openings.proofs.field.Lts as lts
-use Rattle.sim_openings.proofs.is_field.Reads as is-field-reads
-use Rattle.sim_spelling.proofs.words.next_word.Reads as next-word-reads
-use Rattle.sim_spelling.proofs.words.part.Reads as part-reads
-use Rattle.std.proofs.num.wrapping_add_usize.Reads as wrapping-add-usize-reads
 
 abbrev Inv-loop : tie.InvT-loop
 Inv-loop s name at₀ left₀ at left = Unit {0}

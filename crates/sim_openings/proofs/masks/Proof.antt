@@ -1,20 +1,9 @@
-use native.Mathlib.Omega.{arith}
-use mathlib.Core.Path.{_≡_, refl}
+use mathlib.Core.Path.{_≡_}
 use lib.ListN.{length}
 use borrow.Author.Needs.{needs}
 use Prim.Native.Nat.{_-_}
 use Rattle.sim_openings.proofs.masks.Statement.{statement}
 use Rattle.sim_openings.proofs.masks.Tie as tie
-use Rattle.sim_openings.proofs.masks.Reads as reads
-use Rattle.sim_openings.proofs.masks.Lts as lts
-use Rattle.sim_spelling.proofs.numbers.bad.Reads as bad-reads
-use Rattle.sim_spelling.proofs.numbers.good.Reads as good-reads
-use Rattle.sim_spelling.proofs.numbers.hex.Reads as hex-reads
-use Rattle.sim_openings.proofs.put.Reads as put-reads
-use Rattle.sim_spelling.proofs.words.find.Reads as find-reads
-use Rattle.sim_spelling.proofs.words.part.Reads as part-reads
-use Rattle.sim_spelling.proofs.words.same.Reads as same-reads
-use Rattle.std.proofs.num.wrapping_add_usize.Reads as wrapping-add-usize-reads
 
 abbrev Inv-loop : tie.InvT-loop
 Inv-loop s out₀ at₀ n₀ left₀ out at n left = (length out ≡ length out₀)

@@ -1,19 +1,9 @@
-use native.Mathlib.Omega.{arith}
-use mathlib.Core.Path.{_≡_, refl}
+use mathlib.Core.Path.{_≡_}
 use lib.ListN.{length}
 use borrow.Author.Needs.{needs}
 use Prim.Native.Nat.{_-_}
 use Rattle.sim_openings.proofs.names.Statement.{statement}
 use Rattle.sim_openings.proofs.names.Tie as tie
-use Rattle.sim_openings.proofs.names.Reads as reads
-use Rattle.sim_openings.proofs.names.Lts as lts
-use Rattle.sim_spelling.proofs.numbers.bad.Reads as bad-reads
-use Rattle.sim_spelling.proofs.numbers.good.Reads as good-reads
-use Rattle.sim_openings.proofs.named.Reads as named-reads
-use Rattle.sim_spelling.proofs.words.find.Reads as find-reads
-use Rattle.sim_spelling.proofs.words.part.Reads as part-reads
-use Rattle.sim_spelling.proofs.words.same.Reads as same-reads
-use Rattle.std.proofs.num.wrapping_add_usize.Reads as wrapping-add-usize-reads
 
 abbrev Inv-loop : tie.InvT-loop
 Inv-loop s out₀ at width most from₀ n₀ to₀ left₀ out from n to left = (length out ≡ length out₀)

@@ -1,4 +1,3 @@
-use mathlib.Core.Path.{refl, _∙_}
 use borrow.Author.Needs.{needs}
 use Rattle.sim_run_parts.proofs.open_line.Statement.{statement}
 use Rattle.sim_run_parts.proofs.open_line.Tie as tie

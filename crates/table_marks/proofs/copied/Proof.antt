@@ -1,8 +1,7 @@
 use mathlib.Core.Path.{_≡_, refl, sym, ap, _∙_}
-use mathlib.Core.List.{List, [], _∷_, _++_}
-use Prim.Native.Nat.{ℕ, suc, _+_, _-_, _≤_}
+use Prim.Native.Nat.{ℕ, _-_, _≤_}
 use native.Mathlib.Omega.{arith}
-use lib.ListN.{length, take, drop, getD, length-set}
+use lib.ListN.{length, take, length-set}
 use Rattle.table_marks.specs.Marks.{idsOf, newest}
 use Rattle.table_marks.proofs.Search.{copied-more}
 use Rattle.table_marks.proofs.copied.Statement.{statement}

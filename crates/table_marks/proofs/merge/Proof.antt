@@ -1,7 +1,6 @@
 use mathlib.Core.Path.{sym, _∙_}
 use Prim.Native.Nat.{_+_, _-_, _<_}
 use native.Mathlib.Omega.{arith}
-use borrow.Author.Needs.{needs}
 use Rattle.table_marks.proofs.Parts.{Merging, begin, is-left, old-turn, new-turn, finish}
 use Rattle.table_marks.proofs.merge.Statement.{statement}
 use Rattle.table_marks.proofs.merge.Tie as tie

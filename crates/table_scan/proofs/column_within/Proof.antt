@@ -5,8 +5,6 @@ use mathlib.Core.Bool.{true, false}
 use native.Mathlib.Omega.{arith}
 use lib.ListN.{getD, take}
 use Rattle.table_rows.specs.Rows.{allOf}
-use Rattle.table_delivery.specs.Delivery as delivery
-use Rattle.table_waiting.specs.Waiting as waiting
 use Rattle.table_scan.specs.Scan.{column, columnWithin}
 use Rattle.table_scan.proofs.Laws.{goes-on, stops, ends, column-long, column-row, column-start, column-next, column-in}
 use borrow.Author.Tests.{le-leb, lt-leb}

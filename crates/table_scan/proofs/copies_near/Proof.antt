@@ -4,7 +4,6 @@ use mathlib.Core.Bool.{true}
 use native.Mathlib.Omega.{arith}
 use lib.ListN.{take, drop}
 use Rattle.table_rows.specs.Rows.{allOf}
-use Rattle.table_delivery.specs.Delivery as delivery
 use Rattle.table_waiting.specs.declared.Copy.{Copy}
 use Rattle.table_waiting.specs.Waiting as waiting
 use Rattle.table_scan.specs.Scan.{near, copiesNear}

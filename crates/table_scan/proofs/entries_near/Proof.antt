@@ -4,8 +4,6 @@ use mathlib.Core.Bool.{true}
 use native.Mathlib.Omega.{arith}
 use lib.ListN.{take}
 use Rattle.table_rows.specs.Rows.{allOf}
-use Rattle.table_delivery.specs.Delivery as delivery
-use Rattle.table_waiting.specs.Waiting as waiting
 use Rattle.table_rings.specs.Rings.{countOf, entries}
 use Rattle.table_scan.specs.Scan.{nearEntry}
 use Rattle.table_scan.proofs.Laws.{goes-on, stops, ends, entries-long, entry-row}

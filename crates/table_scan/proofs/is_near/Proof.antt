@@ -1,5 +1,3 @@
-use Rattle.table_delivery.specs.Delivery as delivery
-use Rattle.table_waiting.specs.Waiting as waiting
 use Rattle.table_scan.proofs.Laws.{no-from, no-to, no-kind, by-class}
 use Rattle.table_scan.proofs.is_near.Statement.{statement}
 use Rattle.table_scan.proofs.is_near.Tie as tie

@@ -1,5 +1,3 @@
-use Rattle.table_delivery.specs.Delivery as delivery
-use Rattle.table_waiting.specs.Waiting as waiting
 use Rattle.table_scan.proofs.Laws.{no-class, by-wire}
 use Rattle.table_scan.proofs.is_near_entry.Statement.{statement}
 use Rattle.table_scan.proofs.is_near_entry.Tie as tie

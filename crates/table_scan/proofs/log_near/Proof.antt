@@ -1,7 +1,5 @@
 use mathlib.Core.Path.{_∙_, sym}
 use borrow.Author.Needs.{needs}
-use Rattle.table_delivery.specs.Delivery as delivery
-use Rattle.table_waiting.specs.Waiting as waiting
 use Rattle.table_log.proofs.Writing.{sound-log}
 use Rattle.table_scan.proofs.Laws.{log-out, log-in}
 use borrow.Author.Tests.{not-true, not-false}

@@ -1,7 +1,5 @@
 use mathlib.Core.Path.{_∙_, sym}
 use borrow.Author.Needs.{needs}
-use Rattle.table_delivery.specs.Delivery as delivery
-use Rattle.table_waiting.specs.Waiting as waiting
 use Rattle.table_ring.proofs.Table.{true-sound}
 use Rattle.table_rings.specs.Rings.{slots, headOf}
 use Rattle.table_scan.proofs.Laws.{ring-out, ring-in}

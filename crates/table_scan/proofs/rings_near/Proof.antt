@@ -5,8 +5,6 @@ use native.Mathlib.Omega.{arith}
 use lib.ListN.{take}
 use Rattle.table_rows.specs.Rows.{allOf}
 use Rattle.table_rows.specs.Lists.{upTo}
-use Rattle.table_delivery.specs.Delivery as delivery
-use Rattle.table_waiting.specs.Waiting as waiting
 use Rattle.table_scan.specs.Scan.{ringNear, ringsNear}
 use Rattle.table_scan.proofs.Laws.{goes-on, stops, ends, number-row, numbers-long}
 use borrow.Author.Tests.{not-true, not-false}

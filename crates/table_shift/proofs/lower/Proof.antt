@@ -1,5 +1,5 @@
-use Prim.Native.Nat.{_≤_, _<_, _-_, _+_, suc, ℕ}
-use mathlib.Core.Path.{_≡_, refl, ap, _∙_, sym}
+use Prim.Native.Nat.{_≤_, _-_, ℕ}
+use mathlib.Core.Path.{_≡_, refl, ap, _∙_}
 use mathlib.Core.List.{List}
 use lib.ListN.{length, length-set, set, getD}
 use native.Mathlib.Omega.{arith}

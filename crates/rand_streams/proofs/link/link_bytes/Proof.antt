@@ -3,8 +3,6 @@ use Rattle.math_word.specs.Word.{le4, le8}
 use borrow.Author.Needs.{needs}
 use Rattle.rand_streams.proofs.link.link_bytes.Statement.{statement}
 use Rattle.rand_streams.proofs.link.link_bytes.Tie as tie
-use Rattle.rand_streams.proofs.link.link_bytes.Reads as reads
-use Rattle.rand_streams.proofs.link.link_bytes.Lts as lts
 
 -- src/link.rt:12:9
 cast-t5 : tie.Need-cast-t5

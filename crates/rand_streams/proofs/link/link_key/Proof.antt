@@ -2,14 +2,10 @@ use native.Mathlib.Omega.{arith}
 use Rattle.rand_streams.specs.Link.{linkKey}
 use Rattle.hash_digest.proofs.Answers.{digest-words}
 use Rattle.hash_digest.specs.Blake3.{hash}
-use mathlib.Core.Path.{ap, sym, _∙_}
+use mathlib.Core.Path.{ap, _∙_}
 use borrow.Author.Needs.{needs}
 use Rattle.rand_streams.proofs.link.link_key.Statement.{statement}
 use Rattle.rand_streams.proofs.link.link_key.Tie as tie
-use Rattle.rand_streams.proofs.link.link_key.Reads as reads
-use Rattle.rand_streams.proofs.link.link_key.Lts as lts
-use Rattle.hash_digest.proofs.digest.Reads as digest-reads
-use Rattle.rand_streams.proofs.link.link_bytes.Reads as link-bytes-reads
 
 -- src/link.rt:39:17
 link-bytes-requires : tie.Need-link-bytes-requires

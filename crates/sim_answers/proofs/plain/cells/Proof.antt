@@ -1,15 +1,9 @@
-use native.Mathlib.Omega.{arith}
-use mathlib.Core.Path.{_≡_, refl}
+use mathlib.Core.Path.{_≡_}
 use lib.ListN.{length}
 use borrow.Author.Needs.{needs}
 use Prim.Native.Nat.{_-_}
 use Rattle.sim_answers.proofs.plain.cells.Statement.{statement}
 use Rattle.sim_answers.proofs.plain.cells.Tie as tie
-use Rattle.sim_answers.proofs.plain.cells.Reads as reads
-use Rattle.sim_answers.proofs.plain.cells.Lts as lts
-use Rattle.sim_answers.proofs.plain.labelled.Reads as labelled-reads
-use Rattle.ask_tables.proofs.cell.Reads as cell-reads
-use Rattle.std.proofs.num.wrapping_add_usize.Reads as wrapping-add-usize-reads
 
 abbrev Inv-loop : tie.InvT-loop
 Inv-loop text₀ used ws at n u₀ i₀ t8 text u i = (length text ≡ length text₀)

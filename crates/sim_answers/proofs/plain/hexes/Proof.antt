@@ -1,13 +1,9 @@
-use native.Mathlib.Omega.{arith}
-use mathlib.Core.Path.{_≡_, refl}
+use mathlib.Core.Path.{_≡_}
 use lib.ListN.{length}
 use borrow.Author.Needs.{needs}
 use Prim.Native.Nat.{_-_}
 use Rattle.sim_answers.proofs.plain.hexes.Statement.{statement}
 use Rattle.sim_answers.proofs.plain.hexes.Tie as tie
-use Rattle.sim_answers.proofs.plain.hexes.Reads as reads
-use Rattle.sim_answers.proofs.plain.hexes.Lts as lts
-use Rattle.sim_answers.proofs.plain.bytes.Reads as bytes-reads
 
 abbrev Inv-loop : tie.InvT-loop
 Inv-loop text₀ used ws u₀ i₀ text u i = (length text ≡ length text₀)

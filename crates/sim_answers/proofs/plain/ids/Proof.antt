@@ -1,14 +1,9 @@
-use native.Mathlib.Omega.{arith}
-use mathlib.Core.Path.{_≡_, refl}
+use mathlib.Core.Path.{_≡_}
 use lib.ListN.{length}
 use borrow.Author.Needs.{needs}
 use Prim.Native.Nat.{_-_}
 use Rattle.sim_answers.proofs.plain.ids.Statement.{statement}
 use Rattle.sim_answers.proofs.plain.ids.Tie as tie
-use Rattle.sim_answers.proofs.plain.ids.Reads as reads
-use Rattle.sim_answers.proofs.plain.ids.Lts as lts
-use Rattle.sim_answers.proofs.plain.id.Reads as id-reads
-use Rattle.ask_tables.proofs.cell.Reads as cell-reads
 
 abbrev Inv-loop : tie.InvT-loop
 Inv-loop text₀ used ws n u₀ i₀ text u i = (length text ≡ length text₀)

@@ -1,14 +1,9 @@
-use native.Mathlib.Omega.{arith}
-use mathlib.Core.Path.{_≡_, refl}
+use mathlib.Core.Path.{_≡_}
 use lib.ListN.{length}
 use borrow.Author.Needs.{needs}
 use Prim.Native.Nat.{_-_}
 use Rattle.sim_answers.proofs.rows_text.flushed.Statement.{statement}
 use Rattle.sim_answers.proofs.rows_text.flushed.Tie as tie
-use Rattle.sim_answers.proofs.rows_text.flushed.Reads as reads
-use Rattle.sim_answers.proofs.rows_text.flushed.Lts as lts
-use Rattle.sim_answers.proofs.rows_text.due_line.Reads as due-line-reads
-use Rattle.std.proofs.num.wrapping_add_usize.Reads as wrapping-add-usize-reads
 
 abbrev Inv-loop : tie.InvT-loop
 Inv-loop text₀ used due n out u₀ row₀ at₀ i₀ text u row at i = (length text ≡ length text₀)

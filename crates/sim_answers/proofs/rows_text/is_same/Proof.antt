@@ -1,13 +1,7 @@
-use native.Mathlib.Omega.{arith}
-use mathlib.Core.Path.{_≡_, refl}
-use lib.ListN.{length}
 use borrow.Author.Needs.{needs}
 use Prim.Native.Nat.{_-_}
 use Rattle.sim_answers.proofs.rows_text.is_same.Statement.{statement}
 use Rattle.sim_answers.proofs.rows_text.is_same.Tie as tie
-use Rattle.sim_answers.proofs.rows_text.is_same.Reads as reads
-use Rattle.sim_answers.proofs.rows_text.is_same.Lts as lts
-use Rattle.sim_answers.proofs.rows_text.column.Reads as column-reads
 
 abbrev Inv-loop : tie.InvT-loop
 Inv-loop xs a ys b i₀ i = Unit {0}

@@ -1,11 +1,6 @@
-use native.Mathlib.Omega.{arith}
 use borrow.Author.Needs.{needs}
 use Rattle.sim_answers.proofs.tables.count.Statement.{statement}
 use Rattle.sim_answers.proofs.tables.count.Tie as tie
-use Rattle.sim_answers.proofs.tables.count.Reads as reads
-use Rattle.sim_answers.proofs.tables.count.Lts as lts
-use Rattle.sim_answers.proofs.tables.rings_in.Reads as rings-in-reads
-use Rattle.table_rings.proofs.count.Reads as count-reads
 
 -- src/tables.rt:149:9
 rings-in-requires : tie.Need-rings-in-requires

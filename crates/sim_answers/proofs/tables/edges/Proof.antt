@@ -1,15 +1,7 @@
-use native.Mathlib.Omega.{arith}
-use mathlib.Core.Path.{_≡_, refl}
-use lib.ListN.{length}
 use borrow.Author.Needs.{needs}
 use Prim.Native.Nat.{_-_}
 use Rattle.sim_answers.proofs.tables.edges.Statement.{statement}
 use Rattle.sim_answers.proofs.tables.edges.Tie as tie
-use Rattle.sim_answers.proofs.tables.edges.Reads as reads
-use Rattle.sim_answers.proofs.tables.edges.Lts as lts
-use Rattle.sim_answers.proofs.tables.is_again.Reads as is-again-reads
-use Rattle.sim_answers.proofs.tables.one_more.Reads as one-more-reads
-use Rattle.std.proofs.num.wrapping_add_usize.Reads as wrapping-add-usize-reads
 
 abbrev Inv-loop : tie.InvT-loop
 Inv-loop blocks n found₀ row₀ i₀ found row i = Unit {0}

@@ -1,12 +1,6 @@
-use native.Mathlib.Omega.{arith}
 use borrow.Author.Needs.{needs}
 use Rattle.sim_answers.proofs.tables.entry.Statement.{statement}
 use Rattle.sim_answers.proofs.tables.entry.Tie as tie
-use Rattle.sim_answers.proofs.tables.entry.Reads as reads
-use Rattle.sim_answers.proofs.tables.entry.Lts as lts
-use Rattle.sim_answers.proofs.plain.labelled.Reads as labelled-reads
-use Rattle.sim_answers.proofs.tables.rings_in.Reads as rings-in-reads
-use Rattle.table_rings.proofs.get.Reads as get-reads
 
 -- src/tables.rt:158:9
 rings-in-requires : tie.Need-rings-in-requires

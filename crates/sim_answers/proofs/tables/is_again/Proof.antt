@@ -1,14 +1,7 @@
-use native.Mathlib.Omega.{arith}
-use mathlib.Core.Path.{_≡_, refl}
-use lib.ListN.{length}
 use borrow.Author.Needs.{needs}
 use Prim.Native.Nat.{_-_}
 use Rattle.sim_answers.proofs.tables.is_again.Statement.{statement}
 use Rattle.sim_answers.proofs.tables.is_again.Tie as tie
-use Rattle.sim_answers.proofs.tables.is_again.Reads as reads
-use Rattle.sim_answers.proofs.tables.is_again.Lts as lts
-use Rattle.sim_answers.proofs.tables.is_pair.Reads as is-pair-reads
-use Rattle.std.proofs.num.wrapping_add_usize.Reads as wrapping-add-usize-reads
 
 abbrev Inv-loop : tie.InvT-loop
 Inv-loop blocks row i at₀ j₀ at j = Unit {0}

@@ -1,15 +1,7 @@
-use native.Mathlib.Omega.{arith}
-use mathlib.Core.Path.{_≡_, refl}
-use lib.ListN.{length}
 use borrow.Author.Needs.{needs}
 use Prim.Native.Nat.{_-_}
 use Rattle.sim_answers.proofs.tables.kept.Statement.{statement}
 use Rattle.sim_answers.proofs.tables.kept.Tie as tie
-use Rattle.sim_answers.proofs.tables.kept.Reads as reads
-use Rattle.sim_answers.proofs.tables.kept.Lts as lts
-use Rattle.sim_answers.proofs.tables.count.Reads as count-reads
-use Rattle.sim_answers.proofs.tables.one_more.Reads as one-more-reads
-use Rattle.sim_answers.proofs.tables.rings_in.Reads as rings-in-reads
 
 abbrev Inv-loop : tie.InvT-loop
 Inv-loop rings n found₀ r₀ found r = Unit {0}

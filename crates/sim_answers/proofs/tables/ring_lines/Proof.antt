@@ -1,14 +1,9 @@
-use native.Mathlib.Omega.{arith}
-use mathlib.Core.Path.{_≡_, refl}
+use mathlib.Core.Path.{_≡_}
 use lib.ListN.{length}
 use borrow.Author.Needs.{needs}
 use Prim.Native.Nat.{_-_}
 use Rattle.sim_answers.proofs.tables.ring_lines.Statement.{statement}
 use Rattle.sim_answers.proofs.tables.ring_lines.Tie as tie
-use Rattle.sim_answers.proofs.tables.ring_lines.Reads as reads
-use Rattle.sim_answers.proofs.tables.ring_lines.Lts as lts
-use Rattle.sim_answers.proofs.tables.kind_lines.Reads as kind-lines-reads
-use Rattle.std.proofs.num.wrapping_add_usize.Reads as wrapping-add-usize-reads
 
 abbrev Inv-loop : tie.InvT-loop
 Inv-loop text₀ used rings types u₀ kind₀ i₀ text u kind i = (length text ≡ length text₀)

@@ -1,14 +1,9 @@
-use native.Mathlib.Omega.{arith}
-use mathlib.Core.Path.{_≡_, refl}
+use mathlib.Core.Path.{_≡_}
 use lib.ListN.{length}
 use borrow.Author.Needs.{needs}
 use Prim.Native.Nat.{_-_}
 use Rattle.sim_answers.proofs.tables.words.Statement.{statement}
 use Rattle.sim_answers.proofs.tables.words.Tie as tie
-use Rattle.sim_answers.proofs.tables.words.Reads as reads
-use Rattle.sim_answers.proofs.tables.words.Lts as lts
-use Rattle.sim_answers.proofs.plain.ended.Reads as ended-reads
-use Rattle.sim_answers.proofs.tables.word.Reads as word-reads
 
 abbrev Inv-loop : tie.InvT-loop
 Inv-loop text₀ used words fault u₀ i₀ text u i = (length text ≡ length text₀)

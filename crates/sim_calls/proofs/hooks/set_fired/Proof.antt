@@ -1,15 +1,9 @@
-use native.Mathlib.Omega.{arith}
-use mathlib.Core.Path.{_≡_, refl}
+use mathlib.Core.Path.{_≡_}
 use lib.ListN.{length}
 use borrow.Author.Needs.{needs}
 use Prim.Native.Nat.{_-_}
 use Rattle.sim_calls.proofs.hooks.set_fired.Statement.{statement}
 use Rattle.sim_calls.proofs.hooks.set_fired.Tie as tie
-use Rattle.sim_calls.proofs.hooks.set_fired.Reads as reads
-use Rattle.sim_calls.proofs.hooks.set_fired.Lts as lts
-use Rattle.ask_tables.proofs.cell.Reads as cell-reads
-use Rattle.ask_tables.proofs.put.Reads as put-reads
-use Rattle.std.proofs.num.wrapping_add_usize.Reads as wrapping-add-usize-reads
 
 abbrev Inv-loop : tie.InvT-loop
 Inv-loop rules₀ n id to row₀ i₀ rules row i = (length rules ≡ length rules₀)

@@ -1,14 +1,9 @@
-use native.Mathlib.Omega.{arith}
 use mathlib.Core.Path.{_≡_, refl}
 use lib.ListN.{length}
 use borrow.Author.Needs.{needs}
 use Prim.Native.Nat.{_-_}
 use Rattle.sim_calls.proofs.readings.all_seen.Statement.{statement}
 use Rattle.sim_calls.proofs.readings.all_seen.Tie as tie
-use Rattle.sim_calls.proofs.readings.all_seen.Reads as reads
-use Rattle.sim_calls.proofs.readings.all_seen.Lts as lts
-use Rattle.ask_tables.proofs.cell.Reads as cell-reads
-use Rattle.sim_calls.proofs.readings.seen_by.Reads as seen-by-reads
 
 abbrev Inv-loop : tie.InvT-loop
 Inv-loop setup seen out₀ text₀ used n u₀ t₀ out text u t = (length out ≡ length out₀) × (length text ≡ length text₀)

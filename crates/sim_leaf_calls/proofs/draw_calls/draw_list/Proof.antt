@@ -1,15 +1,9 @@
-use native.Mathlib.Omega.{arith}
-use mathlib.Core.Path.{_≡_, refl}
+use mathlib.Core.Path.{_≡_}
 use lib.ListN.{length}
 use borrow.Author.Needs.{needs}
 use Prim.Native.Nat.{_-_}
 use Rattle.sim_leaf_calls.proofs.draw_calls.draw_list.Statement.{statement}
 use Rattle.sim_leaf_calls.proofs.draw_calls.draw_list.Tie as tie
-use Rattle.sim_leaf_calls.proofs.draw_calls.draw_list.Reads as reads
-use Rattle.sim_leaf_calls.proofs.draw_calls.draw_list.Lts as lts
-use Rattle.sim_answers.proofs.ended.Reads as ended-reads
-use Rattle.sim_leaf_calls.proofs.draw_calls.draw.Reads as draw-reads
-use Rattle.sim_leaf_calls.proofs.draw_calls.shown.Reads as shown-reads
 
 abbrev Inv-loop : tie.InvT-loop
 Inv-loop which key n text₀ used v u₀ count₀ left₀ t12 text u count left = (length text ≡ length text₀)

@@ -1,5 +1,4 @@
 use borrow.Author.Needs.{needs}
-use native.Mathlib.Omega.{arith}
 use mathlib.Core.Path.{sym, subst}
 use lib.Ieee.{ofBits}
 use lib.Dec.{T}

@@ -1,5 +1,4 @@
 use borrow.Author.Needs.{needs}
-use native.Mathlib.Omega.{arith}
 use Rattle.math_time.specs.Seconds.{InRange}
 use mathlib.Core.Path.{sym, subst}
 use lib.Ieee.{Float, ofBits, mul, binary64}

@@ -1,15 +1,9 @@
-use native.Mathlib.Omega.{arith}
-use mathlib.Core.Path.{_≡_, refl}
+use mathlib.Core.Path.{_≡_}
 use lib.ListN.{length}
 use borrow.Author.Needs.{needs}
 use Prim.Native.Nat.{_-_}
 use Rattle.sim_leaf_calls.proofs.geography_calls.samples.Statement.{statement}
 use Rattle.sim_leaf_calls.proofs.geography_calls.samples.Tie as tie
-use Rattle.sim_leaf_calls.proofs.geography_calls.samples.Reads as reads
-use Rattle.sim_leaf_calls.proofs.geography_calls.samples.Lts as lts
-use Rattle.sim_answers.proofs.ended.Reads as ended-reads
-use Rattle.sim_answers.proofs.labelled.Reads as labelled-reads
-use Rattle.sim_leaf_calls.proofs.geography_calls.sample.Reads as sample-reads
 
 abbrev Inv-loop : tie.InvT-loop
 Inv-loop key setup prices text₀ used v u₀ count₀ left₀ t12 t13 text u count left = (length text ≡ length text₀)

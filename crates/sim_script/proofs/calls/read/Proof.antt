@@ -1,16 +1,9 @@
-use native.Mathlib.Omega.{arith}
 use mathlib.Core.Path.{_≡_, refl}
 use lib.ListN.{length}
 use borrow.Author.Needs.{needs}
 use Prim.Native.Nat.{_-_}
 use Rattle.sim_script.proofs.calls.read.Statement.{statement}
 use Rattle.sim_script.proofs.calls.read.Tie as tie
-use Rattle.sim_script.proofs.calls.read.Reads as reads
-use Rattle.sim_script.proofs.calls.read.Lts as lts
-use Rattle.sim_script.proofs.calls.bad_args.Reads as bad-args-reads
-use Rattle.sim_script.proofs.calls.form_of.Reads as form-of-reads
-use Rattle.sim_script.proofs.calls.is_last.Reads as is-last-reads
-use Rattle.sim_script.proofs.calls.take_word.Reads as take-word-reads
 
 abbrev Inv-loop : tie.InvT-loop
 Inv-loop s at which room₀ form v₀ from₀ i₀ room v from i = (length room ≡ length room₀) × (length v ≡ 8)

@@ -1,13 +1,9 @@
-use native.Mathlib.Omega.{arith}
-use mathlib.Core.Path.{_≡_, refl}
+use mathlib.Core.Path.{_≡_}
 use lib.ListN.{length}
 use borrow.Author.Needs.{needs}
 use Prim.Native.Nat.{_-_}
 use Rattle.sim_session.proofs.input.gathered.Statement.{statement}
 use Rattle.sim_session.proofs.input.gathered.Tie as tie
-use Rattle.sim_session.proofs.input.gathered.Reads as reads
-use Rattle.sim_session.proofs.input.gathered.Lts as lts
-use Rattle.sim_session.proofs.input.with_byte.Reads as with-byte-reads
 
 abbrev Inv-loop : tie.InvT-loop
 Inv-loop piece line₀ i₀ left₀ line i left = (length line ≡ length line₀)

@@ -1,13 +1,9 @@
-use native.Mathlib.Omega.{arith}
 use mathlib.Core.Path.{_≡_, refl}
 use lib.ListN.{length}
 use borrow.Author.Needs.{needs}
 use Prim.Native.Nat.{_-_}
 use Rattle.sim_session.proofs.input.next_line.Statement.{statement}
 use Rattle.sim_session.proofs.input.next_line.Tie as tie
-use Rattle.sim_session.proofs.input.next_line.Reads as reads
-use Rattle.sim_session.proofs.input.next_line.Lts as lts
-use Rattle.sim_session.proofs.input.turn.Reads as turn-reads
 
 abbrev Inv-loop : tie.InvT-loop
 Inv-loop piece₀ line₀ i₀ left₀ piece line i left = (length piece ≡ length piece₀) × (length line ≡ length line₀)

@@ -1,14 +1,9 @@
-use native.Mathlib.Omega.{arith}
-use mathlib.Core.Path.{_≡_, refl}
+use mathlib.Core.Path.{_≡_}
 use lib.ListN.{length}
 use borrow.Author.Needs.{needs}
 use Prim.Native.Nat.{_-_}
 use Rattle.sim_session.proofs.opens.keep_names.Statement.{statement}
 use Rattle.sim_session.proofs.opens.keep_names.Tie as tie
-use Rattle.sim_session.proofs.opens.keep_names.Reads as reads
-use Rattle.sim_session.proofs.opens.keep_names.Lts as lts
-use Rattle.sim_spelling.proofs.bytes.byte.Reads as byte-reads
-use Rattle.sim_session.proofs.opens.put.Reads as put-reads
 
 abbrev Inv-loop : tie.InvT-loop
 Inv-loop names₀ fresh i₀ names i = (length names ≡ length names₀)

@@ -1,16 +1,9 @@
-use native.Mathlib.Omega.{arith}
-use mathlib.Core.Path.{_≡_, refl}
+use mathlib.Core.Path.{_≡_}
 use lib.ListN.{length}
 use borrow.Author.Needs.{needs}
 use Prim.Native.Nat.{_-_}
 use Rattle.sim_session.proofs.opens.spread_key.Statement.{statement}
 use Rattle.sim_session.proofs.opens.spread_key.Tie as tie
-use Rattle.sim_session.proofs.opens.spread_key.Reads as reads
-use Rattle.sim_session.proofs.opens.spread_key.Lts as lts
-use Rattle.sim_session.proofs.opens.mixed.Reads as mixed-reads
-use Rattle.sim_session.proofs.opens.put_word.Reads as put-word-reads
-use Rattle.sim_session.proofs.opens.spread.Reads as spread-reads
-use Rattle.std.proofs.num.wrapping_add_usize.Reads as wrapping-add-usize-reads
 
 abbrev Inv-loop : tie.InvT-loop
 Inv-loop out₀ from seed state₀ at₀ i₀ out state at i = (length out ≡ length out₀)

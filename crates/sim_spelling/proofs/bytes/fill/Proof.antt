@@ -1,13 +1,9 @@
-use native.Mathlib.Omega.{arith}
-use mathlib.Core.Path.{_≡_, refl}
+use mathlib.Core.Path.{_≡_}
 use lib.ListN.{length}
 use borrow.Author.Needs.{needs}
 use Prim.Native.Nat.{_-_}
 use Rattle.sim_spelling.proofs.bytes.fill.Statement.{statement}
 use Rattle.sim_spelling.proofs.bytes.fill.Tie as tie
-use Rattle.sim_spelling.proofs.bytes.fill.Reads as reads
-use Rattle.sim_spelling.proofs.bytes.fill.Lts as lts
-use Rattle.sim_spelling.proofs.bytes.put.Reads as put-reads
 
 abbrev Inv-loop : tie.InvT-loop
 Inv-loop out₀ n b i₀ out i = (length out ≡ length out₀)

@@ -1,18 +1,9 @@
-use native.Mathlib.Omega.{arith}
-use mathlib.Core.Path.{_≡_, refl}
+use mathlib.Core.Path.{_≡_}
 use lib.ListN.{length}
 use borrow.Author.Needs.{needs}
 use Prim.Native.Nat.{_-_}
 use Rattle.sim_spelling.proofs.bytes.unhex.Statement.{statement}
 use Rattle.sim_spelling.proofs.bytes.unhex.Tie as tie
-use Rattle.sim_spelling.proofs.bytes.unhex.Reads as reads
-use Rattle.sim_spelling.proofs.bytes.unhex.Lts as lts
-use Rattle.sim_spelling.proofs.bytes.low.Reads as low-reads
-use Rattle.sim_spelling.proofs.bytes.pair.Reads as pair-reads
-use Rattle.sim_spelling.proofs.bytes.put.Reads as put-reads
-use Rattle.sim_spelling.proofs.numbers.bad.Reads as bad-reads
-use Rattle.sim_spelling.proofs.numbers.good.Reads as good-reads
-use Rattle.std.proofs.num.wrapping_add_usize.Reads as wrapping-add-usize-reads
 
 abbrev Inv-loop : tie.InvT-loop
 Inv-loop s out₀ i₀ n₀ out i n = (length out ≡ length out₀)

@@ -1,6 +1,5 @@
 use borrow.Author.Needs.{needs}
-use native.Mathlib.Omega.{arith}
-use mathlib.Core.Path.{_≡_, _∙_}
+use mathlib.Core.Path.{_∙_}
 use Rattle.sim_spelling.proofs.Laws.{bits-none, bits-are}
 use Rattle.sim_spelling.proofs.numbers.bits.Statement.{statement}
 use Rattle.sim_spelling.proofs.numbers.bits.Tie as tie

@@ -1,6 +1,4 @@
 use borrow.Author.Needs.{needs}
-use native.Mathlib.Omega.{arith}
-use mathlib.Core.Path.{_≡_}
 use Rattle.sim_spelling.proofs.Laws.{digit-0, digit-1, digit-2, digit-3, digit-4, digit-5, digit-6}
 use Rattle.sim_spelling.proofs.numbers.digit.Statement.{statement}
 use Rattle.sim_spelling.proofs.numbers.digit.Tie as tie

@@ -1,6 +1,5 @@
 use borrow.Author.Needs.{needs}
-use native.Mathlib.Omega.{arith}
-use mathlib.Core.Path.{_≡_, _∙_}
+use mathlib.Core.Path.{_∙_}
 use Rattle.sim_spelling.proofs.Laws.{more-none, more-high, more-low, more-good, sum-fits}
 use Rattle.sim_spelling.proofs.numbers.more.Statement.{statement}
 use Rattle.sim_spelling.proofs.numbers.more.Tie as tie

@@ -1,12 +1,8 @@
-use native.Mathlib.Omega.{arith}
-use mathlib.Core.Path.{_≡_, refl}
 use lib.ListN.{length}
 use borrow.Author.Needs.{needs}
 use Prim.Native.Nat.{_-_}
 use Rattle.sim_spelling.proofs.words.find.Statement.{statement}
 use Rattle.sim_spelling.proofs.words.find.Tie as tie
-use Rattle.sim_spelling.proofs.words.find.Reads as reads
-use Rattle.sim_spelling.proofs.words.find.Lts as lts
 
 abbrev Inv-loop : tie.InvT-loop
 Inv-loop s at b i₀ i = Unit {0}

@@ -1,6 +1,4 @@
 use borrow.Author.Needs.{needs}
-use native.Mathlib.Omega.{arith}
-use mathlib.Core.Path.{_≡_, _∙_}
 use Rattle.sim_spelling.proofs.Laws.{part-past, part-turned, part-is}
 use Rattle.sim_spelling.proofs.words.part.Statement.{statement}
 use Rattle.sim_spelling.proofs.words.part.Tie as tie

@@ -1,13 +1,8 @@
-use native.Mathlib.Omega.{arith}
-use mathlib.Core.Path.{_≡_, refl}
 use lib.ListN.{length}
 use borrow.Author.Needs.{needs}
 use Prim.Native.Nat.{_-_}
 use Rattle.sim_spelling.proofs.words.past_blanks.Statement.{statement}
 use Rattle.sim_spelling.proofs.words.past_blanks.Tie as tie
-use Rattle.sim_spelling.proofs.words.past_blanks.Reads as reads
-use Rattle.sim_spelling.proofs.words.past_blanks.Lts as lts
-use Rattle.sim_spelling.proofs.words.is_blank.Reads as is-blank-reads
 
 abbrev Inv-loop : tie.InvT-loop
 Inv-loop s at i₀ i = Unit {0}

@@ -1,8 +1,8 @@
 use borrow.Author.Needs.{needs}
 use native.Mathlib.Omega.{arith}
-use Prim.Native.Nat.{_-_, _≤_, _<_}
+use Prim.Native.Nat.{_-_, _≤_}
 use lib.ListN.{length, drop}
-use mathlib.Core.Path.{_≡_, refl, sym, ap, _∙_}
+use mathlib.Core.Path.{_≡_, refl}
 use Rattle.sim_spelling.specs.Spelling.{sameText}
 use Rattle.sim_spelling.proofs.Laws.{unlike-lengths, alike-next, alike-stop, alike-end}
 use Rattle.sim_spelling.proofs.words.same.Statement.{statement}
