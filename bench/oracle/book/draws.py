@@ -54,7 +54,7 @@ class Stream:
     def whole(self, n, bits):
         draw = self.long if bits == 64 else self.word
         high, low = divmod(draw() * n, 2 ** bits)
-        if low > 2 ** bits - n:
+        if low > 2 ** bits - n and not wrong('whole range without its second draw'):
             high += low + (draw() * n >> bits) >= 2 ** bits
         return high
 
