@@ -11,8 +11,8 @@ use Rattle.table_rows.specs.Rows.{allOf}
 use Rattle.spec_network.specs.Opening.{global, longestWire, latestNow, mostWords, lastNumber}
 use Rattle.spec_network.specs.Tables.{cell, sizesAt, sequenceAt, waitingAt, faultWordsAt}
 use Rattle.ask_tables.proofs.Ladder.{yes, no}
-use Rattle.call_offer.specs.declared.Message.{Message}
-use Rattle.call_recipients.specs.Turning.{rest, left}
+use Rattle.call_offer.specs.declared.Outgoing.{Outgoing}
+use Rattle.call_recipients.specs.Turning.{rest, remaining}
 use Rattle.call_recipients.proofs.Stepping.{rest-on, rest-off, rest-end}
 use Rattle.ask_accept.specs.Asking.{scopeExists, argumentNumber, freshAt, freeAt, tailNumber}
 
@@ -142,9 +142,9 @@ one-small k false e = omega arith
 
 -- ---- 8 to 11
 
-module _ (setup net tills words seen : List ℕ) (m : Message) where
+module _ (setup net tills words seen : List ℕ) (m : Outgoing) where
   abbrev ts : List ℕ
-  ts = left setup tills m 0
+  ts = remaining setup tills m 0
 
   abbrev given : Bool
   given = ltb (cell net faultWordsAt) mostWords && allOf (freshAt words m) ts

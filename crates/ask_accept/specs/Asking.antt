@@ -10,8 +10,8 @@ use Rattle.table_marks.specs.Marks.{found, idsOf}
 use Rattle.spec_network.specs.Opening.{link, global, longestWire, latestNow, mostWords, lastNumber, mostTills, mostSlots}
 use Rattle.spec_network.specs.Tables.{cell, sizesAt, setupWidth, tillForm, idsStart, sequenceAt, waitingAt, faultWordsAt}
 use Rattle.ask_tables.specs.Held.{setupHeld, netHeld, namesHeld, tillsHeld, wordsHeld, keysHeld, pricesHeld, seenHeld, waitingHeld, ringsHeld, rulesHeld, blocksHeld}
-use Rattle.call_offer.specs.declared.Message.{Message}
-use Rattle.call_recipients.specs.Turning.{left}
+use Rattle.call_offer.specs.declared.Outgoing.{Outgoing}
+use Rattle.call_recipients.specs.Turning.{remaining}
 
 -- 1
 unfoldable pub acceptLent : (setup net names tills words keys prices seen waiting rings rules blocks : List ℕ) → Bool
@@ -30,7 +30,7 @@ argumentNumber setup from kind class scope wire now rest =
     (cond (leb wire longestWire) (cond (leb now latestNow) rest 7) 6) 5) 4
 
 -- what questions 8 to 11 need: those before, answered "yes"
-pub record Asked (setup tills : List ℕ) (m : Message) : Type 0 where
+pub record Asked (setup tills : List ℕ) (m : Outgoing) : Type 0 where
   pub setupSize : length setup ≡ setupWidth
   pub few : sizesAt setup .tills ≤ mostTills
   pub slots : sizesAt setup .seenSlots ≤ mostSlots
@@ -39,16 +39,16 @@ pub record Asked (setup tills : List ℕ) (m : Message) : Type 0 where
   pub scope : m .scope ≤ global
 
 -- 8: a link of the sender; 10: a till without this id
-abbrev pub freshAt : (words : List ℕ) → Message → ℕ → Bool
+abbrev pub freshAt : (words : List ℕ) → Outgoing → ℕ → Bool
 freshAt words m t = ltb (cell words (link (m .from) t)) mostWords
 
-abbrev pub freeAt : (setup seen : List ℕ) → Message → ℕ → Bool
+abbrev pub freeAt : (setup seen : List ℕ) → Outgoing → ℕ → Bool
 freeAt setup seen m t = found (m .id) (idsOf seen (idsStart (sizesAt setup) t) (cell seen t)) || ltb (cell seen t) (sizesAt setup .seenSlots)
 
 -- 8 to 11
-unfoldable pub tailNumber : (setup net tills words seen : List ℕ) → Message → ℕ
+unfoldable pub tailNumber : (setup net tills words seen : List ℕ) → Outgoing → ℕ
 tailNumber setup net tills words seen m =
-    let ts = left setup tills m 0 in
+    let ts = remaining setup tills m 0 in
     cond (ltb (cell net faultWordsAt) mostWords && allOf (freshAt words m) ts)
     (cond (leb (cell net sequenceAt + 3 * length ts) lastNumber)
     (cond (allOf (freeAt setup seen m) ts)

@@ -8,9 +8,9 @@ ghost use Rattle.spec_network.specs.Opening.{links, mostTills};
 ghost use Rattle.spec_network.specs.Tables.{sizesAt, setupWidth, netWidth};
 ghost use Rattle.call_offer.specs.Needed.{SeenHeld};
 ghost use Rattle.call_offer.specs.Offering.{selectsAt};
-ghost use Rattle.call_recipients.specs.Turning.{left};
+ghost use Rattle.call_recipients.specs.Turning.{remaining};
 ghost use Rattle.ask_accept.specs.Asking.{acceptLent, scopeExists, argumentNumber, freshAt, freeAt, tailNumber, Asked};
-use call_offer::Message;
+use call_offer::Outgoing;
 
 // Question 1, of every table but the log.
 pub fn lent(
@@ -111,7 +111,7 @@ pub fn arguments(
 }
 
 // Question 8: has the link to the till, where it is selected, given fewer than 2^40 words?
-fn link_fresh(setup: &[u64], tills: &[u64], words: &[u64], m: Message, to: usize) -> bool
+fn link_fresh(setup: &[u64], tills: &[u64], words: &[u64], m: Outgoing, to: usize) -> bool
     requires { ⌜ Asked (now setup) (now tills) m × (length (now words) ≡ links) × (to < sizesAt (now setup) .tills) ⌝ }
     ensures { λ r. ⌜ r ≡ cond (selectsAt (now (tills .entry)) (m .scope) (m .from) to) (freshAt (now (words .entry)) m to) true ⌝ }
 {
@@ -121,9 +121,9 @@ fn link_fresh(setup: &[u64], tills: &[u64], words: &[u64], m: Message, to: usize
     words[m.from as usize * ask_tables::LINK_ROW + to] < ask_tables::MOST_WORDS
 }
 
-fn links_fresh(setup: &[u64], tills: &[u64], words: &[u64], m: Message) -> bool
+fn links_fresh(setup: &[u64], tills: &[u64], words: &[u64], m: Outgoing) -> bool
     requires { ⌜ Asked (now setup) (now tills) m × (length (now words) ≡ links) ⌝ }
-    ensures { λ r. ⌜ r ≡ allOf (freshAt (now (words .entry)) m) (left (now (setup .entry)) (now (tills .entry)) m 0) ⌝ }
+    ensures { λ r. ⌜ r ≡ allOf (freshAt (now (words .entry)) m) (remaining (now (setup .entry)) (now (tills .entry)) m 0) ⌝ }
 {
     let n = setup[ask_tables::TILLS] as usize;
     let mut to: usize = 0;
@@ -137,7 +137,7 @@ fn links_fresh(setup: &[u64], tills: &[u64], words: &[u64], m: Message) -> bool
 }
 
 // Question 10: has the till, where it is selected and without this id, a free seen slot?
-fn slot_free(setup: &[u64], tills: &[u64], seen: &[u64], m: Message, to: usize) -> bool
+fn slot_free(setup: &[u64], tills: &[u64], seen: &[u64], m: Outgoing, to: usize) -> bool
     requires { ⌜ Asked (now setup) (now tills) m × SeenHeld (sizesAt (now setup)) (now seen) × (to < sizesAt (now setup) .tills) ⌝ }
     ensures { λ r. ⌜ r ≡ cond (selectsAt (now (tills .entry)) (m .scope) (m .from) to) (freeAt (now (setup .entry)) (now (seen .entry)) m to) true ⌝ }
 {
@@ -150,9 +150,9 @@ fn slot_free(setup: &[u64], tills: &[u64], seen: &[u64], m: Message, to: usize) 
     call_offer::marked(setup, seen, to, m.id)
 }
 
-fn slots_free(setup: &[u64], tills: &[u64], seen: &[u64], m: Message) -> bool
+fn slots_free(setup: &[u64], tills: &[u64], seen: &[u64], m: Outgoing) -> bool
     requires { ⌜ Asked (now setup) (now tills) m × SeenHeld (sizesAt (now setup)) (now seen) ⌝ }
-    ensures { λ r. ⌜ r ≡ allOf (freeAt (now (setup .entry)) (now (seen .entry)) m) (left (now (setup .entry)) (now (tills .entry)) m 0) ⌝ }
+    ensures { λ r. ⌜ r ≡ allOf (freeAt (now (setup .entry)) (now (seen .entry)) m) (remaining (now (setup .entry)) (now (tills .entry)) m 0) ⌝ }
 {
     let n = setup[ask_tables::TILLS] as usize;
     let mut to: usize = 0;
@@ -175,9 +175,9 @@ fn one(b: bool) -> u64
 }
 
 // How many tills are selected.
-fn selected(setup: &[u64], tills: &[u64], m: Message) -> u64
+fn selected(setup: &[u64], tills: &[u64], m: Outgoing) -> u64
     requires { ⌜ Asked (now setup) (now tills) m ⌝ }
-    ensures is { λ r. ⌜ r ≡ length (left (now (setup .entry)) (now (tills .entry)) m 0) ⌝ }
+    ensures is { λ r. ⌜ r ≡ length (remaining (now (setup .entry)) (now (tills .entry)) m 0) ⌝ }
     ensures within { λ r. ⌜ r ≤ mostTills ⌝ }
 {
     let n = setup[ask_tables::TILLS] as usize;
@@ -198,7 +198,7 @@ pub fn tail(
     tills: &[u64],
     words: &[u64],
     seen: &[u64],
-    m: Message,
+    m: Outgoing,
 ) -> u64
     requires { ⌜ Asked (now setup) (now tills) m × (length (now words) ≡ links) × SeenHeld (sizesAt (now setup)) (now seen) × (length (now net) ≡ netWidth) ⌝ }
     ensures { λ r. ⌜ r ≡ tailNumber (now (setup .entry)) (now (net .entry)) (now (tills .entry)) (now (words .entry)) (now (seen .entry)) m ⌝ }

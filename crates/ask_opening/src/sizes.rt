@@ -63,7 +63,7 @@ pub fn table_sizes(sizes: NetworkSizes, plan: RegionPlan) -> TableSizes
         names: ask_rows::NAMES_WIDTH as u64,
         tills: tills * ask_tables::TILL_WIDTH as u64,
         words: ask_tables::LINKS as u64,
-        keys: tills * tills * ask_tables::KEY_WIDTH,
+        keys: tills * tills * ask_tables::LINK_KEY_WIDTH,
         prices: prices_length(plan, tills),
         seen: tills + tills * sizes.seen,
         waiting: sizes.waiting * table_waiting::WIDTH as u64,

@@ -92,7 +92,7 @@ pub fn names_admitted(names: &[u8], types: u64, shards: u64) -> bool
     if !lengths_fit(
         names,
         ask_rows::KEYS,
-        ask_rows::KEY_WIDTH,
+        ask_rows::SHARD_KEY_WIDTH,
         shards,
         ask_tables::LONGEST_KEY,
     ) {
@@ -101,5 +101,5 @@ pub fn names_admitted(names: &[u8], types: u64, shards: u64) -> bool
     if !all_unlike(names, 0, ask_rows::NAME_WIDTH, types) {
         return false;
     }
-    all_unlike(names, ask_rows::KEYS, ask_rows::KEY_WIDTH, shards)
+    all_unlike(names, ask_rows::KEYS, ask_rows::SHARD_KEY_WIDTH, shards)
 }

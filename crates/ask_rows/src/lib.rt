@@ -16,11 +16,11 @@ use table_scan::Limits;
 // A length and the bytes of the longest text; where the shard keys start; the bytes of `names`.
 pub const NAME_WIDTH: usize = 65;
 
-pub const KEY_WIDTH: usize = 17;
+pub const SHARD_KEY_WIDTH: usize = 17;
 
 pub const KEYS: usize = 16 * NAME_WIDTH;
 
-pub const NAMES_WIDTH: usize = KEYS + 16 * KEY_WIDTH;
+pub const NAMES_WIDTH: usize = KEYS + 16 * SHARD_KEY_WIDTH;
 
 // The words of a link in `prices`: base and rate.
 pub const LINK_WIDTH: usize = 2;
@@ -100,7 +100,7 @@ pub fn names_held(setup: &[u64], names: &[u8]) -> bool
         return false;
     }
     let shards = setup[ask_tables::SHARDS] as usize;
-    lengths_within(names, KEYS, KEY_WIDTH, shards, ask_tables::LONGEST_KEY)
+    lengths_within(names, KEYS, SHARD_KEY_WIDTH, shards, ask_tables::LONGEST_KEY)
 }
 
 // Row i of the links.

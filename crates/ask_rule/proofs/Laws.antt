@@ -6,7 +6,7 @@ use Prim.Native.Nat.{ℕ, max, _*_, _≤_, _<_}
 use lib.Dec.{eqb, leb, ltb}
 use lib.ListN.{length}
 use borrow.Author.Tests.{lt-ltb, le-ltb, le-leb, lt-leb, ltb-true, eq-eqb, ne-eqb}
-use Rattle.fault_rule.specs.declared.Message.{Message}
+use Rattle.fault_rule.specs.declared.MessageContext.{MessageContext}
 use Rattle.fault_rule.specs.declared.DropSpec.{DropSpec}
 use Rattle.fault_card.specs.Card.{exact, cardOf}
 use Rattle.fault_card.specs.declared.Card.{Card}
@@ -44,7 +44,7 @@ passed s n r h =
     let y : PassedNet s n = net-says s n (q2 .0) in
     record { setup = x .size; net = y .size; count = y .rules; rules = rules-say r (only _ (q2 .1)) }
 
-pub decidable : (s n r : List ℕ) (m : Message) → decideNumber s n r m ≡ 0 → Decidable s n r
+pub decidable : (s n r : List ℕ) (m : MessageContext) → decideNumber s n r m ≡ 0 → Decidable s n r
 unfolding decideNumber
 decidable s n r m h =
     let q1 = under (rulesLent s n r) _ 0 h in
@@ -122,7 +122,7 @@ installable s n r card h =
 
 -- ---- The ladder of `decide`
 
-module _ (s n r : List ℕ) (m : Message) where
+module _ (s n r : List ℕ) (m : MessageContext) where
   pub no1 : rulesLent s n r ≡ false → 1 ≡ decideNumber s n r m
   unfolding decideNumber
   no1 h = no _ _ _ _ h refl

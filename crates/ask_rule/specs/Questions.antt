@@ -3,7 +3,7 @@ use mathlib.Core.Bool.{Bool, true, cond, _&&_}
 use mathlib.Core.List.{List}
 use Prim.Native.Nat.{ℕ, max}
 use lib.Dec.{eqb, leb, ltb}
-use Rattle.fault_rule.specs.declared.Message.{Message}
+use Rattle.fault_rule.specs.declared.MessageContext.{MessageContext}
 use Rattle.fault_card.specs.Card.{exact}
 use Rattle.fault_rules.specs.Rules.{ruleSlots, mostRules}
 use Rattle.spec_network.specs.Opening.{latestNow, mostWords}
@@ -33,7 +33,7 @@ unfoldable pub cardNumber : (setup net rules card : List ℕ) → ℕ
 cardNumber s n r card = lentNumber s n r (firstOf (placeNumber n) (exactNumber card))
 
 -- 1, 4, 5, 7 and 8
-unfoldable pub decideNumber : (setup net rules : List ℕ) → Message → ℕ
+unfoldable pub decideNumber : (setup net rules : List ℕ) → MessageContext → ℕ
 decideNumber s n r m =
     lentNumber s n r
     (cond (ltb (max (m .from) (m .to)) (sizesAt s .tills))

@@ -2,7 +2,7 @@
 ghost use mathlib.Core.Path.{_≡_};
 ghost use Rattle.ask_rule.specs.Questions.{rulesLent, placeNumber, exactNumber, firstOf, cardNumber, decideNumber};
 use fault_card::Card;
-use fault_rule::Message;
+use fault_rule::MessageContext;
 
 // The tiers are numbered from 0.
 const LAST_TIER: u64 = 3;
@@ -67,7 +67,7 @@ pub fn install_refusal(setup: &[u64], net: &[u64], rules: &[u64], card: &[u8]) -
 }
 
 // Questions 1, 4, 5, 7 and 8.
-pub fn decide_refusal(setup: &[u64], net: &[u64], rules: &[u64], m: Message) -> u64
+pub fn decide_refusal(setup: &[u64], net: &[u64], rules: &[u64], m: MessageContext) -> u64
     ensures { λ r. ⌜ r ≡ decideNumber (now (setup .entry)) (now (net .entry)) (now (rules .entry)) m ⌝ }
 {
     if !lent(setup, net, rules) {

@@ -105,7 +105,7 @@ pub const LINKS: usize = 4096;
 pub const LINK_ROW: usize = 64;
 
 // The words of a stream's key, and of a row of `tills`.
-pub const KEY_WIDTH: u64 = 8;
+pub const LINK_KEY_WIDTH: u64 = 8;
 
 pub const TILL_WIDTH: usize = 4;
 
@@ -296,7 +296,7 @@ pub fn keys_held(setup: &[u64], keys: &[u32]) -> bool
     ensures { λ r. ⌜ r ≡ keysHeld (now (setup .entry)) (now (keys .entry)) ⌝ }
 {
     let n = setup[TILLS];
-    keys.len() as u64 == n * n * KEY_WIDTH
+    keys.len() as u64 == n * n * LINK_KEY_WIDTH
 }
 
 // 2^n: a mask of n types or shards is below it.

@@ -15,13 +15,13 @@ use Rattle.spec_network.specs.Writes.{acceptT, callReply}
 use Rattle.call_reply.proofs.Laws.{silenced, stays, answered, steps}
 use Rattle.spec_network.specs.Lending.{lendAccept}
 use Rattle.spec_network.specs.Contract.{Does}
-use Rattle.call_offer.specs.declared.Message.{Message}
-use Rattle.call_offer.specs.Offering.{told}
+use Rattle.call_offer.specs.declared.Outgoing.{Outgoing}
+use Rattle.call_offer.specs.Offering.{asMessage}
 use Rattle.call_offer.specs.Needed.{SeenHeld}
 use Rattle.ask_accept.specs.Asking.{acceptLent, argumentNumber, tailNumber}
 use Rattle.call_schedule.specs.declared.Counts as counts
 use Rattle.call_schedule.specs.Writing.{countsOf}
-use Rattle.call_recipients.specs.Turning.{left, Served}
+use Rattle.call_recipients.specs.Turning.{remaining, Served}
 use Rattle.call_accept.specs.declared.Accepted.{Accepted}
 use Rattle.call_accept.specs.Accepting.{entryOf, callOf, countedAs, acceptedOf, DoesAccept}
 use Rattle.call_accept.proofs.Numbers.{chosen-is, number-shut, number-early, number-closed, number-late}
@@ -37,10 +37,10 @@ module _ (T : Tables) (e : Entry) where
   unopened r q p = (p ∙ ap acceptedOf (sym (answered T (accept e false) 0 q refl)), steps T (accept e false) 0 q refl)
 
   -- the recipients are served
-  module _ (m : Message) (same : told m ≡ messageOf (openingAt T) e) (from : m .from ≡ e .from) (scope : m .scope ≡ e .scope) where
+  module _ (m : Outgoing) (same : asMessage m ≡ messageOf (openingAt T) e) (from : m .from ≡ e .from) (scope : m .scope ≡ e .scope) where
     pub served : (T′ : Tables) (c : counts.Counts) (r : Accepted) → 0 ≡ callReply T (accept e true) .number → r ≡ countedAs 0 (countsOf c)
-        → T′ ≡ acceptT (openingAt T) (told m) T (left (T .setup) (T .tills) m 0)
-        → countsOf c ≡ tally (booked (openingAt T) (told m) (live (sizesAt (T .setup)) T) (left (T .setup) (T .tills) m 0))
+        → T′ ≡ acceptT (openingAt T) (asMessage m) T (remaining (T .setup) (T .tills) m 0)
+        → countsOf c ≡ tally (booked (openingAt T) (asMessage m) (live (sizesAt (T .setup)) T) (remaining (T .setup) (T .tills) m 0))
         → Does acceptedOf T T′ (accept e true) r
     served T′ c r q p w k =
         let ts = chosen-is T e m from scope in (
@@ -86,7 +86,7 @@ module _ (setup net names tills words keys prices seen waiting rings rules block
           by T T r false (ap not (eq-eqb opens 0 z)) (unopened T e r (number-closed T e lends 0 (sym passed ∙ asked)) p)
 
       module _ (opened : opens ≡ 0 → ⊥) (id : ℕ) (is : id ≡ idOf names kind scope wire) (S : SeenHeld (sizesAt setup) seen) where
-        abbrev pub message : Message
+        abbrev pub message : Outgoing
         message = record { from = from; now = at; kind = kind; class = class; scope = scope; wire = length wire; id = id; tag = tag }
 
         module _ (t : ℕ) (tail : t ≡ tailNumber setup net tills words seen message) where
@@ -96,7 +96,7 @@ module _ (setup net names tills words keys prices seen waiting rings rules block
               let T = lendAccept L setup net names tills words keys prices seen waiting rings rules blocks in
               by T T r true (ap not (ne-eqb opens 0 opened)) (refused-by T e true t r (number-late T e lends message refl refl is S k t asked passed tail) h p)
 
-          same-message : (T : Tables) → T .names ≡ names → told message ≡ messageOf (openingAt T) e
+          same-message : (T : Tables) → T .names ≡ names → asMessage message ≡ messageOf (openingAt T) e
           unfolding drawsOf
           same-message T q =
               ap (λ (i : ℕ). record { from = from; now = at; kind = kind; class = class; scope = scope; wire = length wire; id = i; tag = tag })

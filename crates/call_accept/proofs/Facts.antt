@@ -28,11 +28,11 @@ use Rattle.ask_tables.proofs.Passed.{PassedSetup, PassedNet, setup-says, net-sa
 use Rattle.ask_tables.proofs.PassedRows.{PassedTills, PassedSeen, PassedBlocks, words-say, rules-say, keys-say, tills-say, seen-says, blocks-say}
 use Rattle.ask_rows.proofs.Passed.{PassedWaiting, PassedRings, PassedNames, waiting-says, rings-say, names-say, prices-say}
 use Rattle.link_draws.specs.Drawing.{Priced}
-use Rattle.call_message.specs.Message.{Named}
-use Rattle.call_offer.specs.declared.Message.{Message}
+use Rattle.call_message.specs.Outgoing.{Named}
+use Rattle.call_offer.specs.declared.Outgoing.{Outgoing}
 use Rattle.call_offer.specs.Needed.{Fixed, SeenHeld, RingsHeld}
 use Rattle.call_offer.specs.Offering.{selectsAt}
-use Rattle.call_recipients.specs.Turning.{rest, Going}
+use Rattle.call_recipients.specs.Turning.{rest, AdmittedFrom}
 use Rattle.call_accept.proofs.Numbers.{all-passed}
 use Rattle.ask_accept.specs.Asking.{acceptLent, argumentNumber, scopeExists, freshAt, freeAt, tailNumber, Asked}
 
@@ -152,11 +152,11 @@ module _ (setup net names tills words keys prices seen waiting rings rules block
                 let long = entries-long (ringsOf (sizesAt setup)) rings r in
                 subst (λ (e : Entry). e .wire ≤ longestWire) (sym (List·getD-eq-default (entries (ringsOf (sizesAt setup)) rings r) none (omega (arith, ltb-false k (countOf rings r) e)))) (omega arith)
 
-    module _ (m : Message) (from : m .from < sizesAt setup .tills) (scope : m .scope ≤ global) where
+    module _ (m : Outgoing) (from : m .from < sizesAt setup .tills) (scope : m .scope ≤ global) where
       pub asked-facts : Asked setup tills m
       asked-facts = record { setupSize = L .setupSays .size; few = L .setupSays .sizes .tills; slots = L .setupSays .sizes .seenSlots; tillsSize = L .tillsSay .size; from = from; scope = scope }
 
-      pub going : 0 ≡ tailNumber setup net tills words seen m → Going setup net tills words seen waiting rings rules m 0
+      pub going : 0 ≡ tailNumber setup net tills words seen m → AdmittedFrom setup net tills words seen waiting rings rules m 0
       unfolding tailNumber
       going h =
           let a = under _ _ 7 (sym h) in

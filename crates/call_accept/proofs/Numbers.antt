@@ -24,11 +24,11 @@ use Rattle.spec_network.specs.Real.{idOf, drawsOf, openingAt}
 use Rattle.spec_network.specs.Lent.{question1}
 use Rattle.spec_network.specs.Writes.{callReply}
 use Rattle.ask_tables.specs.Held.{setupHeld, netHeld, namesHeld, tillsHeld, wordsHeld, keysHeld, pricesHeld, seenHeld, waitingHeld, ringsHeld, rulesHeld, blocksHeld}
-use Rattle.call_offer.specs.declared.Message.{Message}
+use Rattle.call_offer.specs.declared.Outgoing.{Outgoing}
 use Rattle.call_offer.specs.Needed.{SeenHeld}
 use Rattle.call_offer.specs.Offering.{selectsAt}
 use Rattle.call_offer.proofs.Readings.{selects-is, marks-in}
-use Rattle.call_recipients.specs.Turning.{rest, left}
+use Rattle.call_recipients.specs.Turning.{rest, remaining}
 use Rattle.ask_accept.specs.Asking.{acceptLent, argumentNumber, scopeExists, freeAt, tailNumber}
 
 -- ---- A ladder of four
@@ -72,7 +72,7 @@ from-zero q n =
     let e : n - 0 ≡ n = omega arith in
     sym (ap (λ (k : ℕ). keep q (upTo k (λ i. 0 + i))) e ∙ ap (keep q) (upTo-same n (λ i. i) (λ i. 0 + i) (λ k l. omega arith)))
 
-module _ (T : Tables) (e : Entry) (m : Message) (from : m .from ≡ e .from) (scope : m .scope ≡ e .scope) where
+module _ (T : Tables) (e : Entry) (m : Outgoing) (from : m .from ≡ e .from) (scope : m .scope ≡ e .scope) where
   abbrev s : Live
   s = live (sizesAt (T .setup)) T
 
@@ -82,7 +82,7 @@ module _ (T : Tables) (e : Entry) (m : Message) (from : m .from ≡ e .from) (sc
   abbrev q : ℕ → Bool
   q t = selectsAt (T .tills) (m .scope) (m .from) t
 
-  pub chosen-is : selected (openingAt T) s (e .scope) (e .from) ≡ left (T .setup) (T .tills) m 0
+  pub chosen-is : selected (openingAt T) s (e .scope) (e .from) ≡ remaining (T .setup) (T .tills) m 0
   chosen-is =
       keep-same (λ t. receives s (e .scope) t && not (eqb t (e .from))) q n (λ i. i) (λ i l. selects-is T (e .scope) (e .from) i l ∙ (λ j. selectsAt (T .tills) (sym scope j) (sym from j) i))
       ∙ from-zero q n
@@ -133,7 +133,7 @@ module _ (T : Tables) (e : Entry) (lends : acceptLent (T .setup) (T .net) (T .na
 
   -- ---- Questions 8 to 11
 
-  module _ (m : Message) (from : m .from ≡ e .from) (scope : m .scope ≡ e .scope) (id : m .id ≡ idOf (T .names) (e .kind) (e .scope) (e .wire)) (S : SeenHeld (sizesAt (T .setup)) (T .seen)) where
+  module _ (m : Outgoing) (from : m .from ≡ e .from) (scope : m .scope ≡ e .scope) (id : m .id ≡ idOf (T .names) (e .kind) (e .scope) (e .wire)) (S : SeenHeld (sizesAt (T .setup)) (T .seen)) where
     free-same : (t : ℕ) → t < sizesAt (T .setup) .tills
         → (marked (live (sizesAt (T .setup)) T) t (messageOf (openingAt T) e .id) || ltb (length (idsAt (live (sizesAt (T .setup)) T) t)) (sizesAt (T .setup) .seenSlots)) ≡ freeAt (T .setup) (T .seen) m t
     unfolding drawsOf
@@ -150,7 +150,7 @@ module _ (T : Tables) (e : Entry) (lends : acceptLent (T .setup) (T .net) (T .na
         let c = chosen-is T e m from scope in
         let g = all-passed till near short soon k p z in
         let free : allOf (λ (u : ℕ). marked (live (sizesAt (T .setup)) T) u (messageOf (openingAt T) e .id) || ltb (length (idsAt (live (sizesAt (T .setup)) T) u)) (sizesAt (T .setup) .seenSlots)) (selected (openingAt T) (live (sizesAt (T .setup)) T) (e .scope) (e .from))
-        ≡ allOf (freeAt (T .setup) (T .seen) m) (left (T .setup) (T .tills) m 0) =
+        ≡ allOf (freeAt (T .setup) (T .seen) m) (remaining (T .setup) (T .tills) m 0) =
         all-same (λ u. receives (live (sizesAt (T .setup)) T) (e .scope) u && not (eqb u (e .from))) (λ (u : ℕ). marked (live (sizesAt (T .setup)) T) u (messageOf (openingAt T) e .id) || ltb (length (idsAt (live (sizesAt (T .setup)) T) u)) (sizesAt (T .setup) .seenSlots)) (freeAt (T .setup) (T .seen) m) (sizesAt (T .setup) .tills) (λ i. i) free-same
         ∙ ap (allOf (freeAt (T .setup) (T .seen) m)) c in
         let long : length (live (sizesAt (T .setup)) T .queue .waiting) ≡ cell (T .net) waitingAt = length-rows queue.width queue.read (cell (T .net) waitingAt) (T .waiting) in

@@ -3,7 +3,7 @@ ghost use mathlib.Core.Path.{_≡_};
 ghost use Rattle.spec_network.specs.Accept.{noCounts};
 ghost use Rattle.call_schedule.specs.Writing.{countsOf};
 ghost use Rattle.call_accept.specs.Accepting.{callOf, countedAs, DoesAccept};
-use call_offer::Message;
+use call_offer::Outgoing;
 use call_schedule::Counts;
 
 // The number of the question that refused the call, or 0, and how many recipients went under each of the five.
@@ -97,7 +97,7 @@ pub fn accept(
         return refused(0);
     }
     let id = call_message::id_of(names, kind as usize, scope as usize, wire);
-    let m = Message {
+    let m = Outgoing {
         from,
         now: at,
         kind,

@@ -34,7 +34,7 @@ use Rattle.table_scan.proofs.Laws as scan
 use Rattle.call_reply.proofs.Laws as reply
 use Rattle.call_flush_pass.specs.declared.Extents.{Extents}
 use Rattle.call_flush_pass.specs.declared.Moved.{Moved}
-use Rattle.call_flush_pass.specs.Pass.{ground, clearedOne, clearedBy, cleared, recorded, written, movedOf, Near}
+use Rattle.call_flush_pass.specs.Pass.{flushView, clearedOne, clearedBy, cleared, recorded, written, movedOf, Near}
 use Rattle.call_flush_pass.proofs.Passing.{length-map}
 use Rattle.call_flush.specs.declared.Flushed.{Flushed}
 use Rattle.call_flush.specs.Call.{flushedOf, flushCall, DoesFlush, rowsLent, flushLent, flushNumber, dueCount, roomNumber, extentsAt, refusedBy, flushedBy, Ready, Worked}
@@ -232,22 +232,22 @@ module _ (T : Tables) (s n t e w b l : List ℕ) where
   L = live (sizesAt s) (lendFlush T s n t e w b l)
 
   abbrev G : Live
-  G = ground (extentsAt s n) t b
+  G = flushView (extentsAt s n) t b
 
   same-stops : (c : Copy) → stops G c ≡ stops L c
-  unfolding ground extentsAt
+  unfolding flushView extentsAt
   same-stops c = refl
 
   same-lands : (cs : List Copy) → lands G cs ≡ lands L cs
-  unfolding ground extentsAt
+  unfolding flushView extentsAt
   same-lands cs = refl
 
   same-written : (cs : List Copy) (out : List ℕ) → written G cs out ≡ written L cs out
-  unfolding ground extentsAt written
+  unfolding flushView extentsAt written
   same-written cs out = refl
 
   same-moved : (cs : List Copy) → movedOf G cs ≡ movedOf L cs
-  unfolding ground extentsAt movedOf
+  unfolding flushView extentsAt movedOf
   same-moved cs = refl
 
   counts : (cs : List Copy) → flushedBy (movedOf L cs) ≡ flushedOf (record { number = 0; answer = movedBy (rowsOf L cs) (dropsOf L cs) })
@@ -277,7 +277,7 @@ module _ (s n t e w b l n′ e′ w′ l′ out out′ : List ℕ) (now k : ℕ)
     unfolding extentsAt
     tables =
         let L = live (sizesAt s) (lendFlush T s n t e w b l) in
-        let marks = d .seen ∙ cleared-same (sizesAt s .tills) (sizesAt s .seenSlots) (ground (extentsAt s n) t b) L (same-stops T s n t e w b l) (copies w k) e in
+        let marks = d .seen ∙ cleared-same (sizesAt s .tills) (sizesAt s .seenSlots) (flushView (extentsAt s n) t b) L (same-stops T s n t e w b l) (copies w k) e in
         let records = d .log ∙ ap (λ (x : List Copy). recorded (sizesAt s .logSlots) x l) (same-lands T s n t e w b l (copies w k)) in
         λ j. lendFlush T s (sym (d .net) j) t (sym marks j) (sym (d .waiting) j) b (sym records j)
 

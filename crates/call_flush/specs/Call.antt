@@ -20,7 +20,7 @@ use Rattle.spec_network.specs.Contract.{DoesOut}
 use Rattle.ask_tables.specs.Held.{setupHeld, netHeld, tillsHeld, seenHeld, waitingHeld, blocksHeld, logHeld}
 use Rattle.call_flush_pass.specs.declared.Extents.{Extents}
 use Rattle.call_flush_pass.specs.declared.Moved.{Moved}
-use Rattle.call_flush_pass.specs.Pass.{ground, cleared, recorded, written, movedOf, Room, Due, SeenRoom, LogRoom}
+use Rattle.call_flush_pass.specs.Pass.{flushView, cleared, recorded, written, movedOf, Room, Due, SeenRoom, LogRoom}
 use Rattle.call_flush.specs.declared.Flushed.{Flushed}
 
 -- how many rows, those of them with a handler, and drops; all 0 on a refusal
@@ -80,8 +80,8 @@ pub record Ready (z : Extents) (k : ℕ) (ns ts es ws bs ls os : List ℕ) : Typ
 -- each table and the reply once the first k of the waiting copies are flushed
 pub record Worked (z : Extents) (k : ℕ) (ns ts es ws bs ls ns′ es′ ws′ ls′ : List ℕ) (r : Flushed) (os os′ : List ℕ) : Type 0 where
   pub net : ns′ ≡ set ns waitingAt (cell ns waitingAt - k)
-  pub seen : es′ ≡ cleared (z .tills) (z .slots) (ground z ts bs) (copies ws k) es
+  pub seen : es′ ≡ cleared (z .tills) (z .slots) (flushView z ts bs) (copies ws k) es
   pub waiting : ws′ ≡ over waiting.form (drop k (copies ws (cell ns waitingAt))) ws
-  pub log : ls′ ≡ recorded (z .log) (lands (ground z ts bs) (copies ws k)) ls
-  pub out : os′ ≡ written (ground z ts bs) (copies ws k) os
-  pub reply : r ≡ flushedBy (movedOf (ground z ts bs) (copies ws k))
+  pub log : ls′ ≡ recorded (z .log) (lands (flushView z ts bs) (copies ws k)) ls
+  pub out : os′ ≡ written (flushView z ts bs) (copies ws k) os
+  pub reply : r ≡ flushedBy (movedOf (flushView z ts bs) (copies ws k))

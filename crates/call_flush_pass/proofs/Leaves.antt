@@ -26,7 +26,7 @@ use Rattle.spec_network.specs.Writes.{rowWidth, rowWords}
 use Rattle.call_flush_pass.specs.declared.Extents.{Extents}
 use Rattle.call_flush_pass.specs.declared.Taken.{Taken}
 use Rattle.call_flush_pass.specs.declared.Moved.{Moved}
-use Rattle.call_flush_pass.specs.Pass.{tillIn, upIn, ground, takenBy, rowAs, handledBy, droppedMore, landedMore}
+use Rattle.call_flush_pass.specs.Pass.{tillIn, upIn, flushView, takenBy, rowAs, handledBy, droppedMore, landedMore}
 
 -- ---- A till's cells
 
@@ -50,17 +50,17 @@ module _ (n : ℕ) (tills : List ℕ) (t : ℕ) (h : t < n) where
 -- ---- Stopped: by an end that is down, or by a block
 
 module _ (z : Extents) (tills blocks : List ℕ) (c : Copy) where
-  pub stop-from : upIn (z .tills) tills (c .delivery .from) ≡ false → true ≡ stops (ground z tills blocks) c
-  unfolding ground upIn
+  pub stop-from : upIn (z .tills) tills (c .delivery .from) ≡ false → true ≡ stops (flushView z tills blocks) c
+  unfolding flushView upIn
   stop-from p = sym (ap (λ (b : Bool). not b || not (upIn (z .tills) tills (c .delivery .to)) || blocked (c .delivery .from) (c .delivery .to) (c .delivery .time) (blocksOf blocks (z .windows))) p)
 
-  pub stop-to : upIn (z .tills) tills (c .delivery .from) ≡ true → upIn (z .tills) tills (c .delivery .to) ≡ false → true ≡ stops (ground z tills blocks) c
-  unfolding ground upIn
+  pub stop-to : upIn (z .tills) tills (c .delivery .from) ≡ true → upIn (z .tills) tills (c .delivery .to) ≡ false → true ≡ stops (flushView z tills blocks) c
+  unfolding flushView upIn
   stop-to p q = sym (λ j. not (p j) || not (q j) || blocked (c .delivery .from) (c .delivery .to) (c .delivery .time) (blocksOf blocks (z .windows)))
 
   pub stop-block : upIn (z .tills) tills (c .delivery .from) ≡ true → upIn (z .tills) tills (c .delivery .to) ≡ true
-      → blocked (c .delivery .from) (c .delivery .to) (c .delivery .time) (blocksOf blocks (z .windows)) ≡ stops (ground z tills blocks) c
-  unfolding ground upIn
+      → blocked (c .delivery .from) (c .delivery .to) (c .delivery .time) (blocksOf blocks (z .windows)) ≡ stops (flushView z tills blocks) c
+  unfolding flushView upIn
   stop-block p q = sym (λ j. not (p j) || not (q j) || blocked (c .delivery .from) (c .delivery .to) (c .delivery .time) (blocksOf blocks (z .windows)))
 
 -- ---- Handlers

@@ -23,7 +23,7 @@ use Rattle.spec_network.specs.Flush.{Row, stops, rowOf, handled, lands, rowsOf,
 use Rattle.spec_network.specs.Writes.{rowWidth, rowWords}
 use Rattle.call_flush_pass.specs.declared.Extents.{Extents}
 use Rattle.call_flush_pass.specs.declared.Moved.{Moved}
-use Rattle.call_flush_pass.specs.Pass.{ground, takenBy, rowAs, handledBy, clearedOne, clearedBy, loggedBy, rowBy, droppedMore, landedMore, countedBy, cleared, recorded, rowForm, written, movedOf, Near, SeenRoom, Due, Landed, Turned, Passed}
+use Rattle.call_flush_pass.specs.Pass.{flushView, takenBy, rowAs, handledBy, clearedOne, clearedBy, loggedBy, rowBy, droppedMore, landedMore, countedBy, cleared, recorded, rowForm, written, movedOf, Near, SeenRoom, Due, Landed, Turned, Passed}
 use Rattle.call_flush_pass.proofs.Seen.{cleared-room}
 
 -- ---- The output's rows
@@ -41,10 +41,10 @@ exact = record { long = λ r. refl; back = λ r m. refl; whole = whole }
 
 module _ (z : Extents) (tills blocks : List ℕ) (c : Copy) (m : Moved) where
   abbrev s : Live
-  s = ground z tills blocks
+  s = flushView z tills blocks
 
-  pub turn-dropped : (ns ns′ ls os : List ℕ) (r : Moved) → stops (ground z tills blocks) c ≡ true → ns′ ≡ clearedOne (z .tills) (z .slots) c ns → r ≡ droppedMore m
-      → Turned z (ground z tills blocks) c m ns ns′ ls ls os os r
+  pub turn-dropped : (ns ns′ ls os : List ℕ) (r : Moved) → stops (flushView z tills blocks) c ≡ true → ns′ ≡ clearedOne (z .tills) (z .slots) c ns → r ≡ droppedMore m
+      → Turned z (flushView z tills blocks) c m ns ns′ ls ls os os r
   unfolding clearedBy loggedBy rowBy countedBy
   turn-dropped ns ns′ ls os r h en er = record {
     seen = en ∙ ap (λ (b : Bool). cond b (clearedOne (z .tills) (z .slots) c ns) ns) (sym h);
@@ -53,16 +53,16 @@ module _ (z : Extents) (tills blocks : List ℕ) (c : Copy) (m : Moved) where
     counts = er ∙ ap (λ (b : Bool). cond b (droppedMore m) (landedMore (bit (handled (rowOf s c))) m)) (sym h);
   }
 
-  own-row : rowAs c (takenBy (z .tills) tills c) ≡ rowOf (ground z tills blocks) c
-  unfolding takenBy ground
+  own-row : rowAs c (takenBy (z .tills) tills c) ≡ rowOf (flushView z tills blocks) c
+  unfolding takenBy flushView
   own-row = refl
 
-  own-handled : handledBy (takenBy (z .tills) tills c) ≡ bit (handled (rowOf (ground z tills blocks) c))
-  unfolding handledBy takenBy ground
+  own-handled : handledBy (takenBy (z .tills) tills c) ≡ bit (handled (rowOf (flushView z tills blocks) c))
+  unfolding handledBy takenBy flushView
   own-handled = refl
 
-  pub turn-landed : (ns ls ls′ os os′ : List ℕ) (r : Moved) → stops (ground z tills blocks) c ≡ false → Landed z (takenBy (z .tills) tills c) c m ls ls′ os os′ r
-      → Turned z (ground z tills blocks) c m ns ns ls ls′ os os′ r
+  pub turn-landed : (ns ls ls′ os os′ : List ℕ) (r : Moved) → stops (flushView z tills blocks) c ≡ false → Landed z (takenBy (z .tills) tills c) c m ls ls′ os os′ r
+      → Turned z (flushView z tills blocks) c m ns ns ls ls′ os os′ r
   unfolding clearedBy loggedBy rowBy countedBy
   turn-landed ns ls ls′ os os′ r h l = record {
     seen = ap (λ (b : Bool). cond b (clearedOne (z .tills) (z .slots) c ns) ns) (sym h);

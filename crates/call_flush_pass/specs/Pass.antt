@@ -31,8 +31,8 @@ unfoldable pub upIn : ℕ → List ℕ → ℕ → Bool
 upIn n tills t = not (eqb (tillIn n tills t .up) 0)
 
 -- the tills as they are now and the block windows, as two tables hold them; a flush reads nothing else of the live part to decide
-unfoldable pub ground : Extents → (tills blocks : List ℕ) → Live
-ground z tills blocks = record {
+unfoldable pub flushView : Extents → (tills blocks : List ℕ) → Live
+flushView z tills blocks = record {
   tills = rowsOf tillForm tills (z .tills);
   seen = [];
   engine = record { blocks = rowsOf blockForm blocks (z .windows); rules = []; installed = 0; words = 0 };

@@ -9,7 +9,7 @@ ghost use Rattle.spec_network.specs.Lists as lists;
 ghost use Rattle.spec_network.specs.Tables.{tillForm};
 ghost use Rattle.spec_network.specs.Flush.{stops, rowOf};
 ghost use Rattle.spec_network.specs.Writes.{rowWidth, rowWords};
-ghost use Rattle.call_flush_pass.specs.Pass.{ground, upIn, takenBy, unmarked, clearedOne, droppedMore, handledBy, rowAs, Room, Near, SeenRoom, LogRoom, Due, Turned, Landed, Passed};
+ghost use Rattle.call_flush_pass.specs.Pass.{flushView, upIn, takenBy, unmarked, clearedOne, droppedMore, handledBy, rowAs, Room, Near, SeenRoom, LogRoom, Due, Turned, Landed, Passed};
 use table_waiting::Copy;
 
 // How many words a row of the output has.
@@ -51,7 +51,7 @@ fn is_up(tills: &[u64], n: usize, t: u64) -> bool
 // Blocks at the copy's own time, tills as they are now.
 fn is_stopped(tills: &[u64], blocks: &[u64], z: Extents, c: Copy) -> bool
     requires { ⌜ Room z (now tills) (now blocks) × Near z c ⌝ }
-    ensures { λ r. ⌜ r ≡ stops (ground z (now (tills .entry)) (now (blocks .entry))) c ⌝ }
+    ensures { λ r. ⌜ r ≡ stops (flushView z (now (tills .entry)) (now (blocks .entry))) c ⌝ }
 {
     let d = c.delivery;
     let n = z.tills;
@@ -175,7 +175,7 @@ fn turn(
     m: Moved,
 ) -> Moved
     requires { ⌜ Room z (now tills) (now blocks) × Near z c × (SeenRoom (z .tills) (z .slots) (now seen)) × (LogRoom (z .log) (now log)) × ((m .rows + 1) * rowWidth ≤ length (now out)) × (m .rows < most) × (m .delivered < most) × (m .dropped < most) ⌝ }
-    ensures { λ r. ⌜ Turned z (ground z (now (tills .entry)) (now (blocks .entry))) c m (now (seen .entry)) (now (seen .exit)) (now (log .entry)) (now (log .exit)) (now (out .entry)) (now (out .exit)) r ⌝ }
+    ensures { λ r. ⌜ Turned z (flushView z (now (tills .entry)) (now (blocks .entry))) c m (now (seen .entry)) (now (seen .exit)) (now (log .entry)) (now (log .exit)) (now (out .entry)) (now (out .exit)) r ⌝ }
 {
     if is_stopped(tills, blocks, z, c) {
         clear(seen, z, c);
@@ -196,7 +196,7 @@ pub fn pass(
     k: usize,
 ) -> Moved
     requires { ⌜ Room z (now tills) (now blocks) × (Due z (now waiting) (now out) k) × (SeenRoom (z .tills) (z .slots) (now seen)) × (LogRoom (z .log) (now log)) ⌝ }
-    ensures { λ r. ⌜ Passed z (ground z (now (tills .entry)) (now (blocks .entry))) (copies (now (waiting .entry)) k) (now (seen .entry)) (now (seen .exit)) (now (log .entry)) (now (log .exit)) (now (out .entry)) (now (out .exit)) r ⌝ }
+    ensures { λ r. ⌜ Passed z (flushView z (now (tills .entry)) (now (blocks .entry))) (copies (now (waiting .entry)) k) (now (seen .entry)) (now (seen .exit)) (now (log .entry)) (now (log .exit)) (now (out .entry)) (now (out .exit)) r ⌝ }
 {
     let mut m = Moved {
         rows: 0,

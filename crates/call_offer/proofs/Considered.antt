@@ -15,8 +15,8 @@ use Rattle.spec_network.specs.Live.{Live, Carried, marked, stopped}
 use Rattle.spec_network.specs.Tables.{cell, Tables, live, sizesAt, settingsAt, rulesAt, faultWordsAt}
 use Rattle.spec_network.specs.Real.{keyOf, faultKeyOf, chance, drawsOf, openingAt}
 use Rattle.spec_network.specs.Accept as accept
-use Rattle.spec_network.specs.Accept.{Drawn, drawn, context, echoesOf, ringFor, loss, fault, firstFit, classOf}
-use Rattle.call_offer.specs.declared.Message.{Message}
+use Rattle.spec_network.specs.Accept.{Drawn, drawn, context, echoesOf, ringFor, loss, fault, firstFit, fateOf}
+use Rattle.call_offer.specs.declared.Outgoing.{Outgoing}
 use Rattle.call_offer.specs.declared.Echoes.{Echoes}
 use Rattle.call_offer.specs.declared.Ruling.{Ruling}
 use Rattle.call_offer.specs.declared.Offer.the-variants.{Deduplicated, Partition, Loss, Fault, Sent}
@@ -24,7 +24,7 @@ use Rattle.call_offer.specs.Offering.{keyed, Echoed, decisionIn, Answers
 
 -- ---- The draws of a recipient, read from the tables
 
-module _ (T : Tables) (m : accept.Message) (t : ℕ) where
+module _ (T : Tables) (m : accept.Outgoing) (t : ℕ) where
   abbrev s : Live
   s = live (sizesAt (T .setup)) T
 
@@ -57,7 +57,7 @@ module _ (T : Tables) (m : accept.Message) (t : ℕ) where
   unfolding drawn
   echoes-are = refl
 
-  class-by : (a b l f : Bool) → marked s t (m .id) ≡ a → stopped s (m .from) t (m .now) ≡ b → d .loss .value ≡ l → d .verdict .drops ≡ f → classOf (openingAt T) m s t ≡ firstFit a b l f
+  class-by : (a b l f : Bool) → marked s t (m .id) ≡ a → stopped s (m .from) t (m .now) ≡ b → d .loss .value ≡ l → d .verdict .drops ≡ f → fateOf (openingAt T) m s t ≡ firstFit a b l f
   class-by a b l f p q r u = (λ j. firstFit (p j) (q j) (r j) (u j))
 
   pub is-deduplicated : marked s t (m .id) ≡ true → Answers (openingAt T) m s t Deduplicated

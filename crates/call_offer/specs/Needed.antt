@@ -11,7 +11,7 @@ use Rattle.spec_network.specs.Opening.{Sizes, link, links, global, longestWire,
 use Rattle.spec_network.specs.Live.{ringsOf}
 use Rattle.spec_network.specs.Tables.{cell, sizesAt, tillForm, netWidth, rulesAt, faultWordsAt, blocksAt}
 use Rattle.spec_network.specs.Real.{keyWidth}
-use Rattle.call_offer.specs.declared.Message.{Message}
+use Rattle.call_offer.specs.declared.Outgoing.{Outgoing}
 
 -- the tables that accept only reads
 pub record Fixed (setup tills keys prices blocks : List ℕ) : Type 0 where
@@ -23,7 +23,7 @@ pub record Fixed (setup tills keys prices blocks : List ℕ) : Type 0 where
   pub blocksSize : length blocks ≡ blockSlots * blockWidth
 
 -- sender, type, scope, wire length and time in range
-pub record Ranged (setup : List ℕ) (m : Message) : Type 0 where
+pub record Ranged (setup : List ℕ) (m : Outgoing) : Type 0 where
   pub from : m .from < sizesAt setup .tills
   pub kind : m .kind < sizesAt setup .types
   pub scope : m .scope ≤ global
@@ -58,7 +58,7 @@ pub record Rulable (net rules : List ℕ) : Type 0 where
   pub size : length rules ≡ ruleSlots * ruleWidth
 
 -- what the draws for the recipient need
-pub record Drawable (setup net words keys prices rings rules : List ℕ) (m : Message) (to : ℕ) : Type 0 where
+pub record Drawable (setup net words keys prices rings rules : List ℕ) (m : Outgoing) (to : ℕ) : Type 0 where
   pub priced : Priced setup prices
   pub types : sizesAt setup .types ≤ mostTypes
   pub keysSize : length keys ≡ sizesAt setup .tills * sizesAt setup .tills * keyWidth

@@ -23,8 +23,8 @@ use Rattle.spec_network.specs.Limits.{rateOf}
 use Rattle.spec_network.specs.Tables.{cell, live, sizesAt, tillForm, blocksAt}
 use Rattle.spec_network.specs.Real.{chance, faultKeyOf, idOf, openingAt}
 use Rattle.spec_network.specs.Accept as accept
-use Rattle.spec_network.specs.Accept.{Drawn, drawn, Timed, duplicateOf, replayOf, carriedOf, deduplicated, partition, loss, fault, sent, classOf}
-use Rattle.call_offer.specs.declared.Message.{Message}
+use Rattle.spec_network.specs.Accept.{Drawn, drawn, Timed, duplicateOf, replayOf, carriedOf, deduplicated, partition, loss, fault, sent, fateOf}
+use Rattle.call_offer.specs.declared.Outgoing.{Outgoing}
 use Rattle.call_offer.specs.declared.Replay.{Replay}
 use Rattle.call_offer.specs.declared.Echoes.{Echoes}
 use Rattle.call_offer.specs.declared.Sending.{Sending}
@@ -33,8 +33,8 @@ use Rattle.call_offer.specs.declared.Offer.{Offer}
 use Rattle.call_offer.specs.declared.Offer.the-variants.{Deduplicated, Partition, Loss, Fault, Sent}
 
 -- the message as `Accept` has it
-abbrev pub told : Message → accept.Message
-told m = record { from = m .from; now = m .now; kind = m .kind; class = m .class; scope = m .scope; wire = m .wire; id = m .id; tag = m .tag }
+abbrev pub asMessage : Outgoing → accept.Outgoing
+asMessage m = record { from = m .from; now = m .now; kind = m .kind; class = m .class; scope = m .scope; wire = m .wire; id = m .id; tag = m .tag }
 
 -- ---- What the tables say of a till
 
@@ -86,20 +86,20 @@ pub record Replays (d : Draw (List accept.Echoed)) (c : Cursor) (r : Replay) : T
   pub short : r .old .wire ≤ longestWire
 
 -- an echo of the message, and one of the ring's
-abbrev pub doubled : accept.Message → (latency : ℕ) → Timed
+abbrev pub doubled : accept.Outgoing → (latency : ℕ) → Timed
 doubled m latency = record { what = duplicateOf (carriedOf m); latency = latency }
 
 abbrev pub replayedAs : Carried → (latency : ℕ) → Timed
 replayedAs old latency = record { what = replayOf old; latency = latency }
 
 -- the echoes, duplicate first
-abbrev pub echoesIn : accept.Message → Echoes → List Timed
+abbrev pub echoesIn : accept.Outgoing → Echoes → List Timed
 echoesIn m e = cond (e .duplicate .some) (doubled m (e .duplicate .latency) ∷ []) [] ++ cond (e .replay .some) (replayedAs (e .old) (e .replay .latency) ∷ []) []
 
 abbrev pub noEchoes : ℕ → Echoes
 noEchoes words = record { duplicate = record { some = false; latency = 0 }; replay = record { some = false; latency = 0 }; old = none; words = words }
 
-pub record Echoed (m : accept.Message) (t : ℕ) (d : accept.Echoes) (e : Echoes) : Type 0 where
+pub record Echoed (m : accept.Outgoing) (t : ℕ) (d : accept.Echoes) (e : Echoes) : Type 0 where
   pub all : d .all ≡ echoesIn m e
   pub words : d .words ≡ e .words
   pub first : e .duplicate .latency ≤ longest
@@ -111,7 +111,7 @@ decisionIn v = record { drops = v .drops; place = v .place; words = v .words }
 
 -- ---- The offer
 
-pub record Sends (m : accept.Message) (t : ℕ) (d : Drawn) (x : Sending) : Type 0 where
+pub record Sends (m : accept.Outgoing) (t : ℕ) (d : Drawn) (x : Sending) : Type 0 where
   pub latency : d .latency .value ≡ x .latency
   pub passed : d .verdict .drops ≡ false
   pub words : d .verdict .words ≡ x .fault
@@ -119,21 +119,21 @@ pub record Sends (m : accept.Message) (t : ℕ) (d : Drawn) (x : Sending) : Type
   pub below : x .latency ≤ longest
 
 -- the first of the five that fits, and what of the draws it leaves to be written
-unfoldable pub Answers : Opening → accept.Message → Live → ℕ → Offer → Type 0
-Answers o m s t Deduplicated = classOf o m s t ≡ deduplicated
-Answers o m s t Partition = classOf o m s t ≡ partition
-Answers o m s t (Loss n) = (classOf o m s t ≡ loss) × (drawn o m t s .loss .words ≡ n)
-Answers o m s t (Fault f) = (classOf o m s t ≡ fault) × (drawn o m t s .latency .words ≡ f .words) × (drawn o m t s .verdict ≡ record { drops = true; place = f .place; words = f .fault })
-Answers o m s t (Sent x) = (classOf o m s t ≡ sent) × Sends m t (drawn o m t s) x
+unfoldable pub Answers : Opening → accept.Outgoing → Live → ℕ → Offer → Type 0
+Answers o m s t Deduplicated = fateOf o m s t ≡ deduplicated
+Answers o m s t Partition = fateOf o m s t ≡ partition
+Answers o m s t (Loss n) = (fateOf o m s t ≡ loss) × (drawn o m t s .loss .words ≡ n)
+Answers o m s t (Fault f) = (fateOf o m s t ≡ fault) × (drawn o m t s .latency .words ≡ f .words) × (drawn o m t s .verdict ≡ record { drops = true; place = f .place; words = f .fault })
+Answers o m s t (Sent x) = (fateOf o m s t ≡ sent) × Sends m t (drawn o m t s) x
 
 -- so it is for a recipient that no mark and no partition stops, whatever the tables hold that are not lent
-unfoldable pub Draws : (setup net words keys prices rings rules : List ℕ) → Message → ℕ → Offer → Type 0
+unfoldable pub Draws : (setup net words keys prices rings rules : List ℕ) → Outgoing → ℕ → Offer → Type 0
 Draws setup net words keys prices rings rules m t r =
     (names tills seen waiting blocks log : List ℕ) → let T = tablesOf setup net names tills words keys prices seen waiting rings rules blocks log in
     let s = live (sizesAt setup) T in
-    marked s t (m .id) ≡ false → stopped s (m .from) t (m .now) ≡ false → Answers (openingAt T) (told m) s t r
+    marked s t (m .id) ≡ false → stopped s (m .from) t (m .now) ≡ false → Answers (openingAt T) (asMessage m) s t r
 
 -- so it is whatever the tables hold that are not lent
-unfoldable pub Offers : (setup net tills words keys prices seen rings rules blocks : List ℕ) → Message → ℕ → Offer → Type 0
+unfoldable pub Offers : (setup net tills words keys prices seen rings rules blocks : List ℕ) → Outgoing → ℕ → Offer → Type 0
 Offers setup net tills words keys prices seen rings rules blocks m t r =
-    (names waiting log : List ℕ) → let T = tablesOf setup net names tills words keys prices seen waiting rings rules blocks log in Answers (openingAt T) (told m) (live (sizesAt setup) T) t r
+    (names waiting log : List ℕ) → let T = tablesOf setup net names tills words keys prices seen waiting rings rules blocks log in Answers (openingAt T) (asMessage m) (live (sizesAt setup) T) t r

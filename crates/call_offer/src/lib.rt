@@ -17,14 +17,14 @@ ghost use Rattle.fault_decide.specs.Decide.{decideOf};
 ghost use Rattle.spec_network.specs.Real.{faultKeyOf};
 ghost use Rattle.spec_network.specs.Tables.{cell, sizesAt, settingsAt, tillForm, idsStart, setupWidth, blocksAt, netWidth, rulesAt, faultWordsAt};
 ghost use Rattle.call_offer.specs.Needed.{Fixed, Ranged, RingsHeld, SeenHeld, State, Rulable, Drawable};
-ghost use Rattle.call_offer.specs.Offering.{told, upAt, selectsAt, stoppedAt, echoingAt, keyed, DelayedIf, Replays, noEchoes, Echoed, decisionIn, Draws, Offers};
+ghost use Rattle.call_offer.specs.Offering.{asMessage, upAt, selectsAt, stoppedAt, echoingAt, keyed, DelayedIf, Replays, noEchoes, Echoed, decisionIn, Draws, Offers};
 use link_latency::Sample;
 use math_time::Time;
 use rand_streams::Cursor;
 use table_rings::Entry;
 
 // An entry with its id and its wire length.
-pub struct Message {
+pub struct Outgoing {
     pub from: u64,
     pub now: u64,
     pub kind: u64,
@@ -164,9 +164,9 @@ fn no_replay(next: Cursor) -> Replay
 }
 
 // The replay draw, then the place in the ring, which is drawn only after a hit on a ring that isn't empty.
-fn replayed(setup: &[u64], rings: &[u64], m: Message, to: usize, c: Cursor) -> Replay
+fn replayed(setup: &[u64], rings: &[u64], m: Outgoing, to: usize, c: Cursor) -> Replay
     requires { ⌜ (length (now setup) ≡ setupWidth) × RingsHeld (sizesAt (now setup)) (now rings) × Ranged (now setup) m × (sizesAt (now setup) .types ≤ mostTypes) × (c .count + 3 < 2 ^ 63) × Holds c ⌝ }
-    ensures { λ r. ⌜ ((prices : List ℕ) → Replays (replayed (keyed (settingsAt (now (setup .entry))) prices (c .key)) (told m) to (entries (ringsOf (sizesAt (now (setup .entry)))) (now (rings .entry)) (numberOf (m .kind) (m .scope))) (c .count)) c r) ⌝ }
+    ensures { λ r. ⌜ ((prices : List ℕ) → Replays (replayed (keyed (settingsAt (now (setup .entry))) prices (c .key)) (asMessage m) to (entries (ringsOf (sizesAt (now (setup .entry)))) (now (rings .entry)) (numberOf (m .kind) (m .scope))) (c .count)) c r) ⌝ }
 {
     let h = link_draws::chance(setup, ask_tables::REPLAY, c);
     let next = h.next;
@@ -237,12 +237,12 @@ fn draw_echoes(
     setup: &[u64],
     prices: &[u64],
     rings: &[u64],
-    m: Message,
+    m: Outgoing,
     to: usize,
     c: Cursor,
 ) -> Echoes
     requires { ⌜ Sent (now setup) (now prices) (m .from) to (m .wire) × RingsHeld (sizesAt (now setup)) (now rings) × Ranged (now setup) m × (sizesAt (now setup) .types ≤ mostTypes) × (c .count + 32 < 2 ^ 63) × Holds c ⌝ }
-    ensures { λ r. ⌜ Echoed (told m) to (echoesOf (keyed (settingsAt (now (setup .entry))) (now (prices .entry)) (c .key)) (told m) to (entries (ringsOf (sizesAt (now (setup .entry)))) (now (rings .entry)) (numberOf (m .kind) (m .scope))) (c .count)) r ⌝ }
+    ensures { λ r. ⌜ Echoed (asMessage m) to (echoesOf (keyed (settingsAt (now (setup .entry))) (now (prices .entry)) (c .key)) (asMessage m) to (entries (ringsOf (sizesAt (now (setup .entry)))) (now (rings .entry)) (numberOf (m .kind) (m .scope))) (c .count)) r ⌝ }
 {
     if !echoing(setup) {
         return no_echoes(c.count);
@@ -274,7 +274,7 @@ fn draw_echoes(
 }
 
 // The rules' decision. Where there are none, the fault stream is not looked at.
-fn decided(setup: &[u64], net: &[u64], rules: &[u64], x: fault_rule::Message) -> Ruling
+fn decided(setup: &[u64], net: &[u64], rules: &[u64], x: fault_rule::MessageContext) -> Ruling
     requires { ⌜ (length (now setup) ≡ setupWidth) × Rulable (now net) (now rules) ⌝ }
     ensures { λ r. ⌜ decisionIn r ≡ decideOf (faultKeyOf (settingsAt (now (setup .entry)) .faultKey)) x (rulesOf (now (rules .entry)) (cell (now (net .entry)) rulesAt)) (cell (now (net .entry)) faultWordsAt) ⌝ }
 {
@@ -306,7 +306,7 @@ fn drawn(
     prices: &[u64],
     rings: &[u64],
     rules: &[u64],
-    m: Message,
+    m: Outgoing,
     to: usize,
 ) -> Offer
     requires { ⌜ Drawable (now setup) (now net) (now words) (now keys) (now prices) (now rings) (now rules) m to ⌝ }
@@ -328,7 +328,7 @@ fn drawn(
     let d = link_draws::delay(setup, prices, from, to, m.wire, first);
     let second = d.next;
     let latency = d.latency;
-    let x = fault_rule::Message {
+    let x = fault_rule::MessageContext {
         kind: m.kind,
         from: m.from,
         to: to as u64,
@@ -363,7 +363,7 @@ pub fn consider(
     rings: &[u64],
     rules: &[u64],
     blocks: &[u64],
-    m: Message,
+    m: Outgoing,
     to: usize,
 ) -> Offer
     requires { ⌜ Fixed (now setup) (now tills) (now keys) (now prices) (now blocks) × State (now setup) (now net) (now words) (now seen) (now rings) (now rules) × Ranged (now setup) m × (to < sizesAt (now setup) .tills) × (cell (now words) (link (m .from) to) < mostWords) ⌝ }

@@ -31,7 +31,7 @@ pub fn write_keys(keys: &mut [u32], seed: u64, n: u64)
     let mut i: u64 = 0;
     while i < pairs {
         let key = rand_streams::link_key(seed, (i / n) as u32, (i % n) as u32);
-        put_key(keys, (i * ask_tables::KEY_WIDTH) as usize, key);
+        put_key(keys, (i * ask_tables::LINK_KEY_WIDTH) as usize, key);
         i += 1;
     }
 }

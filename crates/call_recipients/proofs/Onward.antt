@@ -18,25 +18,25 @@ use Rattle.spec_network.specs.Opening.{Opening, Sizes, link, longestWire, mostW
 use Rattle.spec_network.specs.Live.{Live, Carried, idsAt, marked, stopped, ringsOf}
 use Rattle.spec_network.specs.Tables.{cell, Tables, live, sizesAt, idsStart, waitingAt, sequenceAt, faultWordsAt}
 use Rattle.spec_network.specs.Real.{openingAt}
-use Rattle.spec_network.specs.Accept.{Drawn, drawn, loss, sent, classOf, offered, effect}
+use Rattle.spec_network.specs.Accept.{Drawn, drawn, loss, sent, fateOf, offered, effect}
 use Rattle.spec_network.specs.Writes.{setLog, offeredT}
 use Rattle.spec_book.proofs.Formed.{Formed}
 use Rattle.spec_book.proofs.Fitting.{NearMessage}
 use Rattle.spec_book.proofs.Sound.{sent-unmarked}
 use Rattle.spec_network.specs.Lending.{tablesOf}
-use Rattle.call_offer.specs.declared.Message.{Message}
+use Rattle.call_offer.specs.declared.Outgoing.{Outgoing}
 use Rattle.call_offer.specs.declared.Offer.the-variants.{Sent}
 use Rattle.call_offer.specs.declared.Sending.{Sending}
 use Rattle.call_offer.specs.Needed.{Fixed, Ranged}
-use Rattle.call_offer.specs.Offering.{told, selectsAt, Answers}
+use Rattle.call_offer.specs.Offering.{asMessage, selectsAt, Answers}
 use Rattle.call_offer.proofs.Readings.{marked-is, marks-in, ring-below}
 use Rattle.call_schedule.specs.Writing.{Sendable}
-use Rattle.call_recipients.specs.Turning.{left, Going}
+use Rattle.call_recipients.specs.Turning.{remaining, AdmittedFrom}
 use Rattle.call_recipients.proofs.Simulated.{quiet, quiet-formed, after-formed, after-live}
 use Rattle.call_recipients.proofs.Stepping.{rest-on, rest-off, Step, stepped, decided}
 
-module _ (setup net names tills words keys prices seen waiting rings rules blocks log : List ℕ) (m : Message) (to : ℕ)
-    (F : Fixed setup tills keys prices blocks) (R : Ranged setup m) (G : Going setup net tills words seen waiting rings rules m to) (b : to < sizesAt setup .tills) where
+module _ (setup net names tills words keys prices seen waiting rings rules blocks log : List ℕ) (m : Outgoing) (to : ℕ)
+    (F : Fixed setup tills keys prices blocks) (R : Ranged setup m) (G : AdmittedFrom setup net tills words seen waiting rings rules m to) (b : to < sizesAt setup .tills) where
   abbrev T : Tables
   T = tablesOf setup net names tills words keys prices seen waiting rings rules blocks log
 
@@ -57,20 +57,20 @@ module _ (setup net names tills words keys prices seen waiting rings rules block
   ids-of t h = getD-upTo (z .tills) (λ k. idsOf seen (idsStart z k) (cell seen k)) t [] h
 
   module _ (chosen : q to ≡ true) where
-    more : left setup tills m to ≡ to ∷ left setup tills m (to + 1)
+    more : remaining setup tills m to ≡ to ∷ remaining setup tills m (to + 1)
     more = rest-on q (z .tills) to b chosen
 
-    one-more : length (left setup tills m to) ≡ suc (length (left setup tills m (to + 1)))
+    one-more : length (remaining setup tills m to) ≡ suc (length (remaining setup tills m (to + 1)))
     one-more = ap length more
 
     -- a till that is sent to has a free slot
-    pub free-slot : classOf o (told m) s to ≡ sent → cell seen to < z .seenSlots
+    pub free-slot : fateOf o (asMessage m) s to ≡ sent → cell seen to < z .seenSlots
     free-slot e =
-        let d : Drawn = drawn o (told m) to s in
+        let d : Drawn = drawn o (asMessage m) to s in
         let f : marked s to (m .id) ≡ false = sent-unmarked (marked s to (m .id)) (stopped s (m .from) to (m .now)) (d .loss .value) (d .verdict .drops) e in
         G .free to (omega arith) b chosen (sym (marked-is T to (m .id) b) ∙ f)
 
-    pub can-send : (x : Sending) → Answers o (told m) s to (Sent x) → Sendable setup net words seen waiting rings m to x
+    pub can-send : (x : Sending) → Answers o (asMessage m) s to (Sent x) → Sendable setup net words seen waiting rings m to x
     unfolding Answers
     can-send x a = record {
       setupSize = F .priced .size;
@@ -90,7 +90,7 @@ module _ (setup net names tills words keys prices seen waiting rings rules block
     }
 
     module _ (class : m .class < z .classes) where
-      near : NearMessage z (told m)
+      near : NearMessage z (asMessage m)
       near = record {
         from = lt-ltb (m .from) (z .tills) (R .from);
         kind = lt-ltb (m .kind) (z .types) (R .kind);
@@ -112,30 +112,30 @@ module _ (setup net names tills words keys prices seen waiting rings rules block
         log = quiet-formed z;
       }
 
-      slot : classOf o (told m) s to ≡ sent → length (idsAt s to) < z .seenSlots
+      slot : fateOf o (asMessage m) s to ≡ sent → length (idsAt s to) < z .seenSlots
       slot e = omega (arith, free-slot e, ap length (ids-of to b), length-take (cell seen to) (drop (idsStart z to) seen))
 
       room : cell net waitingAt + 3 ≤ z .waitSlots
       room = omega (arith, G .slots, one-more)
 
       abbrev T′ : Tables
-      T′ = offeredT o (told m) T to
+      T′ = offeredT o (asMessage m) T to
 
-      pub live-after : live z T′ ≡ offered o (told m) s to
-      live-after = after-live o (told m) near T to formed b slot room
+      pub live-after : live z T′ ≡ offered o (asMessage m) s to
+      live-after = after-live o (asMessage m) near T to formed b slot room
 
       F′ : Formed z (setLog T′ (quiet z))
-      F′ = after-formed o (told m) near T to formed b slot room
+      F′ = after-formed o (asMessage m) near T to formed b slot room
 
       abbrev s′ : Live
-      s′ = effect o (told m) (classOf o (told m) s to) s (drawn o (told m) to s) to
+      s′ = effect o (asMessage m) (fateOf o (asMessage m) s to) s (drawn o (asMessage m) to s) to
 
       here : live z T′ ≡ s′
       unfolding offered
       here = live-after
 
-      step : Step o (told m) s s′ to
-      step = stepped o (told m) s to (classOf o (told m) s to)
+      step : Step o (asMessage m) s s′ to
+      step = stepped o (asMessage m) s to (fateOf o (asMessage m) s to)
 
       -- entries as the rings have them
       entry-of : (r k : ℕ) → getD (getD (s .rings) r []) k none .wire ≤ longestWire
@@ -159,7 +159,7 @@ module _ (setup net names tills words keys prices seen waiting rings rules block
           subst (λ (y : Carried). y .wire ≤ longestWire) (sym p) (step .near longestWire (R .wire) entry-of r k)
 
       decisions′ : cell (T′ .net) faultWordsAt ≤ cell net faultWordsAt + 128
-      decisions′ = omega (arith, ap (λ (x : Live). x .engine .words) here, decided T (told m) to (classOf o (told m) s to), G .state .rulesUsed)
+      decisions′ = omega (arith, ap (λ (x : Live). x .engine .words) here, decided T (asMessage m) to (fateOf o (asMessage m) s to), G .state .rulesUsed)
 
       numbers′ : cell (T′ .net) sequenceAt ≤ cell net sequenceAt + 3
       numbers′ = omega (arith, ap (λ (x : Live). x .queue .sequence) here, step .sequence)
@@ -183,7 +183,7 @@ module _ (setup net names tills words keys prices seen waiting rings rules block
           ∙ ap length (other t h n)
           ∙ length-ids seen (idsStart z t) (cell seen t) 0 (omega (arith, G .state .seenHeld .size, G .state .seenHeld .counts t h))
 
-      pub goes-on : Going setup (T′ .net) tills (T′ .words) (T′ .seen) (T′ .waiting) (T′ .rings) (T′ .rules) m (to + 1)
+      pub goes-on : AdmittedFrom setup (T′ .net) tills (T′ .words) (T′ .seen) (T′ .waiting) (T′ .rings) (T′ .rules) m (to + 1)
       goes-on = record {
         state = record {
           netSize = F′ .net .size;
@@ -204,10 +204,10 @@ module _ (setup net names tills words keys prices seen waiting rings rules block
       }
 
   module _ (passed : q to ≡ false) where
-    same-left : left setup tills m to ≡ left setup tills m (to + 1)
+    same-left : remaining setup tills m to ≡ remaining setup tills m (to + 1)
     same-left = rest-off q (z .tills) to b passed
 
-    pub passes-on : Going setup net tills words seen waiting rings rules m (to + 1)
+    pub passes-on : AdmittedFrom setup net tills words seen waiting rings rules m (to + 1)
     passes-on = record {
       state = G .state;
       waitingSize = G .waitingSize;

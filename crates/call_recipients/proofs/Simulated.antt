@@ -15,7 +15,7 @@ use Rattle.table_log.proofs.Draining.{drained-sound}
 use Rattle.spec_network.specs.Opening.{Opening, Sizes, link}
 use Rattle.spec_network.specs.Live.{Live, withLog, idsAt, ringsOf}
 use Rattle.spec_network.specs.Tables.{cell, Tables, live, waitingAt, faultWordsAt}
-use Rattle.spec_network.specs.Accept.{Message, carriedOf, Drawn, drawn, Class, deduplicated, partition, loss, fault, sent, classOf, copies, effect, offered}
+use Rattle.spec_network.specs.Accept.{Message, carriedOf, Drawn, drawn, Fate, deduplicated, partition, loss, fault, sent, fateOf, copies, effect, offered}
 use Rattle.spec_network.specs.Writes.{setLog, setRules, setRings, netT, wordsT, ruledT, marksT, pushT, rememberT, effectT, offeredT}
 use Rattle.spec_book.proofs.Formed.{LogFormed, Formed, Wrote}
 use Rattle.spec_book.proofs.Fitting.{NearMessage}
@@ -51,7 +51,7 @@ module _ (o : Opening) (m : Message) where
   remember-log : (T : Tables) (l : List ℕ) → rememberT o m (setLog T l) ≡ setLog (rememberT o m T) l
   remember-log T l = either (o .draws .echoing) (setRings T (pushed (ringsOf (o .sizes)) (T .rings) (numberOf (m .kind) (m .scope)) (carriedOf m))) T l
 
-  effect-log : (c : Class) (T : Tables) (d : Drawn) (t : ℕ) (l : List ℕ) → effectT o m c (setLog T l) d t ≡ setLog (effectT o m c T d t) l
+  effect-log : (c : Fate) (T : Tables) (d : Drawn) (t : ℕ) (l : List ℕ) → effectT o m c (setLog T l) d t ≡ setLog (effectT o m c T d t) l
   effect-log deduplicated T d t l = refl
   effect-log partition T d t l = refl
   effect-log loss T d t l = refl
@@ -65,7 +65,7 @@ module _ (o : Opening) (m : Message) where
       ∙ ap (rememberT o m) (push-log (o .sizes) cs (marksT (o .sizes) T₁ t ids) l)
       ∙ remember-log (pushT (o .sizes) (marksT (o .sizes) T₁ t ids) cs) l
 
-  effect-with : (c : Class) (s : Live) (d : Drawn) (t : ℕ) (l : Log) → withLog (effect o m c s d t) l ≡ effect o m c (withLog s l) d t
+  effect-with : (c : Fate) (s : Live) (d : Drawn) (t : ℕ) (l : Log) → withLog (effect o m c s d t) l ≡ effect o m c (withLog s l) d t
   effect-with deduplicated s d t l = refl
   effect-with partition s d t l = refl
   effect-with loss s d t l = refl
@@ -74,12 +74,12 @@ module _ (o : Opening) (m : Message) where
 
   -- THE LAW
   module _ (k : NearMessage (o .sizes) m) (T : Tables) (t : ℕ) (f : Formed (o .sizes) (setLog T (quiet (o .sizes)))) (b : t < o .sizes .tills)
-      (slot : classOf o m (live (o .sizes) T) t ≡ sent → length (idsAt (live (o .sizes) T) t) < o .sizes .seenSlots) (room : cell (T .net) waitingAt + 3 ≤ o .sizes .waitSlots) where
+      (slot : fateOf o m (live (o .sizes) T) t ≡ sent → length (idsAt (live (o .sizes) T) t) < o .sizes .seenSlots) (room : cell (T .net) waitingAt + 3 ≤ o .sizes .waitSlots) where
     abbrev s : Live
     s = live (o .sizes) T
 
-    abbrev c : Class
-    c = classOf o m s t
+    abbrev c : Fate
+    c = fateOf o m s t
 
     abbrev d : Drawn
     d = drawn o m t s

@@ -21,7 +21,7 @@ use Rattle.spec_network.specs.Live.{Live, Carried, idsAt}
 use Rattle.spec_network.specs.Tables.{cell, Tables, live, sizesAt, settingsAt, rulesAt}
 use Rattle.spec_network.specs.Real.{drawsOf, faultKeyOf, openingAt}
 use Rattle.spec_network.specs.Layout.{table}
-use Rattle.spec_network.specs.Accept.{Message, Drawn, drawn, context, carriedOf, Class, deduplicated, partition, loss, fault, sent, copies, remembered, effect}
+use Rattle.spec_network.specs.Accept.{Message, Drawn, drawn, context, carriedOf, Fate, deduplicated, partition, loss, fault, sent, copies, remembered, effect}
 use Rattle.spec_book.proofs.Echoing.{drawn-few}
 use Rattle.spec_book.proofs.Fitting.{few-copies, length-insertAll}
 use Rattle.call_recipients.specs.Turning.{rest}
@@ -99,7 +99,7 @@ module _ (o : Opening) (m : Message) (s : Live) (t : ℕ) where
       go true = set-any (λ (l : List Carried). getD l k none .wire ≤ W) [] more (s .rings) at r (h r k) (pushed-each (wires W) none slots (getD (s .rings) at []) (carriedOf m) (h at) w k)
       go false = h r k
 
-  pub stepped : (c : Class) → Step o m s (effect o m c s d t) t
+  pub stepped : (c : Fate) → Step o m s (effect o m c s d t) t
   stepped deduplicated = record { words = λ u h. refl; seen = λ u h. refl; sequence = omega arith; waiting = omega arith; near = λ W w h. h }
   stepped partition = record { words = λ u h. refl; seen = λ u h. refl; sequence = omega arith; waiting = omega arith; near = λ W w h. h }
   stepped loss = record { words = λ u h. other-link u _ h; seen = λ u h. refl; sequence = omega arith; waiting = omega arith; near = λ W w h. h }
@@ -125,7 +125,7 @@ module _ (T : Tables) (m : Message) (t : ℕ) where
       let long : length (held .engine .rules) ≡ cell (T .net) rulesAt = length-rows ruleWidth firstRule (cell (T .net) rulesAt) (T .rules) in
       omega (arith, decide-words (faultKeyOf (settingsAt (T .setup) .faultKey)) (context (openingAt T) m t) (held .engine .rules) (held .engine .words))
 
-  pub decided : (c : Class) → effect (openingAt T) m c held (drawn (openingAt T) m t held) t .engine .words ≤ held .engine .words + 2 * cell (T .net) rulesAt
+  pub decided : (c : Fate) → effect (openingAt T) m c held (drawn (openingAt T) m t held) t .engine .words ≤ held .engine .words + 2 * cell (T .net) rulesAt
   decided deduplicated = omega arith
   decided partition = omega arith
   decided loss = omega arith

@@ -9,24 +9,24 @@ use Rattle.spec_network.specs.Opening.{Opening}
 use Rattle.spec_network.specs.Live.{Live}
 use Rattle.spec_network.specs.Tables.{Tables, live, sizesAt}
 use Rattle.spec_network.specs.Real.{openingAt}
-use Rattle.spec_network.specs.Accept.{Class, deduplicated, partition, loss, fault, sent, classOf, offered, Counts, booked, tally, noCounts, add, isClass, total}
+use Rattle.spec_network.specs.Accept.{Fate, deduplicated, partition, loss, fault, sent, fateOf, offered, Counts, booked, tally, noCounts, add, isFate, total}
 use Rattle.spec_network.specs.Writes.{offeredT, acceptT}
 use Rattle.spec_network.specs.Lending.{tablesOf}
-use Rattle.call_offer.specs.declared.Message.{Message}
+use Rattle.call_offer.specs.declared.Outgoing.{Outgoing}
 use Rattle.call_offer.specs.declared.Offer.{Offer}
 use Rattle.call_offer.specs.Needed.{Fixed, Ranged}
-use Rattle.call_offer.specs.Offering.{told, selectsAt, Answers, Offers}
+use Rattle.call_offer.specs.Offering.{asMessage, selectsAt, Answers, Offers}
 use Rattle.call_schedule.specs.declared.Counts as counts
 use Rattle.call_schedule.specs.Writing.{Applicable, Applies, classIn, countsOf}
 use Rattle.call_schedule.proofs.Applying.{answers-write}
-use Rattle.call_recipients.specs.Turning.{left, Going, Turned, Served}
+use Rattle.call_recipients.specs.Turning.{remaining, AdmittedFrom, Turned, Served}
 use Rattle.call_recipients.proofs.Stepping.{rest-on, rest-off, rest-end}
 use Rattle.call_recipients.proofs.Onward.{can-send, live-after, goes-on, passes-on}
 
 -- ---- One turn
 
-module _ (setup tills keys prices blocks net words seen waiting rings rules : List ℕ) (m : Message) (to : ℕ) where
-  pub can-apply : Fixed setup tills keys prices blocks → Ranged setup m → Going setup net tills words seen waiting rings rules m to → to < sizesAt setup .tills → selectsAt tills (m .scope) (m .from) to ≡ true
+module _ (setup tills keys prices blocks net words seen waiting rings rules : List ℕ) (m : Outgoing) (to : ℕ) where
+  pub can-apply : Fixed setup tills keys prices blocks → Ranged setup m → AdmittedFrom setup net tills words seen waiting rings rules m to → to < sizesAt setup .tills → selectsAt tills (m .scope) (m .from) to ≡ true
       → (r : Offer) → Offers setup net tills words keys prices seen rings rules blocks m to r → Applicable setup net words seen waiting rings m to r
   unfolding Offers
   can-apply F R G b e r a = record {
@@ -36,15 +36,15 @@ module _ (setup tills keys prices blocks net words seen waiting rings rules : Li
     wordsSize = G .state .wordsSize;
     sendable = λ x h.
         let T = tablesOf setup net [] tills words keys prices seen waiting rings rules blocks [] in
-        can-send setup net [] tills words keys prices seen waiting rings rules blocks [] m to F R G b e x (subst (Answers (openingAt T) (told m) (live (sizesAt setup) T) to) h (a [] waiting []));
+        can-send setup net [] tills words keys prices seen waiting rings rules blocks [] m to F R G b e x (subst (Answers (openingAt T) (asMessage m) (live (sizesAt setup) T) to) h (a [] waiting []));
   }
 
   pub passed-by : (c : counts.Counts) → selectsAt tills (m .scope) (m .from) to ≡ false → Turned setup tills keys prices blocks net words seen waiting rings rules net words seen waiting rings rules m to c c
   unfolding Turned
   passed-by c e = λ names log.
       let T = tablesOf setup net names tills words keys prices seen waiting rings rules blocks log in (
-        ap (λ (b : Bool). cond b (offeredT (openingAt T) (told m) T to) T) (sym e),
-        ap (λ (b : Bool). cond b (add (classOf (openingAt T) (told m) (live (sizesAt setup) T) to) (countsOf c)) (countsOf c)) (sym e),
+        ap (λ (b : Bool). cond b (offeredT (openingAt T) (asMessage m) T to) T) (sym e),
+        ap (λ (b : Bool). cond b (add (fateOf (openingAt T) (asMessage m) (live (sizesAt setup) T) to) (countsOf c)) (countsOf c)) (sym e),
       )
 
   pub taken-up : (net′ words′ seen′ waiting′ rings′ rules′ : List ℕ) (c n : counts.Counts) (r : Offer) → selectsAt tills (m .scope) (m .from) to ≡ true
@@ -53,9 +53,9 @@ module _ (setup tills keys prices blocks net words seen waiting rings rules : Li
   unfolding Turned Offers Applies
   taken-up net′ words′ seen′ waiting′ rings′ rules′ c n r e a w k = λ names log.
       let T = tablesOf setup net names tills words keys prices seen waiting rings rules blocks log in
-      let both = answers-write (openingAt T) (told m) T to r (a names waiting log) in (
-        w names tills keys prices blocks log ∙ both .1 ∙ ap (λ (b : Bool). cond b (offeredT (openingAt T) (told m) T to) T) (sym e),
-        k ∙ ap (λ (j : Class). add j (countsOf c)) (both .0) ∙ ap (λ (b : Bool). cond b (add (classOf (openingAt T) (told m) (live (sizesAt setup) T) to) (countsOf c)) (countsOf c)) (sym e),
+      let both = answers-write (openingAt T) (asMessage m) T to r (a names waiting log) in (
+        w names tills keys prices blocks log ∙ both .1 ∙ ap (λ (b : Bool). cond b (offeredT (openingAt T) (asMessage m) T to) T) (sym e),
+        k ∙ ap (λ (j : Fate). add j (countsOf c)) (both .0) ∙ ap (λ (b : Bool). cond b (add (fateOf (openingAt T) (asMessage m) (live (sizesAt setup) T) to) (countsOf c)) (countsOf c)) (sym e),
       )
 
 -- ---- All of them: what is done, and what is left
@@ -102,54 +102,54 @@ none-plus a = (λ j. record { sent = p1 j; deduplicated = p2 j; partition = p3 j
 swap : (x y z : ℕ) → x + y + z ≡ y + (x + z)
 swap x y z = omega arith
 
-plus-add : (k : Class) (a b : Counts) → plus (add k a) b ≡ plus a (add k b)
+plus-add : (k : Fate) (a b : Counts) → plus (add k a) b ≡ plus a (add k b)
 plus-add k a b = (λ j. record {
-  sent = swap (bit (isClass k sent)) (a .sent) (b .sent) j;
-  deduplicated = swap (bit (isClass k deduplicated)) (a .deduplicated) (b .deduplicated) j;
-  partition = swap (bit (isClass k partition)) (a .partition) (b .partition) j;
-  loss = swap (bit (isClass k loss)) (a .loss) (b .loss) j;
-  fault = swap (bit (isClass k fault)) (a .fault) (b .fault) j;
+  sent = swap (bit (isFate k sent)) (a .sent) (b .sent) j;
+  deduplicated = swap (bit (isFate k deduplicated)) (a .deduplicated) (b .deduplicated) j;
+  partition = swap (bit (isFate k partition)) (a .partition) (b .partition) j;
+  loss = swap (bit (isFate k loss)) (a .loss) (b .loss) j;
+  fault = swap (bit (isFate k fault)) (a .fault) (b .fault) j;
 })
 
-total-add : (k : Class) (a : Counts) → total (add k a) ≡ total a + 1
+total-add : (k : Fate) (a : Counts) → total (add k a) ≡ total a + 1
 total-add deduplicated a = omega arith
 total-add partition a = omega arith
 total-add loss a = omega arith
 total-add fault a = omega arith
 total-add sent a = omega arith
 
-module _ (setup tills keys prices blocks net₀ words₀ seen₀ waiting₀ rings₀ rules₀ : List ℕ) (m : Message) where
+module _ (setup tills keys prices blocks net₀ words₀ seen₀ waiting₀ rings₀ rules₀ : List ℕ) (m : Outgoing) where
   -- what was done, with what is left, is all of it
   unfoldable pub Done : (net words seen waiting rings rules : List ℕ) (c : counts.Counts) (to : ℕ) → Type 0
   Done net words seen waiting rings rules c to =
       (names log : List ℕ) → let T₀ = tablesOf setup net₀ names tills words₀ keys prices seen₀ waiting₀ rings₀ rules₀ blocks log in
       let T = tablesOf setup net names tills words keys prices seen waiting rings rules blocks log in
-      (acceptT (openingAt T₀) (told m) T (left setup tills m to) ≡ acceptT (openingAt T₀) (told m) T₀ (left setup tills m 0))
-      × (plus (countsOf c) (tally (booked (openingAt T₀) (told m) (live (sizesAt setup) T) (left setup tills m to))) ≡ tally (booked (openingAt T₀) (told m) (live (sizesAt setup) T₀) (left setup tills m 0)))
+      (acceptT (openingAt T₀) (asMessage m) T (remaining setup tills m to) ≡ acceptT (openingAt T₀) (asMessage m) T₀ (remaining setup tills m 0))
+      × (plus (countsOf c) (tally (booked (openingAt T₀) (asMessage m) (live (sizesAt setup) T) (remaining setup tills m to))) ≡ tally (booked (openingAt T₀) (asMessage m) (live (sizesAt setup) T₀) (remaining setup tills m 0)))
 
   pub done-none : (c : counts.Counts) → countsOf c ≡ noCounts → Done net₀ words₀ seen₀ waiting₀ rings₀ rules₀ c 0
   unfolding Done
   done-none c e = λ names log.
       let T₀ = tablesOf setup net₀ names tills words₀ keys prices seen₀ waiting₀ rings₀ rules₀ blocks log in
-      let t = tally (booked (openingAt T₀) (told m) (live (sizesAt setup) T₀) (left setup tills m 0)) in
+      let t = tally (booked (openingAt T₀) (asMessage m) (live (sizesAt setup) T₀) (remaining setup tills m 0)) in
       (refl, ap (λ (a : Counts). plus a t) e ∙ none-plus t)
 
   module _ (net words seen waiting rings rules net′ words′ seen′ waiting′ rings′ rules′ : List ℕ) (c n : counts.Counts) (to : ℕ)
-      (F : Fixed setup tills keys prices blocks) (R : Ranged setup m) (class : m .class < sizesAt setup .classes) (G : Going setup net tills words seen waiting rings rules m to) (b : to < sizesAt setup .tills)
+      (F : Fixed setup tills keys prices blocks) (R : Ranged setup m) (class : m .class < sizesAt setup .classes) (G : AdmittedFrom setup net tills words seen waiting rings rules m to) (b : to < sizesAt setup .tills)
       (turned : Turned setup tills keys prices blocks net words seen waiting rings rules net′ words′ seen′ waiting′ rings′ rules′ m to c n) where
-    pub going-more : Going setup net′ tills words′ seen′ waiting′ rings′ rules′ m (to + 1)
+    pub going-more : AdmittedFrom setup net′ tills words′ seen′ waiting′ rings′ rules′ m (to + 1)
     unfolding Turned
     going-more = go (selectsAt tills (m .scope) (m .from) to) refl (turned [] [] .0)
       where
-        go : (v : Bool) → selectsAt tills (m .scope) (m .from) to ≡ v → tablesOf setup net′ [] tills words′ keys prices seen′ waiting′ rings′ rules′ blocks [] ≡ cond v (offeredT (openingAt (tablesOf setup net [] tills words keys prices seen waiting rings rules blocks [])) (told m) (tablesOf setup net [] tills words keys prices seen waiting rings rules blocks []) to) (tablesOf setup net [] tills words keys prices seen waiting rings rules blocks []) → Going setup net′ tills words′ seen′ waiting′ rings′ rules′ m (to + 1)
-        go true e q = subst (λ (x : Tables). Going setup (x .net) tills (x .words) (x .seen) (x .waiting) (x .rings) (x .rules) m (to + 1)) (sym q) (goes-on setup net [] tills words keys prices seen waiting rings rules blocks [] m to F R G b e class)
-        go false e q = subst (λ (x : Tables). Going setup (x .net) tills (x .words) (x .seen) (x .waiting) (x .rings) (x .rules) m (to + 1)) (sym q) (passes-on setup net [] tills words keys prices seen waiting rings rules blocks [] m to F R G b e)
+        go : (v : Bool) → selectsAt tills (m .scope) (m .from) to ≡ v → tablesOf setup net′ [] tills words′ keys prices seen′ waiting′ rings′ rules′ blocks [] ≡ cond v (offeredT (openingAt (tablesOf setup net [] tills words keys prices seen waiting rings rules blocks [])) (asMessage m) (tablesOf setup net [] tills words keys prices seen waiting rings rules blocks []) to) (tablesOf setup net [] tills words keys prices seen waiting rings rules blocks []) → AdmittedFrom setup net′ tills words′ seen′ waiting′ rings′ rules′ m (to + 1)
+        go true e q = subst (λ (x : Tables). AdmittedFrom setup (x .net) tills (x .words) (x .seen) (x .waiting) (x .rings) (x .rules) m (to + 1)) (sym q) (goes-on setup net [] tills words keys prices seen waiting rings rules blocks [] m to F R G b e class)
+        go false e q = subst (λ (x : Tables). AdmittedFrom setup (x .net) tills (x .words) (x .seen) (x .waiting) (x .rings) (x .rules) m (to + 1)) (sym q) (passes-on setup net [] tills words keys prices seen waiting rings rules blocks [] m to F R G b e)
 
     pub total-more : total (countsOf c) ≤ to → total (countsOf n) ≤ to + 1
     unfolding Turned
-    total-more h = go (selectsAt tills (m .scope) (m .from) to) (classOf (openingAt (tablesOf setup net [] tills words keys prices seen waiting rings rules blocks [])) (told m) (live (sizesAt setup) (tablesOf setup net [] tills words keys prices seen waiting rings rules blocks [])) to) (turned [] [] .1)
+    total-more h = go (selectsAt tills (m .scope) (m .from) to) (fateOf (openingAt (tablesOf setup net [] tills words keys prices seen waiting rings rules blocks [])) (asMessage m) (live (sizesAt setup) (tablesOf setup net [] tills words keys prices seen waiting rings rules blocks [])) to) (turned [] [] .1)
       where
-        go : (v : Bool) (k : Class) → countsOf n ≡ cond v (add k (countsOf c)) (countsOf c) → total (countsOf n) ≤ to + 1
+        go : (v : Bool) (k : Fate) → countsOf n ≡ cond v (add k (countsOf c)) (countsOf c) → total (countsOf n) ≤ to + 1
         go true k q = omega (arith, ap total q, total-add k (countsOf c))
         go false k q = omega (arith, ap total q)
 
@@ -158,29 +158,29 @@ module _ (setup tills keys prices blocks net₀ words₀ seen₀ waiting₀ ring
     done-more d = λ names log. go names log (selectsAt tills (m .scope) (m .from) to) refl (turned names log .0) (turned names log .1)
       where
         go : (names log : List ℕ) (v : Bool) → selectsAt tills (m .scope) (m .from) to ≡ v
-            → tablesOf setup net′ names tills words′ keys prices seen′ waiting′ rings′ rules′ blocks log ≡ cond v (offeredT (openingAt (tablesOf setup net names tills words keys prices seen waiting rings rules blocks log)) (told m) (tablesOf setup net names tills words keys prices seen waiting rings rules blocks log) to) (tablesOf setup net names tills words keys prices seen waiting rings rules blocks log)
-            → countsOf n ≡ cond v (add (classOf (openingAt (tablesOf setup net names tills words keys prices seen waiting rings rules blocks log)) (told m) (live (sizesAt setup) (tablesOf setup net names tills words keys prices seen waiting rings rules blocks log)) to) (countsOf c)) (countsOf c)
-            → (acceptT (openingAt (tablesOf setup net₀ names tills words₀ keys prices seen₀ waiting₀ rings₀ rules₀ blocks log)) (told m) (tablesOf setup net′ names tills words′ keys prices seen′ waiting′ rings′ rules′ blocks log) (left setup tills m (to + 1)) ≡ acceptT (openingAt (tablesOf setup net₀ names tills words₀ keys prices seen₀ waiting₀ rings₀ rules₀ blocks log)) (told m) (tablesOf setup net₀ names tills words₀ keys prices seen₀ waiting₀ rings₀ rules₀ blocks log) (left setup tills m 0))
-            × (plus (countsOf n) (tally (booked (openingAt (tablesOf setup net₀ names tills words₀ keys prices seen₀ waiting₀ rings₀ rules₀ blocks log)) (told m) (live (sizesAt setup) (tablesOf setup net′ names tills words′ keys prices seen′ waiting′ rings′ rules′ blocks log)) (left setup tills m (to + 1)))) ≡ tally (booked (openingAt (tablesOf setup net₀ names tills words₀ keys prices seen₀ waiting₀ rings₀ rules₀ blocks log)) (told m) (live (sizesAt setup) (tablesOf setup net₀ names tills words₀ keys prices seen₀ waiting₀ rings₀ rules₀ blocks log)) (left setup tills m 0)))
+            → tablesOf setup net′ names tills words′ keys prices seen′ waiting′ rings′ rules′ blocks log ≡ cond v (offeredT (openingAt (tablesOf setup net names tills words keys prices seen waiting rings rules blocks log)) (asMessage m) (tablesOf setup net names tills words keys prices seen waiting rings rules blocks log) to) (tablesOf setup net names tills words keys prices seen waiting rings rules blocks log)
+            → countsOf n ≡ cond v (add (fateOf (openingAt (tablesOf setup net names tills words keys prices seen waiting rings rules blocks log)) (asMessage m) (live (sizesAt setup) (tablesOf setup net names tills words keys prices seen waiting rings rules blocks log)) to) (countsOf c)) (countsOf c)
+            → (acceptT (openingAt (tablesOf setup net₀ names tills words₀ keys prices seen₀ waiting₀ rings₀ rules₀ blocks log)) (asMessage m) (tablesOf setup net′ names tills words′ keys prices seen′ waiting′ rings′ rules′ blocks log) (remaining setup tills m (to + 1)) ≡ acceptT (openingAt (tablesOf setup net₀ names tills words₀ keys prices seen₀ waiting₀ rings₀ rules₀ blocks log)) (asMessage m) (tablesOf setup net₀ names tills words₀ keys prices seen₀ waiting₀ rings₀ rules₀ blocks log) (remaining setup tills m 0))
+            × (plus (countsOf n) (tally (booked (openingAt (tablesOf setup net₀ names tills words₀ keys prices seen₀ waiting₀ rings₀ rules₀ blocks log)) (asMessage m) (live (sizesAt setup) (tablesOf setup net′ names tills words′ keys prices seen′ waiting′ rings′ rules′ blocks log)) (remaining setup tills m (to + 1)))) ≡ tally (booked (openingAt (tablesOf setup net₀ names tills words₀ keys prices seen₀ waiting₀ rings₀ rules₀ blocks log)) (asMessage m) (live (sizesAt setup) (tablesOf setup net₀ names tills words₀ keys prices seen₀ waiting₀ rings₀ rules₀ blocks log)) (remaining setup tills m 0)))
         go names log true e q k =
             let T = tablesOf setup net names tills words keys prices seen waiting rings rules blocks log in
             let o : Opening = openingAt T in
             let s : Live = live (sizesAt setup) T in
-            let ts : List ℕ = left setup tills m (to + 1) in
-            let r : left setup tills m to ≡ to ∷ ts = rest-on (λ t. selectsAt tills (m .scope) (m .from) t) (sizesAt setup .tills) to b e in
-            let p : live (sizesAt setup) (offeredT o (told m) T to) ≡ offered o (told m) s to = live-after setup net names tills words keys prices seen waiting rings rules blocks log m to F R G b e class in (
-              ap (λ (x : Tables). acceptT o (told m) x ts) q ∙ ap (acceptT o (told m) T) (sym r) ∙ d names log .0,
-              (λ j. plus (k j) (tally (booked o (told m) ((ap (live (sizesAt setup)) q ∙ p) j) ts)))
-                  ∙ plus-add (classOf o (told m) s to) (countsOf c) (tally (booked o (told m) (offered o (told m) s to) ts))
-                  ∙ ap (λ (l : List ℕ). plus (countsOf c) (tally (booked o (told m) s l))) (sym r)
+            let ts : List ℕ = remaining setup tills m (to + 1) in
+            let r : remaining setup tills m to ≡ to ∷ ts = rest-on (λ t. selectsAt tills (m .scope) (m .from) t) (sizesAt setup .tills) to b e in
+            let p : live (sizesAt setup) (offeredT o (asMessage m) T to) ≡ offered o (asMessage m) s to = live-after setup net names tills words keys prices seen waiting rings rules blocks log m to F R G b e class in (
+              ap (λ (x : Tables). acceptT o (asMessage m) x ts) q ∙ ap (acceptT o (asMessage m) T) (sym r) ∙ d names log .0,
+              (λ j. plus (k j) (tally (booked o (asMessage m) ((ap (live (sizesAt setup)) q ∙ p) j) ts)))
+                  ∙ plus-add (fateOf o (asMessage m) s to) (countsOf c) (tally (booked o (asMessage m) (offered o (asMessage m) s to) ts))
+                  ∙ ap (λ (l : List ℕ). plus (countsOf c) (tally (booked o (asMessage m) s l))) (sym r)
                   ∙ d names log .1,
             )
         go names log false e q k =
             let T = tablesOf setup net names tills words keys prices seen waiting rings rules blocks log in
             let o : Opening = openingAt T in
-            let r : left setup tills m to ≡ left setup tills m (to + 1) = rest-off (λ t. selectsAt tills (m .scope) (m .from) t) (sizesAt setup .tills) to b e in (
-              (λ j. acceptT o (told m) (q j) (sym r j)) ∙ d names log .0,
-              (λ j. plus (k j) (tally (booked o (told m) (live (sizesAt setup) (q j)) (sym r j)))) ∙ d names log .1,
+            let r : remaining setup tills m to ≡ remaining setup tills m (to + 1) = rest-off (λ t. selectsAt tills (m .scope) (m .from) t) (sizesAt setup .tills) to b e in (
+              (λ j. acceptT o (asMessage m) (q j) (sym r j)) ∙ d names log .0,
+              (λ j. plus (k j) (tally (booked o (asMessage m) (live (sizesAt setup) (q j)) (sym r j)))) ∙ d names log .1,
             )
 
   pub done-all : (net words seen waiting rings rules : List ℕ) (c : counts.Counts) (to : ℕ) → sizesAt setup .tills ≤ to → Done net words seen waiting rings rules c to
@@ -189,7 +189,7 @@ module _ (setup tills keys prices blocks net₀ words₀ seen₀ waiting₀ ring
   done-all net words seen waiting rings rules c to h d = λ names log.
       let T₀ = tablesOf setup net₀ names tills words₀ keys prices seen₀ waiting₀ rings₀ rules₀ blocks log in
       let T = tablesOf setup net names tills words keys prices seen waiting rings rules blocks log in
-      let r : left setup tills m to ≡ [] = rest-end (λ t. selectsAt tills (m .scope) (m .from) t) (sizesAt setup .tills) to h in (
-        ap (acceptT (openingAt T₀) (told m) T) (sym r) ∙ d names log .0,
-        sym (plus-none (countsOf c)) ∙ ap (λ (l : List ℕ). plus (countsOf c) (tally (booked (openingAt T₀) (told m) (live (sizesAt setup) T) l))) (sym r) ∙ d names log .1,
+      let r : remaining setup tills m to ≡ [] = rest-end (λ t. selectsAt tills (m .scope) (m .from) t) (sizesAt setup .tills) to h in (
+        ap (acceptT (openingAt T₀) (asMessage m) T) (sym r) ∙ d names log .0,
+        sym (plus-none (countsOf c)) ∙ ap (λ (l : List ℕ). plus (countsOf c) (tally (booked (openingAt T₀) (asMessage m) (live (sizesAt setup) T) l))) (sym r) ∙ d names log .1,
       )

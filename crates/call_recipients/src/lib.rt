@@ -4,8 +4,8 @@ ghost use Rattle.spec_network.specs.Accept.{total};
 ghost use Rattle.spec_network.specs.Tables.{sizesAt};
 ghost use Rattle.call_offer.specs.Needed.{Fixed, Ranged};
 ghost use Rattle.call_schedule.specs.Writing.{countsOf};
-ghost use Rattle.call_recipients.specs.Turning.{Going, Turned, Served};
-use call_offer::Message;
+ghost use Rattle.call_recipients.specs.Turning.{AdmittedFrom, Turned, Served};
+use call_offer::Outgoing;
 use call_schedule::Counts;
 
 // One till: where it is selected, the message is offered to it, and it is counted under what became of it.
@@ -21,11 +21,11 @@ fn turn(
     rings: &mut [u64],
     rules: &mut [u64],
     blocks: &[u64],
-    m: Message,
+    m: Outgoing,
     to: usize,
     c: Counts,
 ) -> Counts
-    requires { ⌜ Fixed (now setup) (now tills) (now keys) (now prices) (now blocks) × Ranged (now setup) m × Going (now setup) (now net) (now tills) (now words) (now seen) (now waiting) (now rings) (now rules) m to × (to < sizesAt (now setup) .tills) × (total (countsOf c) ≤ to) ⌝ }
+    requires { ⌜ Fixed (now setup) (now tills) (now keys) (now prices) (now blocks) × Ranged (now setup) m × AdmittedFrom (now setup) (now net) (now tills) (now words) (now seen) (now waiting) (now rings) (now rules) m to × (to < sizesAt (now setup) .tills) × (total (countsOf c) ≤ to) ⌝ }
     ensures { λ r. ⌜ Turned (now (setup .entry)) (now (tills .entry)) (now (keys .entry)) (now (prices .entry)) (now (blocks .entry)) (now (net .entry)) (now (words .entry)) (now (seen .entry)) (now (waiting .entry)) (now (rings .entry)) (now (rules .entry)) (now (net .exit)) (now (words .exit)) (now (seen .exit)) (now (waiting .exit)) (now (rings .exit)) (now (rules .exit)) m to c r ⌝ }
 {
     if !call_offer::selects(tills, m.scope, m.from, to) {
@@ -62,9 +62,9 @@ pub fn serve(
     rings: &mut [u64],
     rules: &mut [u64],
     blocks: &[u64],
-    m: Message,
+    m: Outgoing,
 ) -> Counts
-    requires { ⌜ Fixed (now setup) (now tills) (now keys) (now prices) (now blocks) × Ranged (now setup) m × (m .class < sizesAt (now setup) .classes) × Going (now setup) (now net) (now tills) (now words) (now seen) (now waiting) (now rings) (now rules) m 0 ⌝ }
+    requires { ⌜ Fixed (now setup) (now tills) (now keys) (now prices) (now blocks) × Ranged (now setup) m × (m .class < sizesAt (now setup) .classes) × AdmittedFrom (now setup) (now net) (now tills) (now words) (now seen) (now waiting) (now rings) (now rules) m 0 ⌝ }
     ensures { λ r. ⌜ Served (now (setup .entry)) (now (tills .entry)) (now (keys .entry)) (now (prices .entry)) (now (blocks .entry)) (now (net .entry)) (now (words .entry)) (now (seen .entry)) (now (waiting .entry)) (now (rings .entry)) (now (rules .entry)) (now (net .exit)) (now (words .exit)) (now (seen .exit)) (now (waiting .exit)) (now (rings .exit)) (now (rules .exit)) m r ⌝ }
 {
     let n = setup[ask_tables::TILLS] as usize;

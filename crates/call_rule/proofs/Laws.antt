@@ -7,7 +7,7 @@ use native.Mathlib.Omega.{arith}
 use native.Mathlib.Numerals.{add-one}
 use lib.Dec.{ltb}
 use lib.ListN.{set}
-use Rattle.fault_rule.specs.declared.Message.{Message}
+use Rattle.fault_rule.specs.declared.MessageContext.{MessageContext}
 use Rattle.table_rows.proofs.Rows.{length-rows}
 use Rattle.fault_card.specs.Card.{exact}
 use Rattle.fault_rules.specs.Rules.{ruleWidth, ruleSlots, mostRules, firstRule, rulesOf, readingOf, removedOf, installNumber, installTable, removeTable, fireTable}
@@ -35,10 +35,10 @@ use Rattle.call_rule.specs.Calls.{Changes}
 -- ---- The verdict
 
 -- what the rules say of a message, with the fault stream at its word count
-abbrev pub verdictOf : (setup net rules : List ℕ) → Message → Decision
+abbrev pub verdictOf : (setup net rules : List ℕ) → MessageContext → Decision
 verdictOf s n r m = decideOf (faultKeyOf (settingsAt s .faultKey)) m (rulesOf r (cell n rulesAt)) (cell n faultWordsAt)
 
-pub verdict-is : (s n r : List ℕ) (m : Message) (c : Cursor) (v : Verdict) → Stands (faultKeyOf (settingsAt s .faultKey)) (cell n faultWordsAt) c
+pub verdict-is : (s n r : List ℕ) (m : MessageContext) (c : Cursor) (v : Verdict) → Stands (faultKeyOf (settingsAt s .faultKey)) (cell n faultWordsAt) c
     → decision v ≡ decideOf (c .key) m (rulesOf r (cell n rulesAt)) (c .count) → decision v ≡ verdictOf s n r m
 verdict-is s n r m c v at e = e ∙ rw (at .key, at .count)
 
@@ -59,7 +59,7 @@ module _ (T : Tables) (s n r : List ℕ) where
       ap (lentNumber s n r) (in-order n card)
       ∙ ap (λ (k : ℕ). lentNumber s n r (cond (ltb k ruleSlots && ltb (cell n installedAt) mostRules) (cond (exact card) 0 13) 12)) (sym (length-rows ruleWidth firstRule (cell n rulesAt) r))
 
-  number-decide : (m : Message) → decideNumber s n r m ≡ callReply (lendRules T s n r) (decide m) .number
+  number-decide : (m : MessageContext) → decideNumber s n r m ≡ callReply (lendRules T s n r) (decide m) .number
   unfolding decideNumber rulesLent setupHeld netHeld rulesHeld
   number-decide m = refl
 
@@ -118,7 +118,7 @@ decided : (T : Tables) (s n r n′ r′ : List ℕ) (d : Decision) (b : Bool) �
 decided T s n r n′ r′ d true e p q = rw (e, p, q)
 decided T s n r n′ r′ d false e p q = rw (e, p, q)
 
-module _ (s n r : List ℕ) (m : Message) (N : ℕ) (e : N ≡ decideNumber s n r m) where
+module _ (s n r : List ℕ) (m : MessageContext) (N : ℕ) (e : N ≡ decideNumber s n r m) where
   pub decide-refused : (v : Value) → v ≡ refusedBy N → (N ≡ 0 → ⊥) → Changes s n r n r (decide m) v
   decide-refused v q h = refused-by (decide m) s n r N (λ T. e ∙ number-decide T s n r m) v q h
 

@@ -2,7 +2,7 @@
 -- and `rules` are lent; the others hold whatever they hold, and stay.
 use mathlib.Core.List.{List}
 use Prim.Native.Nat.{ℕ}
-use Rattle.fault_rule.specs.declared.Message.{Message}
+use Rattle.fault_rule.specs.declared.MessageContext.{MessageContext}
 use Rattle.spec_network.specs.Calls.{Call, install, remove, decide, reading, fired}
 use Rattle.spec_network.specs.Tables.{Tables}
 use Rattle.spec_network.specs.Lending.{lendRules}
@@ -23,7 +23,7 @@ DoesRemove s n r n′ r′ id v = Changes s n r n′ r′ (remove id) v
 abbrev pub DoesFired : (setup net rules : List ℕ) (id : ℕ) → Value → Type 0
 DoesFired s n r id v = Changes s n r n r (reading (fired id)) v
 
-abbrev pub message : (from to kind tier now : ℕ) → Message
+abbrev pub message : (from to kind tier now : ℕ) → MessageContext
 message from to kind tier now = record { kind = kind; from = from; to = to; tier = tier; now = now }
 
 abbrev pub DoesDecide : (setup net rules net′ rules′ : List ℕ) (from to kind tier now : ℕ) → Value → Type 0

@@ -2,7 +2,7 @@
 ghost use mathlib.Core.Path.{_≡_};
 ghost use Rattle.call_rule.specs.Calls.{DoesInstall, DoesRemove, DoesFired, DoesDecide};
 use call_reply::Value;
-use fault_rule::Message;
+use fault_rule::MessageContext;
 
 // A new rule stands last. The value is its id.
 pub fn install(setup: &[u64], net: &mut [u64], rules: &mut [u64], card: &[u8]) -> Value
@@ -77,7 +77,7 @@ pub fn decide(
         (now (net .exit)) (now (rules .exit))
         «from» to kind tier at r ⌝ }
 {
-    let m = Message {
+    let m = MessageContext {
         kind,
         from,
         to,

@@ -17,22 +17,22 @@ use Rattle.spec_network.specs.Live.{idsAt, ringsOf}
 use Rattle.spec_network.specs.Tables.{cell, Tables, live, sizesAt, settingsAt, idsStart, sequenceAt, faultWordsAt}
 use Rattle.spec_network.specs.Real.{drawsOf, openingAt}
 use Rattle.spec_network.specs.Accept as accept
-use Rattle.spec_network.specs.Accept.{Timed, Drawn, drawn, original, echo, echoCopies, carriedOf, Class, sent, classOf, add}
+use Rattle.spec_network.specs.Accept.{Timed, Drawn, drawn, original, echo, echoCopies, carriedOf, Fate, sent, fateOf, add}
 use Rattle.spec_network.specs.Writes.{setRings, setRules, wordsT, netT, ruledT, marksT, pushT, rememberT, effectT, offeredT}
 use Rattle.spec_network.specs.Lending.{tablesOf}
-use Rattle.call_offer.specs.declared.Message.{Message}
+use Rattle.call_offer.specs.declared.Outgoing.{Outgoing}
 use Rattle.call_offer.specs.declared.Faulted.{Faulted}
 use Rattle.call_offer.specs.declared.Sending.{Sending}
 use Rattle.call_offer.specs.declared.Offer.{Offer}
 use Rattle.call_offer.specs.declared.Offer.the-variants.{Deduplicated, Partition, Loss, Fault, Sent}
-use Rattle.call_offer.specs.Offering.{told, doubled, replayedAs, echoesIn, Answers}
+use Rattle.call_offer.specs.Offering.{asMessage, doubled, replayedAs, echoesIn, Answers}
 use Rattle.call_schedule.specs.declared.Counts.{Counts}
 use Rattle.call_schedule.specs.Writing.{markedSeen, pushedNet, pushedWaiting, remembered, sentT, offerT, Sends, Applies, classIn, countsOf}
 use Rattle.call_schedule.proofs.Pushing.{after, push-copies}
 
 -- ---- Sent
 
-module _ (T : Tables) (m : accept.Message) (t : ℕ) (x : Sending) (below : t < sizesAt (T .setup) .tills) (size : 2 ≤ length (T .net)) where
+module _ (T : Tables) (m : accept.Outgoing) (t : ℕ) (x : Sending) (below : t < sizesAt (T .setup) .tills) (size : 2 ≤ length (T .net)) where
   abbrev o : Opening
   o = openingAt T
 
@@ -77,12 +77,12 @@ module _ (T : Tables) (m : accept.Message) (t : ℕ) (x : Sending) (below : t < 
       ∙ ap (rememberT o m) (push-copies z T₂ m t (x .latency) second third (x .echoes .duplicate .some) (x .echoes .replay .some) (omega (arith, length-set (T .net) faultWordsAt (x .fault))))
       ∙ ring-by (o .draws .echoing) T₅ (pushed (ringsOf z) (T₅ .rings) (numberOf (m .kind) (m .scope)) (carriedOf m))
 
-pub sends : (m : Message) (t : ℕ) (x : Sending) (setup net words seen waiting rings : List ℕ) {seen′ n₁ n₂ n₃ w₁ w₂ w₃ rings′ : List ℕ} {c₁ c₂ c₃ : Copy}
+pub sends : (m : Outgoing) (t : ℕ) (x : Sending) (setup net words seen waiting rings : List ℕ) {seen′ n₁ n₂ n₃ w₁ w₂ w₃ rings′ : List ℕ} {c₁ c₂ c₃ : Copy}
     → t < sizesAt setup .tills → 2 ≤ length net → seen′ ≡ markedSeen (sizesAt setup) seen t (m .id)
-    → c₁ ≡ original (told m) t 0 (x .latency) → n₁ ≡ pushedNet true (set net faultWordsAt (x .fault)) waiting c₁ → w₁ ≡ pushedWaiting true (set net faultWordsAt (x .fault)) waiting c₁
-    → c₂ ≡ echo (told m) t 0 (doubled (told m) (x .echoes .duplicate .latency)) → n₂ ≡ pushedNet (x .echoes .duplicate .some) n₁ w₁ c₂ → w₂ ≡ pushedWaiting (x .echoes .duplicate .some) n₁ w₁ c₂
-    → c₃ ≡ echo (told m) t 0 (replayedAs (x .echoes .old) (x .echoes .replay .latency)) → n₃ ≡ pushedNet (x .echoes .replay .some) n₂ w₂ c₃ → w₃ ≡ pushedWaiting (x .echoes .replay .some) n₂ w₂ c₃
-    → rings′ ≡ remembered (settingsAt setup) rings (told m) → Sends m t x setup net words seen waiting rings n₃ (set words (link (m .from) t) (x .echoes .words)) seen′ w₃ rings′
+    → c₁ ≡ original (asMessage m) t 0 (x .latency) → n₁ ≡ pushedNet true (set net faultWordsAt (x .fault)) waiting c₁ → w₁ ≡ pushedWaiting true (set net faultWordsAt (x .fault)) waiting c₁
+    → c₂ ≡ echo (asMessage m) t 0 (doubled (asMessage m) (x .echoes .duplicate .latency)) → n₂ ≡ pushedNet (x .echoes .duplicate .some) n₁ w₁ c₂ → w₂ ≡ pushedWaiting (x .echoes .duplicate .some) n₁ w₁ c₂
+    → c₃ ≡ echo (asMessage m) t 0 (replayedAs (x .echoes .old) (x .echoes .replay .latency)) → n₃ ≡ pushedNet (x .echoes .replay .some) n₂ w₂ c₃ → w₃ ≡ pushedWaiting (x .echoes .replay .some) n₂ w₂ c₃
+    → rings′ ≡ remembered (settingsAt setup) rings (asMessage m) → Sends m t x setup net words seen waiting rings n₃ (set words (link (m .from) t) (x .echoes .words)) seen′ w₃ rings′
 unfolding Sends
 sends m t x setup net words seen waiting rings {seen′} {n₁} {n₂} {n₃} {w₁} {w₂} {w₃} {rings′} {c₁} {c₂} {c₃} below size es k₁ p₁ q₁ k₂ p₂ q₂ k₃ p₃ q₃ er = λ names tills keys prices rules blocks log.
     let T = tablesOf setup net names tills words keys prices seen waiting rings rules blocks log in
@@ -95,25 +95,25 @@ sends m t x setup net words seen waiting rings {seen′} {n₁} {n₂} {n₃} {w
     let Q₂ = q₂ ∙ (λ j. pushedWaiting a (P₁ j) (Q₁ j) (k₂ j)) in
     let P₃ = p₃ ∙ (λ j. pushedNet b (P₂ j) (Q₂ j) (k₃ j)) in
     let Q₃ = q₃ ∙ (λ j. pushedWaiting b (P₂ j) (Q₂ j) (k₃ j)) in
-    (λ j. tablesOf setup (P₃ j) names tills (set words (link (m .from) t) (x .echoes .words)) keys prices (es j) (Q₃ j) (er j) rules blocks log) ∙ sym (sent-is T (told m) t x below size)
+    (λ j. tablesOf setup (P₃ j) names tills (set words (link (m .from) t) (x .echoes .words)) keys prices (es j) (Q₃ j) (er j) rules blocks log) ∙ sym (sent-is T (asMessage m) t x below size)
 
 -- ---- The five
 
-module _ (m : Message) (t : ℕ) (r : Offer) (setup net words seen waiting rings rules : List ℕ) where
+module _ (m : Outgoing) (t : ℕ) (r : Offer) (setup net words seen waiting rings rules : List ℕ) where
   pub writes-none : r ≡ Deduplicated → Applies m t r setup net words seen waiting rings rules net words seen waiting rings rules
   unfolding Applies offerT
   writes-none e = λ names tills keys prices blocks log.
-      let T = tablesOf setup net names tills words keys prices seen waiting rings rules blocks log in ap (offerT (openingAt T) (told m) T t) (sym e)
+      let T = tablesOf setup net names tills words keys prices seen waiting rings rules blocks log in ap (offerT (openingAt T) (asMessage m) T t) (sym e)
 
   pub writes-nothing : r ≡ Partition → Applies m t r setup net words seen waiting rings rules net words seen waiting rings rules
   unfolding Applies offerT
   writes-nothing e = λ names tills keys prices blocks log.
-      let T = tablesOf setup net names tills words keys prices seen waiting rings rules blocks log in ap (offerT (openingAt T) (told m) T t) (sym e)
+      let T = tablesOf setup net names tills words keys prices seen waiting rings rules blocks log in ap (offerT (openingAt T) (asMessage m) T t) (sym e)
 
   pub writes-loss : (n : ℕ) → r ≡ Loss n → Applies m t r setup net words seen waiting rings rules net (set words (link (m .from) t) n) seen waiting rings rules
   unfolding Applies offerT
   writes-loss n e = λ names tills keys prices blocks log.
-      let T = tablesOf setup net names tills words keys prices seen waiting rings rules blocks log in ap (offerT (openingAt T) (told m) T t) (sym e)
+      let T = tablesOf setup net names tills words keys prices seen waiting rings rules blocks log in ap (offerT (openingAt T) (asMessage m) T t) (sym e)
 
   pub writes-fault : (f : Faulted) (rules′ : List ℕ) → r ≡ Fault f → rules′ ≡ fireTable rules (f .place)
       → Applies m t r setup net words seen waiting rings rules (set net faultWordsAt (f .fault)) (set words (link (m .from) t) (f .words)) seen waiting rings rules′
@@ -121,26 +121,26 @@ module _ (m : Message) (t : ℕ) (r : Offer) (setup net words seen waiting rings
   writes-fault f rules′ e q = λ names tills keys prices blocks log.
       let T = tablesOf setup net names tills words keys prices seen waiting rings rules blocks log in
       ap (λ (l : List ℕ). tablesOf setup (set net faultWordsAt (f .fault)) names tills (set words (link (m .from) t) (f .words)) keys prices seen waiting rings l blocks log) q
-      ∙ ap (offerT (openingAt T) (told m) T t) (sym e)
+      ∙ ap (offerT (openingAt T) (asMessage m) T t) (sym e)
 
   pub writes-sent : (x : Sending) (net′ words′ seen′ waiting′ rings′ : List ℕ) → r ≡ Sent x → Sends m t x setup net words seen waiting rings net′ words′ seen′ waiting′ rings′
       → Applies m t r setup net words seen waiting rings rules net′ words′ seen′ waiting′ rings′ rules
   unfolding Applies Sends offerT
   writes-sent x net′ words′ seen′ waiting′ rings′ e q = λ names tills keys prices blocks log.
-      let T = tablesOf setup net names tills words keys prices seen waiting rings rules blocks log in q names tills keys prices rules blocks log ∙ ap (offerT (openingAt T) (told m) T t) (sym e)
+      let T = tablesOf setup net names tills words keys prices seen waiting rings rules blocks log in q names tills keys prices rules blocks log ∙ ap (offerT (openingAt T) (asMessage m) T t) (sym e)
 
 -- THE LAW: an offer writes what its class and its draws say
-module _ (o : Opening) (m : accept.Message) (T : Tables) (t : ℕ) where
+module _ (o : Opening) (m : accept.Outgoing) (T : Tables) (t : ℕ) where
   abbrev d : Drawn
   d = drawn o m t (live (o .sizes) T)
 
-  by-class : (c : Class) → classOf o m (live (o .sizes) T) t ≡ c → effectT o m c T d t ≡ offeredT o m T t
-  by-class c e = ap (λ (k : Class). effectT o m k T d t) (sym e)
+  by-class : (c : Fate) → fateOf o m (live (o .sizes) T) t ≡ c → effectT o m c T d t ≡ offeredT o m T t
+  by-class c e = ap (λ (k : Fate). effectT o m k T d t) (sym e)
 
   unruled : (T′ : Tables) (v : Decision) → v .drops ≡ false → netT T′ faultWordsAt (v .words) ≡ ruledT T′ v
   unruled T′ v e = ap (λ (b : Bool). cond b (setRules (netT T′ faultWordsAt (v .words)) (fireTable (T′ .rules) (v .place))) (netT T′ faultWordsAt (v .words))) (sym e)
 
-  pub answers-write : (r : Offer) → Answers o m (live (o .sizes) T) t r → (classIn r ≡ classOf o m (live (o .sizes) T) t) × (offerT o m T t r ≡ offeredT o m T t)
+  pub answers-write : (r : Offer) → Answers o m (live (o .sizes) T) t r → (classIn r ≡ fateOf o m (live (o .sizes) T) t) × (offerT o m T t r ≡ offeredT o m T t)
   unfolding Answers offerT sentT
   answers-write Deduplicated a = (sym a, by-class _ a)
   answers-write Partition a = (sym a, by-class _ a)

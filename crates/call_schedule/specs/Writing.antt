@@ -15,16 +15,16 @@ use Rattle.spec_network.specs.Opening.{Opening, Sizes, Settings, link, links, l
 use Rattle.spec_network.specs.Live.{idsAt, ringsOf}
 use Rattle.spec_network.specs.Tables.{cell, Tables, live, sizesAt, setupWidth, netWidth, idsStart, sequenceAt, waitingAt, faultWordsAt}
 use Rattle.spec_network.specs.Accept as accept
-use Rattle.spec_network.specs.Accept.{original, echoCopies, carriedOf, Class, deduplicated, partition, loss, fault, sent}
+use Rattle.spec_network.specs.Accept.{original, echoCopies, carriedOf, Fate, deduplicated, partition, loss, fault, sent}
 use Rattle.spec_network.specs.Writes.{wordsT, netT, ruledT, marksT, pushT, rememberT}
 use Rattle.spec_network.specs.Real.{openingAt}
 use Rattle.spec_network.specs.Lending.{tablesOf}
-use Rattle.call_offer.specs.declared.Message.{Message}
+use Rattle.call_offer.specs.declared.Outgoing.{Outgoing}
 use Rattle.call_offer.specs.declared.Sending.{Sending}
 use Rattle.call_offer.specs.declared.Offer.{Offer}
 use Rattle.call_offer.specs.declared.Offer.the-variants.{Deduplicated, Partition, Loss, Fault, Sent}
 use Rattle.call_offer.specs.Needed.{Ranged, RingsHeld, SeenHeld}
-use Rattle.call_offer.specs.Offering.{told, echoingAt, echoesIn}
+use Rattle.call_offer.specs.Offering.{asMessage, echoingAt, echoesIn}
 use Rattle.call_schedule.specs.declared.Counts.{Counts}
 
 -- ---- One leaf each
@@ -47,7 +47,7 @@ unfoldable pub pushedWaiting : Bool → (net waiting : List ℕ) → Copy → Li
 pushedWaiting hit net waiting c = cond hit (over form (queue net waiting c) waiting) waiting
 
 -- the ring takes the message, where an echo rate is above 0
-abbrev pub remembered : Settings → List ℕ → accept.Message → List ℕ
+abbrev pub remembered : Settings → List ℕ → accept.Outgoing → List ℕ
 remembered x rings m = cond (echoingAt x) (pushed (ringsOf (x .sizes)) rings (numberOf (m .kind) (m .scope)) (carriedOf m)) rings
 
 -- room for one copy more
@@ -57,7 +57,7 @@ pub record Room (net waiting : List ℕ) (n : ℕ) : Type 0 where
   pub slots : (cell net waitingAt + n) * width ≤ length waiting
 
 -- what sending needs of the tables
-pub record Sendable (setup net words seen waiting rings : List ℕ) (m : Message) (t : ℕ) (x : Sending) : Type 0 where
+pub record Sendable (setup net words seen waiting rings : List ℕ) (m : Outgoing) (t : ℕ) (x : Sending) : Type 0 where
   pub setupSize : length setup ≡ setupWidth
   pub types : sizesAt setup .types ≤ mostTypes
   pub tills : sizesAt setup .tills ≤ mostTills
@@ -74,7 +74,7 @@ pub record Sendable (setup net words seen waiting rings : List ℕ) (m : Message
   pub second : x .echoes .replay .latency ≤ longest
 
 -- what applying an offer needs; of one that is sent, what sending needs
-pub record Applicable (setup net words seen waiting rings : List ℕ) (m : Message) (t : ℕ) (r : Offer) : Type 0 where
+pub record Applicable (setup net words seen waiting rings : List ℕ) (m : Outgoing) (t : ℕ) (r : Offer) : Type 0 where
   pub sender : m .from < mostTills
   pub below : t < mostTills
   pub netSize : length net ≡ netWidth
@@ -84,7 +84,7 @@ pub record Applicable (setup net words seen waiting rings : List ℕ) (m : Messa
 -- ---- What an offer writes
 
 -- sent: word counts, the mark, the original, its echoes, the ring
-unfoldable pub sentT : Opening → accept.Message → Tables → ℕ → Sending → Tables
+unfoldable pub sentT : Opening → accept.Outgoing → Tables → ℕ → Sending → Tables
 sentT o m T t x =
     let s = live (o .sizes) T in
     let T₁ = netT (wordsT T (link (m .from) t) (x .echoes .words)) faultWordsAt (x .fault) in
@@ -92,7 +92,7 @@ sentT o m T t x =
     let n = suc (s .queue .sequence) in
     rememberT o m (pushT (o .sizes) T₂ (original m t n (x .latency) ∷ echoCopies m t n (echoesIn m (x .echoes))))
 
-unfoldable pub offerT : Opening → accept.Message → Tables → ℕ → Offer → Tables
+unfoldable pub offerT : Opening → accept.Outgoing → Tables → ℕ → Offer → Tables
 offerT o m T t Deduplicated = T
 offerT o m T t Partition = T
 offerT o m T t (Loss n) = wordsT T (link (m .from) t) n
@@ -100,19 +100,19 @@ offerT o m T t (Fault f) = ruledT (wordsT T (link (m .from) t) (f .words)) (reco
 offerT o m T t (Sent x) = sentT o m T t x
 
 -- so it is whatever the tables hold that are not lent: those before, and those after
-unfoldable pub Sends : Message → ℕ → Sending → (setup net words seen waiting rings net′ words′ seen′ waiting′ rings′ : List ℕ) → Type 0
+unfoldable pub Sends : Outgoing → ℕ → Sending → (setup net words seen waiting rings net′ words′ seen′ waiting′ rings′ : List ℕ) → Type 0
 Sends m t x setup net words seen waiting rings net′ words′ seen′ waiting′ rings′ =
     (names tills keys prices rules blocks log : List ℕ) → let T = tablesOf setup net names tills words keys prices seen waiting rings rules blocks log in
-    tablesOf setup net′ names tills words′ keys prices seen′ waiting′ rings′ rules blocks log ≡ sentT (openingAt T) (told m) T t x
+    tablesOf setup net′ names tills words′ keys prices seen′ waiting′ rings′ rules blocks log ≡ sentT (openingAt T) (asMessage m) T t x
 
-unfoldable pub Applies : Message → ℕ → Offer → (setup net words seen waiting rings rules net′ words′ seen′ waiting′ rings′ rules′ : List ℕ) → Type 0
+unfoldable pub Applies : Outgoing → ℕ → Offer → (setup net words seen waiting rings rules net′ words′ seen′ waiting′ rings′ rules′ : List ℕ) → Type 0
 Applies m t r setup net words seen waiting rings rules net′ words′ seen′ waiting′ rings′ rules′ =
     (names tills keys prices blocks log : List ℕ) → let T = tablesOf setup net names tills words keys prices seen waiting rings rules blocks log in
-    tablesOf setup net′ names tills words′ keys prices seen′ waiting′ rings′ rules′ blocks log ≡ offerT (openingAt T) (told m) T t r
+    tablesOf setup net′ names tills words′ keys prices seen′ waiting′ rings′ rules′ blocks log ≡ offerT (openingAt T) (asMessage m) T t r
 
 -- ---- The five counts
 
-abbrev pub classIn : Offer → Class
+abbrev pub classIn : Offer → Fate
 classIn Deduplicated = deduplicated
 classIn Partition = partition
 classIn (Loss n) = loss

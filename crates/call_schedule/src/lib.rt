@@ -7,10 +7,10 @@ ghost use Rattle.spec_network.specs.Opening.{latestNow, mostTypes, link};
 ghost use Rattle.spec_network.specs.Accept.{copyWith, original, add, total};
 ghost use Rattle.spec_network.specs.Tables.{cell, sizesAt, settingsAt, setupWidth};
 ghost use Rattle.call_offer.specs.Needed.{Ranged, RingsHeld, SeenHeld};
-ghost use Rattle.call_offer.specs.Offering.{told};
+ghost use Rattle.call_offer.specs.Offering.{asMessage};
 ghost use Rattle.call_schedule.specs.Writing.{markedSeen, pushedNet, pushedWaiting, remembered, Room, Sendable, Applicable, Sends, Applies, classIn, countsOf};
 use call_offer::Echo;
-use call_offer::Message;
+use call_offer::Outgoing;
 use call_offer::Offer;
 use call_offer::Sending;
 use table_delivery::Delivery;
@@ -65,9 +65,9 @@ fn push_if(hit: bool, net: &mut [u64], waiting: &mut [u64], c: Copy)
 }
 
 // A copy of what is carried; it takes its sequence when it is pushed.
-fn copy_with(m: Message, to: usize, e: Entry, latency: u64, flag: u64, id: u64) -> Copy
+fn copy_with(m: Outgoing, to: usize, e: Entry, latency: u64, flag: u64, id: u64) -> Copy
     requires { ⌜ (m .now ≤ latestNow) × (latency ≤ longest) ⌝ }
-    ensures { λ r. ⌜ r ≡ copyWith (told m) to 0 e latency flag id ⌝ }
+    ensures { λ r. ⌜ r ≡ copyWith (asMessage m) to 0 e latency flag id ⌝ }
 {
     let delivery = Delivery {
         from: m.from,
@@ -88,9 +88,9 @@ fn copy_with(m: Message, to: usize, e: Entry, latency: u64, flag: u64, id: u64) 
     }
 }
 
-fn original(m: Message, to: usize, latency: u64) -> Copy
+fn original(m: Outgoing, to: usize, latency: u64) -> Copy
     requires { ⌜ (m .now ≤ latestNow) × (latency ≤ longest) ⌝ }
-    ensures { λ r. ⌜ r ≡ original (told m) to 0 latency ⌝ }
+    ensures { λ r. ⌜ r ≡ original (asMessage m) to 0 latency ⌝ }
 {
     let own = Entry {
         class: m.class,
@@ -101,17 +101,17 @@ fn original(m: Message, to: usize, latency: u64) -> Copy
 }
 
 // An echo carries no id.
-fn echo(m: Message, to: usize, e: Entry, latency: u64) -> Copy
+fn echo(m: Outgoing, to: usize, e: Entry, latency: u64) -> Copy
     requires { ⌜ (m .now ≤ latestNow) × (latency ≤ longest) ⌝ }
-    ensures { λ r. ⌜ r ≡ copyWith (told m) to 0 e latency 0 0 ⌝ }
+    ensures { λ r. ⌜ r ≡ copyWith (asMessage m) to 0 e latency 0 0 ⌝ }
 {
     copy_with(m, to, e, latency, 0, 0)
 }
 
 // The ring takes the message, where an echo rate is above 0.
-fn remember(setup: &[u64], rings: &mut [u64], m: Message)
+fn remember(setup: &[u64], rings: &mut [u64], m: Outgoing)
     requires { ⌜ (length (now setup) ≡ setupWidth) × RingsHeld (sizesAt (now setup)) (now rings) × Ranged (now setup) m × (sizesAt (now setup) .types ≤ mostTypes) ⌝ }
-    ensures { λ _. ⌜ now (rings .exit) ≡ remembered (settingsAt (now (setup .entry))) (now (rings .entry)) (told m) ⌝ }
+    ensures { λ _. ⌜ now (rings .exit) ≡ remembered (settingsAt (now (setup .entry))) (now (rings .entry)) (asMessage m) ⌝ }
 {
     if !call_offer::echoing(setup) {
         return;
@@ -138,7 +138,7 @@ fn send(
     seen: &mut [u64],
     waiting: &mut [u64],
     rings: &mut [u64],
-    m: Message,
+    m: Outgoing,
     to: usize,
     x: Sending,
 )
@@ -177,7 +177,7 @@ pub fn apply(
     waiting: &mut [u64],
     rings: &mut [u64],
     rules: &mut [u64],
-    m: Message,
+    m: Outgoing,
     to: usize,
     r: Offer,
 )

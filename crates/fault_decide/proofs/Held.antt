@@ -7,7 +7,7 @@ use native.Mathlib.Omega.{arith}
 use lib.ListN.{length}
 use Rattle.fault_rule.specs.declared.FaultAction.{FaultAction}
 use Rattle.fault_rule.specs.declared.FaultAction.the-variants.{Drop, DropWithProbability}
-use Rattle.fault_rule.specs.declared.Message.{Message}
+use Rattle.fault_rule.specs.declared.MessageContext.{MessageContext}
 use Rattle.fault_rule.specs.Rule.{ruleOf, applies}
 use Rattle.fault_rules.specs.declared.FaultRule.{FaultRule}
 use Rattle.fault_decide.specs.Decide.{Tried, Decision, tryAction, tryRule, after, decideOf}
@@ -15,7 +15,7 @@ use Rattle.fault_decide.specs.Decide.{Tried, Decision, tryAction, tryRul
 abbrev verdict : Bool → ℕ → ℕ → Decision
 verdict d p w = record { drops = d; place = p; words = w }
 
-module _ (key : List ℕ) (m : Message) where
+module _ (key : List ℕ) (m : MessageContext) where
   action-words : (a : FaultAction) (w : ℕ) → tryAction key a w .words ≤ w + 2
   unfolding tryAction
   action-words Drop w = omega arith

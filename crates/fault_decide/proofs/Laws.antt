@@ -13,7 +13,7 @@ use Rattle.rand_streams.specs.Streams.{wordPair, Moved, Holds}
 use Rattle.rand_draw.specs.Fraction.{fraction}
 use Rattle.fault_rule.specs.declared.FaultAction.{FaultAction}
 use Rattle.fault_rule.specs.declared.FaultAction.the-variants.{Drop, DropWithProbability}
-use Rattle.fault_rule.specs.declared.Message.{Message}
+use Rattle.fault_rule.specs.declared.MessageContext.{MessageContext}
 use Rattle.fault_rule.specs.declared.Rule.{Rule}
 use Rattle.fault_rule.specs.Rule.{ruleOf, applies}
 use Rattle.fault_rule.proofs.Laws.{yes, no}
@@ -36,7 +36,7 @@ after-after : (i k : ℕ) (d : Decision) → after i (after k d) ≡ after (i + 
 after-after i k d = let q : d .place + k + i ≡ d .place + (i + k) = omega arith in ap (λ (p : ℕ). verdict (d .drops) p (d .words)) q
 
 -- ---- a rule as its row says
-pub row-applies : (row : FaultRule) (spec : FaultRule) (r : Rule) (b : Bool) (m : Message) → spec ≡ row → r ≡ ruleOf (spec .spec) → b ≡ applies r m → b ≡ applies (ruleOf (row .spec)) m
+pub row-applies : (row : FaultRule) (spec : FaultRule) (r : Rule) (b : Bool) (m : MessageContext) → spec ≡ row → r ≡ ruleOf (spec .spec) → b ≡ applies r m → b ≡ applies (ruleOf (row .spec)) m
 row-applies row spec r b m es er eb = eb ∙ ap (λ (x : Rule). applies x m) (er ∙ ap (λ (x : FaultRule). ruleOf (x .spec)) es)
 
 pub row-action : (row : FaultRule) (spec : FaultRule) (r : Rule) → spec ≡ row → r ≡ ruleOf (spec .spec) → r .action ≡ ruleOf (row .spec) .action
@@ -51,7 +51,7 @@ rules-past : (ws : List ℕ) (n i : ℕ) → n ≤ i → i ≤ n → drop i (rul
 rules-past ws n i h k = let z : n - i ≡ 0 = omega arith in drop-rows ruleWidth firstRule ws n i k ∙ ap (rulesOf (drop (i * ruleWidth) ws)) z
 
 -- ---- the loop of `met`
-module _ (m : Message) where
+module _ (m : MessageContext) where
   met-step : (r : FaultRule) (rs : List FaultRule) (b : Bool) → applies (ruleOf (r .spec)) m ≡ b → metOf m (r ∷ rs) ≡ cond b 0 (suc (metOf m rs))
   unfolding metOf
   met-step r rs b h = ap (λ (t : Bool). cond t 0 (suc (metOf m rs))) h
@@ -120,7 +120,7 @@ module _ (m : Message) where
     skip (r ∷ rs) w = skip-step (applies (ruleOf (r .spec)) m) r rs w refl (skip rs w)
 
 -- ---- the loop of `decide`: up to place i, whose rule is met, from a cursor to another
-pub record Scanned (ws : List ℕ) (n : ℕ) (m : Message) (c : Cursor) (i : ℕ) (cursor : Cursor) : Type 0 where
+pub record Scanned (ws : List ℕ) (n : ℕ) (m : MessageContext) (c : Cursor) (i : ℕ) (cursor : Cursor) : Type 0 where
   pub within : i ≤ n
   pub few : cursor .count ≤ c .count + 2 * i
   pub key : cursor .key ≡ c .key
@@ -128,7 +128,7 @@ pub record Scanned (ws : List ℕ) (n : ℕ) (m : Message) (c : Cursor) (i : ℕ
   pub met : i < n → applies (ruleOf (ruleAt ws (i * ruleWidth) .spec)) m ≡ true
   pub rest : decideOf (c .key) m (rulesOf ws n) (c .count) ≡ after i (decideOf (c .key) m (drop i (rulesOf ws n)) (cursor .count))
 
-module _ (ws : List ℕ) (n : ℕ) (m : Message) (c : Cursor) where
+module _ (ws : List ℕ) (n : ℕ) (m : MessageContext) (c : Cursor) where
   -- from a place to the next rule that is met
   onward : (i j : ℕ) (cursor : Cursor) → j ≡ i + metOf m (drop i (rulesOf ws n)) → j ≤ n → cursor .count ≤ c .count + 2 * i → cursor .key ≡ c .key → Holds cursor
       → decideOf (c .key) m (rulesOf ws n) (c .count) ≡ after i (decideOf (c .key) m (drop i (rulesOf ws n)) (cursor .count)) → Scanned ws n m c j cursor

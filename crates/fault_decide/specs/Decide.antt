@@ -7,7 +7,7 @@ use Rattle.rand_streams.specs.Streams.{wordPair}
 use Rattle.rand_draw.specs.Fraction.{fraction}
 use Rattle.fault_rule.specs.declared.FaultAction.{FaultAction}
 use Rattle.fault_rule.specs.declared.FaultAction.the-variants.{Drop, DropWithProbability}
-use Rattle.fault_rule.specs.declared.Message.{Message}
+use Rattle.fault_rule.specs.declared.MessageContext.{MessageContext}
 use Rattle.fault_rule.specs.Rule.{ruleOf, applies}
 use Rattle.fault_rules.specs.declared.FaultRule.{FaultRule}
 use Rattle.fault_rules.specs.Rules.{fireAt}
@@ -38,7 +38,7 @@ tryAction key Drop w = record { drops = true; words = w }
 tryAction key (DropWithProbability p) w = record { drops = hits p (wordPair key w); words = w + 2 }
 
 -- a rule that does not apply takes no draw and drops nothing
-unfoldable pub tryRule : List ℕ → Message → FaultRule → ℕ → Tried
+unfoldable pub tryRule : List ℕ → MessageContext → FaultRule → ℕ → Tried
 tryRule key m r w = cond (applies (ruleOf (r .spec)) m) (tryAction key (ruleOf (r .spec) .action) w) (record { drops = false; words = w })
 
 -- the decision of a list whose first k rules passed
@@ -46,14 +46,14 @@ abbrev pub after : ℕ → Decision → Decision
 after k d = record { drops = d .drops; place = d .place + k; words = d .words }
 
 -- the first rule that drops decides
-unfoldable pub decideOf : List ℕ → Message → List FaultRule → ℕ → Decision
+unfoldable pub decideOf : List ℕ → MessageContext → List FaultRule → ℕ → Decision
 decideOf key m [] w = record { drops = false; place = 0; words = w }
 decideOf key m (r ∷ rs) w =
     let t = tryRule key m r w in
     cond (t .drops) (record { drops = true; place = 0; words = t .words }) (after 1 (decideOf key m rs (t .words)))
 
 -- the place of the first rule that applies; with none, their number
-unfoldable pub metOf : Message → List FaultRule → ℕ
+unfoldable pub metOf : MessageContext → List FaultRule → ℕ
 metOf m [] = 0
 metOf m (r ∷ rs) = cond (applies (ruleOf (r .spec)) m) 0 (suc (metOf m rs))
 

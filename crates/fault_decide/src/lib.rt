@@ -7,7 +7,7 @@ ghost use Rattle.fault_rule.specs.Rule.{ruleOf, applies};
 ghost use Rattle.fault_rules.specs.Rules.{ruleWidth, ruleAt, rulesOf};
 ghost use Rattle.fault_decide.specs.Decide.{decision, metOf, decideOf};
 use fault_rule::FaultAction;
-use fault_rule::Message;
+use fault_rule::MessageContext;
 use rand_streams::Cursor;
 
 // Whether a message is dropped, by the rule at which place (their number where none does), and the fault stream after it.
@@ -18,7 +18,7 @@ pub struct Verdict {
 }
 
 // Does the rule whose row starts at b apply to the message?
-fn meets(ws: &[u64], b: usize, m: Message) -> bool
+fn meets(ws: &[u64], b: usize, m: MessageContext) -> bool
     requires { ⌜ b + ruleWidth ≤ length (now ws) ⌝ }
     ensures { λ r. ⌜ r ≡ applies (ruleOf (ruleAt (now (ws .entry)) b .spec)) m ⌝ }
 {
@@ -29,7 +29,7 @@ fn meets(ws: &[u64], b: usize, m: Message) -> bool
 }
 
 // The place of the first rule from i on, of n, that applies to the message; n where none does.
-fn met(ws: &[u64], i: usize, n: usize, m: Message) -> usize
+fn met(ws: &[u64], i: usize, n: usize, m: MessageContext) -> usize
     requires { ⌜ (i ≤ n) × (n * ruleWidth ≤ length (now ws)) ⌝ }
     ensures { λ r. ⌜ (r ≡ i + metOf m (drop i (rulesOf (now (ws .entry)) n))) × (r ≤ n) ⌝ }
 {
@@ -56,7 +56,7 @@ fn action(ws: &[u64], b: usize) -> FaultAction
 
 // The first n rules of the table, with the fault stream at a cursor. A plain rule takes no draw; a probability takes one, whether it
 // hits or not, and hits unless the fraction is at least the probability. Nothing is written: `fault_rules::fire` counts a drop.
-pub fn decide(ws: &[u64], n: usize, c: Cursor, m: Message) -> Verdict
+pub fn decide(ws: &[u64], n: usize, c: Cursor, m: MessageContext) -> Verdict
     requires { ⌜ (n * ruleWidth ≤ length (now ws)) × (c .count + 2 * n < 2 ^ 63) × Holds c ⌝ }
     ensures { λ r. ⌜ (decision r ≡ decideOf (c .key) m (rulesOf (now (ws .entry)) n) (c .count)) × (r .next .key ≡ c .key) × Holds (r .next) ⌝ }
 {

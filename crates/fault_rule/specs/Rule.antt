@@ -12,7 +12,7 @@ use Rattle.fault_rule.specs.declared.FaultAction.{FaultAction}
 use Rattle.fault_rule.specs.declared.FaultAction.the-variants.{Drop, DropWithProbability}
 use Rattle.fault_rule.specs.declared.DropSpec.{DropSpec}
 use Rattle.fault_rule.specs.declared.Rule.{Rule}
-use Rattle.fault_rule.specs.declared.Message.{Message}
+use Rattle.fault_rule.specs.declared.MessageContext.{MessageContext}
 
 -- the bits of a drop card's map
 abbrev pub kindBit : ℕ
@@ -67,6 +67,6 @@ unfoldable pub passes : Filter → ℕ → Bool
 passes Any x = true
 passes (Is y) x = eqb y x
 
-unfoldable pub applies : Rule → Message → Bool
+unfoldable pub applies : Rule → MessageContext → Bool
 applies r m =
     holds (r .window) (m .now) && passes (r .kind) (m .kind) && passes (r .from) (m .from) && passes (r .to) (m .to) && passes (r .tier) (m .tier)

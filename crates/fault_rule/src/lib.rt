@@ -56,7 +56,7 @@ pub struct Rule {
 }
 
 // A message at its dispatch, and the time. Tiers: gossip 0, notification 1, request 2, response 3.
-pub struct Message {
+pub struct MessageContext {
     pub kind: u64,
     pub from: u64,
     pub to: u64,
@@ -145,7 +145,7 @@ fn filter_passes(f: Filter, x: u64) -> bool
 }
 
 // Does the rule's window hold the time, and does each filter let the message pass?
-pub fn rule_applies(r: Rule, m: Message) -> bool
+pub fn rule_applies(r: Rule, m: MessageContext) -> bool
     ensures { λ b. ⌜ b ≡ applies r m ⌝ }
 {
     let w = r.window;

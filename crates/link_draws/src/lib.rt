@@ -17,7 +17,7 @@ use rand_streams::Cursor;
 use rand_streams::Drawn32;
 
 // The words of a key.
-const KEY: usize = ask_tables::KEY_WIDTH as usize;
+const KEY: usize = ask_tables::LINK_KEY_WIDTH as usize;
 
 fn low(x: u64) -> u32
     ensures { λ r. ⌜ r ≡ x % 2 ^ 32 ⌝ }

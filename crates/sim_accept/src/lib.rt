@@ -51,7 +51,7 @@ fn id_in(names: &[u8], kind: usize, scope: usize, wire: &[u8]) -> u64 {
     if LONGEST_NAME < length_at(names, kind * ask_rows::NAME_WIDTH) {
         return 0;
     }
-    if LONGEST_KEY < length_at(names, ask_rows::KEYS + scope * ask_rows::KEY_WIDTH) {
+    if LONGEST_KEY < length_at(names, ask_rows::KEYS + scope * ask_rows::SHARD_KEY_WIDTH) {
         return 0;
     }
     if LONGEST_WIRE < wire.len() {

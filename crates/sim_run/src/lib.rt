@@ -175,7 +175,7 @@ fn on_tables(asked: u64, from: i32) {
     let mut names = [0u8; ask_rows::NAMES_WIDTH];
     let mut tills = [0u64; TILLS * ask_tables::TILL_WIDTH];
     let mut words = [0u64; ask_tables::LINKS];
-    let mut keys = [0u32; ask_tables::LINKS * ask_tables::KEY_WIDTH as usize];
+    let mut keys = [0u32; ask_tables::LINKS * ask_tables::LINK_KEY_WIDTH as usize];
     let mut prices = [0u64; REGIONS * REGIONS * ask_rows::LINK_WIDTH + TILLS];
     let mut seen = [0u64; TILLS + TILLS * SLOTS];
     let mut waiting = [0u64; SLOTS * table_waiting::WIDTH];

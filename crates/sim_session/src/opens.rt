@@ -17,7 +17,7 @@ pub const KEY_END: usize = ask_rows::NAMES_WIDTH + KEY;
 pub fn layout() -> Layout {
     Layout {
         name: ask_rows::NAME_WIDTH,
-        shard: ask_rows::KEY_WIDTH,
+        shard: ask_rows::SHARD_KEY_WIDTH,
         shards: ask_rows::KEYS,
         key: ask_rows::NAMES_WIDTH,
         most: ask_tables::MOST_TYPES as usize,

@@ -19,7 +19,7 @@ use Rattle.link_geography.specs.Geography.{atLeastOne, linkAt, linkAdmitted, li
 use Rattle.link_geography.specs.declared.Link.{Link}
 use Rattle.link_geography.specs.declared.Cost.{Cost}
 use Rattle.link_geography.proofs.Prices.{plan-admitted, transmission-most}
-use Rattle.fault_rule.specs.declared.Message.{Message}
+use Rattle.fault_rule.specs.declared.MessageContext.{MessageContext}
 use Rattle.fault_rules.specs.declared.FaultRule.{FaultRule}
 use Rattle.fault_decide.proofs.Held.{decide-words}
 use Rattle.spec_network.specs.Opening.{Settings, Opening, global, longestWire, longestName, longestKey}
@@ -40,7 +40,7 @@ pub record DrawsFit (o : Opening) : Type 0 where
   pub latency : (from to bytes w : ℕ) → from < o .sizes .tills → to < o .sizes .tills → bytes ≤ longestWire → o .draws .latency from to bytes w .value ≤ longest
   pub latency-words : (from to bytes w : ℕ) → o .draws .latency from to bytes w .words ≤ w + 6
   pub index : (from to n w : ℕ) → o .draws .index from to n w .words ≤ w + 2
-  pub decide : (m : Message) (rs : List FaultRule) (w : ℕ) → o .draws .decide m rs w .words ≤ w + 2 * length rs
+  pub decide : (m : MessageContext) (rs : List FaultRule) (w : ℕ) → o .draws .decide m rs w .words ≤ w + 2 * length rs
   pub id : (kind scope : ℕ) (wire : List ℕ) → kind < o .sizes .types → (eqb scope global || ltb scope (o .sizes .shards)) ≡ true → length wire ≤ longestWire → o .draws .id kind scope wire < 2 ^ 64
 
 -- a whole range of 32 bits takes two words at most

@@ -29,7 +29,7 @@ use Rattle.fault_blocks.specs.declared.BlockWindow.{BlockWindow}
 use Rattle.spec_network.specs.Opening.{Sizes, Opening, link, global, lastNumber, latestNow, longestWire, mostWords}
 use Rattle.spec_network.specs.Lists.{within, below}
 use Rattle.spec_network.specs.Live.{Till, downTill, upTill, Live, isOriginal, idsAt, marked, stopped, tillAt}
-use Rattle.spec_network.specs.Accept.{Message, messageOf, receives, selected, Drawn, drawn, context, Class, deduplicated, partition, loss, fault, sent, classOf, effect, offered}
+use Rattle.spec_network.specs.Accept.{Message, messageOf, receives, selected, Drawn, drawn, context, Fate, deduplicated, partition, loss, fault, sent, fateOf, effect, offered}
 use Rattle.spec_network.specs.Flush.{served, later, stops, lands}
 use Rattle.spec_network.specs.Calls.{Call, withHandlers, accept, flush, takeDown, bringUp, handlers, block, blockDuring, unblock, install, remove, decide, drain, reading}
 use Rattle.spec_network.specs.Questions.{Room, askedIn, asked, firstNo}
@@ -55,21 +55,21 @@ In v = v < 2 ^ 64
 
 module _ (o : Opening) (lim : Limited (o .sizes)) (g : DrawsFit o) (m : Message) (k : NearMessage (o .sizes) m) (q : MessageFits m) where
   -- what an effect does to sequence, words and fault words
-  effect-sequence : (c : Class) (s : Live) (d : Drawn) (t : ℕ) → length (d .echoes .all) ≤ 2 → effect o m c s d t .queue .sequence ≤ s .queue .sequence + 3
+  effect-sequence : (c : Fate) (s : Live) (d : Drawn) (t : ℕ) → length (d .echoes .all) ≤ 2 → effect o m c s d t .queue .sequence ≤ s .queue .sequence + 3
   effect-sequence deduplicated s d t h = omega arith
   effect-sequence partition s d t h = omega arith
   effect-sequence loss s d t h = omega arith
   effect-sequence fault s d t h = omega arith
   effect-sequence sent s d t h = omega (arith, few-copies o m s d t h)
 
-  effect-words : (c : Class) (s : Live) (d : Drawn) (t i B : ℕ) → getD (s .words) i 0 ≤ B → d .loss .words ≤ B → d .latency .words ≤ B → d .echoes .words ≤ B → getD (effect o m c s d t .words) i 0 ≤ B
+  effect-words : (c : Fate) (s : Live) (d : Drawn) (t i B : ℕ) → getD (s .words) i 0 ≤ B → d .loss .words ≤ B → d .latency .words ≤ B → d .echoes .words ≤ B → getD (effect o m c s d t .words) i 0 ≤ B
   effect-words deduplicated s d t i B h a b e = h
   effect-words partition s d t i B h a b e = h
   effect-words loss s d t i B h a b e = set-most (s .words) (link (m .from) t) (d .loss .words) i B h a
   effect-words fault s d t i B h a b e = set-most (s .words) (link (m .from) t) (d .latency .words) i B h b
   effect-words sent s d t i B h a b e = set-most (s .words) (link (m .from) t) (d .echoes .words) i B h e
 
-  effect-fault : (c : Class) (s : Live) (d : Drawn) (t B : ℕ) → s .engine .words ≤ B → d .verdict .words ≤ B → effect o m c s d t .engine .words ≤ B
+  effect-fault : (c : Fate) (s : Live) (d : Drawn) (t B : ℕ) → s .engine .words ≤ B → d .verdict .words ≤ B → effect o m c s d t .engine .words ≤ B
   effect-fault deduplicated s d t B h v = h
   effect-fault partition s d t B h v = h
   effect-fault loss s d t B h v = h
@@ -84,22 +84,22 @@ module _ (o : Opening) (lim : Limited (o .sizes)) (g : DrawsFit o) (m : Message)
   accept-cells (t ∷ ts) T s w f b r l cells n W ws e v =
       let z = o .sizes in
       let d = drawn o m t s in
-      let c = classOf o m s t in
+      let c = fateOf o m s t in
       let gd = drawn-good o m k s t (b .0) f in
       let free : c ≡ sent → marked s t (m .id) ≡ false = sent-unmarked (marked s t (m .id)) (stopped s (m .from) t (m .now)) (d .loss .value) (d .verdict .drops) in
       let many : length (s .queue .waiting) ≡ cell (T .net) waitingAt = sym (ap (λ (x : Live). length (x .queue .waiting)) (w .holds)) ∙ length-rows waiting.width waiting.read (cell (T .net) waitingAt) (T .waiting) in
       let slot : c ≡ sent → length (idsAt s t) < z .seenSlots = λ x. room o m s t (r .0) (free x) in
-      let x = effect-wrote o m k (classOf o m (live z T) t) T (drawn o m t (live z T)) t (w .formed)
+      let x = effect-wrote o m k (fateOf o m (live z T) t) T (drawn o m t (live z T)) t (w .formed)
       (subst (λ (y : Live). Good o m (drawn o m t y)) (sym (w .holds)) gd .few) (b .0)
-      (subst (λ (y : Live). classOf o m y t ≡ sent → length (idsAt y t) < z .seenSlots) (sym (w .holds)) slot) (omega (arith, many)) in
+      (subst (λ (y : Live). fateOf o m y t ≡ sent → length (idsAt y t) < z .seenSlots) (sym (w .holds)) slot) (omega (arith, many)) in
       let y : Wrote z (offeredT o m T t) (effect o m c s d t) =
-      record { formed = x .formed; holds = x .holds ∙ ap (λ (y : Live). effect o m (classOf o m y t) y (drawn o m t y) t) (w .holds) } in
+      record { formed = x .formed; holds = x .holds ∙ ap (λ (y : Live). effect o m (fateOf o m y t) y (drawn o m t y) t) (w .holds) } in
       let given : cell (T .net) sequenceAt ≡ s .queue .sequence = ap (λ (y : Live). y .queue .sequence) (w .holds) in
       let counted : getD (T .words) (link (m .from) t) 0 ≤ W = subst (λ (y : Live). getD (y .words) (link (m .from) t) 0 ≤ W) (sym (w .holds)) (ws .0) in
       let verdict : d .verdict .words ≤ s .engine .words + 128 = omega (arith, g .decide (context o m t) (s .engine .rules) (s .engine .words), f .engine .rules) in
       let verdict′ : drawn o m t (live z T) .verdict .words ≤ s .engine .words + 128 = subst (λ (y : Live). drawn o m t y .verdict .words ≤ s .engine .words + 128) (sym (w .holds)) verdict in
       let few = ids-few o z T t (w .formed) (b .0) in
-      let next = effect-cells o lim g m k q t (b .0) (classOf o m (live z T) t) T s (w .holds) f cells
+      let next = effect-cells o lim g m k q t (b .0) (fateOf o m (live z T) t) T s (w .holds) f cells
       (omega (arith, many, lim .waiting)) (omega (arith, given)) (omega (arith, counted)) (omega (arith, verdict′)) (omega (arith, few, lim .seen)) in
       let dw = drawn-words o lim g m k q t (b .0) s in
       let at : (u : ℕ) → getD (s .words) (link (m .from) u) 0 ≤ W → getD (effect o m c s d t .words) (link (m .from) u) 0 ≤ W + 26 =

@@ -26,7 +26,7 @@ use Rattle.fault_rules.specs.Rules.{ruleWidth, firedWord, fireTable}
 use Rattle.fault_decide.specs.Decide.{Decision}
 use Rattle.spec_network.specs.Opening.{Draw, Sizes, Opening, link, latestNow, longestWire}
 use Rattle.spec_network.specs.Live.{Carried, Live, idsAt, ringsOf}
-use Rattle.spec_network.specs.Accept.{Message, Echoed, Timed, Echoes, Drawn, drawn, context, carriedOf, ringFor, isEmpty, timed, replayed, echoed, echoesOf, original, echo, echoCopies, Class, deduplicated, partition, loss, fault, sent, copies}
+use Rattle.spec_network.specs.Accept.{Message, Echoed, Timed, Echoes, Drawn, drawn, context, carriedOf, ringFor, isEmpty, timed, replayed, echoed, echoesOf, original, echo, echoCopies, Fate, deduplicated, partition, loss, fault, sent, copies}
 use Rattle.spec_network.specs.Tables.{cell, Tables, live, idsStart, sequenceAt, waitingAt, faultWordsAt}
 use Rattle.spec_network.specs.Writes.{setNet, setTills, setWords, setSeen, setWaiting, setRings, setRules, setBlocks, setLog, netT, wordsT, marksT, waitingT, ruledT, pushT, rememberT, effectT}
 use Rattle.spec_book.specs.Cells.{Fit, CellsFit}
@@ -264,7 +264,7 @@ module _ (o : Opening) (lim : Limited (o .sizes)) (g : DrawsFit o) (m : Message)
       two [] n e = tt
       two (c ∷ l) n e = ((leb-true (c .wire) longestWire (both (ltb (c .class) (o .sizes .classes)) (leb (c .wire) longestWire) (n .0) .1), e .0), two l (n .1) (e .1))
 
-  pub effect-cells : (c : Class) (T : Tables) (s : Live) → live (o .sizes) T ≡ s → Fits (o .sizes) s → CellsFit T → cell (T .net) waitingAt ≤ 4096 → cell (T .net) sequenceAt ≤ 2 ^ 32
+  pub effect-cells : (c : Fate) (T : Tables) (s : Live) → live (o .sizes) T ≡ s → Fits (o .sizes) s → CellsFit T → cell (T .net) waitingAt ≤ 4096 → cell (T .net) sequenceAt ≤ 2 ^ 32
       → getD (T .words) (link (m .from) t) 0 ≤ 2 ^ 41 → o .draws .decide (context o m t) (live (o .sizes) T .engine .rules) (live (o .sizes) T .engine .words) .words ≤ 2 ^ 41
       → length (idsAt (live (o .sizes) T) t) ≤ 4096 → CellsFit (effectT o m c T (drawn o m t (live (o .sizes) T)) t)
   unfolding drawn

@@ -11,7 +11,7 @@ use Rattle.spec_network.specs.Lists.{bit}
 use Rattle.spec_network.specs.Opening.{Opening, Draw, Draws, link}
 use Rattle.spec_network.specs.Layout.{Layout, slotsOf}
 use Rattle.spec_network.specs.Live.{Carried, LiveBy, withEngine, marked, stopped, idsAt}
-use Rattle.spec_network.specs.Accept.{Entry, Message, messageOf, selected, Echoed, duplicateOf, replayOf, Echoes, Drawn, carriedOf, ringFor, isEmpty, timed, replayed, echoed, echoesOf, context, drawn, ruled, Class, deduplicated, partition, loss, fault, sent, firstFit, classOf, effect, offered, liveAfter, Booked, booked, tally}
+use Rattle.spec_network.specs.Accept.{Entry, Message, messageOf, selected, Echoed, duplicateOf, replayOf, Echoes, Drawn, carriedOf, ringFor, isEmpty, timed, replayed, echoed, echoesOf, context, drawn, ruled, Fate, deduplicated, partition, loss, fault, sent, firstFit, fateOf, effect, offered, liveAfter, Booked, booked, tally}
 use Rattle.spec_network.specs.Calls.{Call, number, counted, liveStep, answerOf, accept, flush, takeDown, bringUp, handlers, block, blockDuring, unblock, install, remove, decide, drain, reading}
 use Rattle.spec_network.specs.Questions.{Room, alone, pooled, ask, ask4, ask5, ask6, ask7, ask8, ask9, ask10, ask11, askRoom, askedIn, firstNo}
 use Rattle.spec_network.proofs.Opened.{SameDraws}
@@ -60,11 +60,11 @@ module _ (o : Opening) (d : Draws) (same : SameDraws (o .sizes .tills) d (o .dra
           let a = same .latency (m .from) t from to j (m .wire) (l .words) in
           record { loss = l; latency = a; verdict = same .decide j (context o m t) (s .engine .rules) (s .engine .words); echoes = same-echoes (ringFor s m) (a .words) j })
 
-      same-class : {k : Layout} (s : LiveBy k) → classOf (by o d) m s t ≡ classOf o m s t
-      same-class s = ap (λ (x : Drawn). firstFit (marked s t (m .id)) (stopped s (m .from) t (m .now)) (x .loss .value) (x .verdict .drops)) (same-drawn s)
+      same-fate : {k : Layout} (s : LiveBy k) → fateOf (by o d) m s t ≡ fateOf o m s t
+      same-fate s = ap (λ (x : Drawn). firstFit (marked s t (m .id)) (stopped s (m .from) t (m .now)) (x .loss .value) (x .verdict .drops)) (same-drawn s)
 
       -- beside what was drawn, an effect asks of the draws only whether the ring takes the message
-      same-effect : {k : Layout} (s : LiveBy k) (x : Drawn) (c : Class) → effect (by o d) m c s x t ≡ effect o m c s x t
+      same-effect : {k : Layout} (s : LiveBy k) (x : Drawn) (c : Fate) → effect (by o d) m c s x t ≡ effect o m c s x t
       same-effect s x deduplicated = refl
       same-effect s x partition = refl
       same-effect s x loss = refl
@@ -82,7 +82,7 @@ module _ (o : Opening) (d : Draws) (same : SameDraws (o .sizes .tills) d (o .dra
 
       same-offer : {k : Layout} (s : LiveBy k) → offered (by o d) m s t ≡ offered o m s t
       unfolding offered
-      same-offer s = same-effect s (drawn (by o d) m t s) (classOf (by o d) m s t) ∙ (λ j. effect o m (same-class s j) s (same-drawn s j) t)
+      same-offer s = same-effect s (drawn (by o d) m t s) (fateOf (by o d) m s t) ∙ (λ j. effect o m (same-fate s j) s (same-drawn s j) t)
 
     same-after : (ts : List ℕ) → Below (o .sizes .tills) ts → {k : Layout} (s : LiveBy k) → liveAfter (by o d) m s ts ≡ liveAfter o m s ts
     same-after [] b s = refl
@@ -92,7 +92,7 @@ module _ (o : Opening) (d : Draws) (same : SameDraws (o .sizes .tills) d (o .dra
     same-booked [] b s = refl
     same-booked (t ∷ ts) b {k} s =
         let rest : booked (by o d) m (offered (by o d) m s t) ts ≡ booked o m (offered o m s t) ts = same-booked ts (b .1) (offered (by o d) m s t) ∙ ap (λ (q : LiveBy k). booked o m q ts) (same-offer t (b .0) s) in
-        (λ j. record { till = t; class = same-class t (b .0) s j } ∷ rest j)
+        (λ j. record { till = t; fate = same-fate t (b .0) s j } ∷ rest j)
 
   same-message : (e : Entry) → messageOf (by o d) e ≡ messageOf o e
   same-message e = (λ j. record { from = e .from; now = e .now; kind = e .kind; class = e .class; scope = e .scope; wire = length (e .wire); id = same .id j (e .kind) (e .scope) (e .wire); tag = e .tag })

@@ -30,7 +30,7 @@ use Rattle.spec_network.specs.Layout.{Layout, plain, table, withCopy}
 use Rattle.spec_network.specs.Live.{Carried, Till, Engine, Live, LiveBy, ringsOf, idsAt, marked, stopped}
 use Rattle.table_log.specs.Log as log
 use Rattle.table_log.specs.Log.{Log}
-use Rattle.spec_network.specs.Accept.{Message, Timed, Drawn, drawn, original, echo, echoCopies, carriedOf, ringFor, Class, deduplicated, partition, loss, fault, sent, classOf, copies, insertAll, mark, remembered, ruled, effect, offered, liveAfter}
+use Rattle.spec_network.specs.Accept.{Message, Timed, Drawn, drawn, original, echo, echoCopies, carriedOf, ringFor, Fate, deduplicated, partition, loss, fault, sent, fateOf, copies, insertAll, mark, remembered, ruled, effect, offered, liveAfter}
 use Rattle.spec_network.specs.Lent.{nearTill, nearDelivery, nearCopy, nearBlock, nearCarried}
 use Rattle.spec_book.proofs.Each.{both, join, each-set, each-at, each-push}
 use Rattle.spec_book.proofs.Marks.{found-placed}
@@ -228,7 +228,7 @@ module _ (o : Opening) (m : Message) where
       go false = f
 
   module _ (k : NearMessage (o .sizes) m) (s : Live) (d : Drawn) (t : ℕ) (f : Fits (o .sizes) s) (g : Good d) where
-    pub effect-fits : (c : Class) → (c ≡ sent → marked s t (m .id) ≡ false) → t < o .sizes .tills → Ready s t → length (s .queue .waiting) + 3 ≤ o .sizes .waitSlots → Fits (o .sizes) (effect o m c s d t)
+    pub effect-fits : (c : Fate) → (c ≡ sent → marked s t (m .id) ≡ false) → t < o .sizes .tills → Ready s t → length (s .queue .waiting) + 3 ≤ o .sizes .waitSlots → Fits (o .sizes) (effect o m c s d t)
     effect-fits deduplicated h b r w = f
     effect-fits partition h b r w = f
     effect-fits loss h b r w = record { tills = f .tills; masks = f .masks; hosts = f .hosts; seen = f .seen; ordered = f .ordered; engine = f .engine; rings = f .rings; words = length-set (s .words) _ _ ∙ f .words; queue = f .queue; log = f .log }
@@ -250,14 +250,14 @@ module _ (o : Opening) (m : Message) where
       log = f .log;
     }
 
-    pub effect-length : (c : Class) → length (effect o m c s d t .queue .waiting) ≤ length (s .queue .waiting) + 3
+    pub effect-length : (c : Fate) → length (effect o m c s d t .queue .waiting) ≤ length (s .queue .waiting) + 3
     effect-length deduplicated = omega arith
     effect-length partition = omega arith
     effect-length loss = omega arith
     effect-length fault = omega arith
     effect-length sent = omega (arith, length-insertAll table (copies o m s d t) (s .queue .waiting), few-copies s d t (g .few))
 
-    pub effect-ready : (c : Class) → (c ≡ sent → marked s t (m .id) ≡ false) → t < o .sizes .tills → (u : ℕ) → Ready s u → Ready (effect o m c s d t) u
+    pub effect-ready : (c : Fate) → (c ≡ sent → marked s t (m .id) ≡ false) → t < o .sizes .tills → (u : ℕ) → Ready s u → Ready (effect o m c s d t) u
     effect-ready deduplicated h b u r = r
     effect-ready partition h b u r = r
     effect-ready loss h b u r = r
@@ -279,7 +279,7 @@ module _ (o : Opening) (m : Message) where
   accept-fits k [] s b r w f = f
   accept-fits k (t ∷ ts) s b r w f =
       let d = drawn o m t s in
-      let c = classOf o m s t in
+      let c = fateOf o m s t in
       let g = drawn-good k s t (b .0) f in
       let free : c ≡ sent → marked s t (m .id) ≡ false = sent-unmarked (marked s t (m .id)) (stopped s (m .from) t (m .now)) (d .loss .value) (d .verdict .drops) in
       accept-fits k ts (offered o m s t) (b .1) (each-map (Ready s) (Ready (offered o m s t)) ts (λ u. effect-ready k s d t f g c free (b .0) u) (r .1))

@@ -11,7 +11,7 @@ use Rattle.spec_network.specs.Lists.{bit, count}
 use Rattle.spec_network.specs.Opening.{Opening}
 use Rattle.spec_network.specs.Layout.{plain}
 use Rattle.spec_network.specs.Live.{LiveBy}
-use Rattle.spec_network.specs.Accept.{Message, messageOf, chosen, Drawn, drawn, Class, deduplicated, partition, loss, fault, sent, classOf, copies, effect, offered, liveAfter}
+use Rattle.spec_network.specs.Accept.{Message, messageOf, chosen, Drawn, drawn, Fate, deduplicated, partition, loss, fault, sent, fateOf, copies, effect, offered, liveAfter}
 use Rattle.spec_network.specs.Flush.{Row, rowOf, served, stops, lands, dropsOf, handled, loggedAll}
 use Rattle.spec_network.specs.Calls.{Call, rowsIn, deliveredIn, dropsIn, liveStep, answerOf, Kind, kindOf}
 use Rattle.spec_book.specs.Book.{Book, Event, landed, dropped, landedIn, droppedIn, flushEvents, eventsOf, offerEvents, eventsAfter, happenedBy, happened, bookStep, expected}
@@ -46,7 +46,7 @@ record Still (es es′ : List Event) : Type 0 where
   drops : droppedIn es ≡ droppedIn es′
 
 module _ (o : Opening) (m : Message) where
-  effect-still : (k : Class) (s : LiveBy plain) (d : Drawn) (t : ℕ) (es : List Event) → Still (eventsOf o m k s d t es) es
+  effect-still : (k : Fate) (s : LiveBy plain) (d : Drawn) (t : ℕ) (es : List Event) → Still (eventsOf o m k s d t es) es
   effect-still deduplicated s d t es = record { lands = refl; drops = refl }
   effect-still partition s d t es = record { lands = refl; drops = refl }
   effect-still loss s d t es = record { lands = refl; drops = refl }
@@ -57,7 +57,7 @@ module _ (o : Opening) (m : Message) where
   unfolding offered offerEvents
   accept-still [] s es = record { lands = refl; drops = refl }
   accept-still (t ∷ ts) s es =
-      let x = effect-still (classOf o m s t) s (drawn o m t s) t es in
+      let x = effect-still (fateOf o m s t) s (drawn o m t s) t es in
       let y = accept-still ts (offered o m s t) (offerEvents o m s t es) in
       record { lands = y .lands ∙ x .lands; drops = y .drops ∙ x .drops }
 
@@ -102,7 +102,7 @@ module _ (o : Opening) where
 
 -- an accept leaves the log alone
 module _ (o : Opening) (m : Message) where
-  effect-log : (k : Class) (s : LiveBy plain) (d : Drawn) (t : ℕ) → effect o m k s d t .log ≡ s .log
+  effect-log : (k : Fate) (s : LiveBy plain) (d : Drawn) (t : ℕ) → effect o m k s d t .log ≡ s .log
   effect-log deduplicated s d t = refl
   effect-log partition s d t = refl
   effect-log loss s d t = refl
@@ -112,7 +112,7 @@ module _ (o : Opening) (m : Message) where
   accept-log : (ts : List ℕ) (s : LiveBy plain) → liveAfter o m s ts .log ≡ s .log
   unfolding offered
   accept-log [] s = refl
-  accept-log (t ∷ ts) s = accept-log ts (offered o m s t) ∙ effect-log (classOf o m s t) s (drawn o m t s) t
+  accept-log (t ∷ ts) s = accept-log ts (offered o m s t) ∙ effect-log (fateOf o m s t) s (drawn o m t s) t
 
 module _ (o : Opening) where
   pub book-log : (b : Book) (c : Call) → bookStep o b c false .live .log ≡ logFrom o (isDrain o (kindOf c)) (b .live .log) (expected o b c false)

@@ -22,7 +22,7 @@ use Rattle.table_marks.proofs.Ordered.{none-ordered, found-member, member-place
 use Rattle.spec_network.specs.Opening.{Sizes, Opening, link, global}
 use Rattle.spec_network.specs.Layout.{plain, table, inserted, without, ringOf, withRing, ringsIn}
 use Rattle.spec_network.specs.Live.{Carried, Live, LiveBy, plainly, isOriginal, idsAt, marked, stopped, ringsOf}
-use Rattle.spec_network.specs.Accept.{Entry, Message, messageOf, selected, Drawn, drawn, context, echoesOf, carriedOf, ringFor, copies, insertAll, remembered, Class, deduplicated, partition, loss, fault, sent, firstFit, classOf, effect, offered, liveAfter, Booked, booked, tally}
+use Rattle.spec_network.specs.Accept.{Entry, Message, messageOf, selected, Drawn, drawn, context, echoesOf, carriedOf, ringFor, copies, insertAll, remembered, Fate, deduplicated, partition, loss, fault, sent, firstFit, fateOf, effect, offered, liveAfter, Booked, booked, tally}
 use Rattle.spec_network.specs.Flush.{served, stops, unmark, clearing}
 use Rattle.spec_network.specs.Calls.{Call, Reading, isBlocked, transit, fired, isDown, nextTime, tallyOf, waitingCopies, marksOf, ids, counted, read, liveStep, answerOf, accept, flush, takeDown, bringUp, handlers, block, blockDuring, unblock, install, remove, decide, drain, reading}
 use Rattle.spec_network.specs.Questions.{Room, alone, pooled, ask, ask4, ask5, ask6, ask7, ask8, ask9, ask11, askRoom, askedIn, firstNo}
@@ -194,8 +194,8 @@ module _ (o : Opening) (m : Message) (q : HasRing (o .sizes) m) where
         let d = o .draws .latency (m .from) t (m .wire) (l .words) in
         (λ j. record { loss = l; latency = d; verdict = o .draws .decide (context o m t) (s .engine .rules) (s .engine .words); echoes = echoesOf o m t (ring-same j) (d .words) })
 
-    same-class : (t : ℕ) → classOf o m s t ≡ classOf o m (plainly s) t
-    same-class t = (λ j. firstFit (same-marked s (r .marks) t (m .id) j) (stopped s (m .from) t (m .now)) (same-drawn t j .loss .value) (same-drawn t j .verdict .drops))
+    same-fate : (t : ℕ) → fateOf o m s t ≡ fateOf o m (plainly s) t
+    same-fate t = (λ j. firstFit (same-marked s (r .marks) t (m .id) j) (stopped s (m .from) t (m .now)) (same-drawn t j .loss .value) (same-drawn t j .verdict .drops))
 
     same-remembered : ringsIn (remembered o m s) ≡ remembered o m (plainly s)
     same-remembered = go (o .draws .echoing)
@@ -209,7 +209,7 @@ module _ (o : Opening) (m : Message) (q : HasRing (o .sizes) m) where
             ∙ (λ j. withRing plain (ringsIn (s .rings)) (m .kind) (m .scope) (ring (ring-same j)))
         go false = refl
 
-    same-effect : (d : Drawn) (t : ℕ) (c : Class) → (c ≡ sent → marked s t (m .id) ≡ false) → plainly (effect o m c s d t) ≡ effect o m c (plainly s) d t
+    same-effect : (d : Drawn) (t : ℕ) (c : Fate) → (c ≡ sent → marked s t (m .id) ≡ false) → plainly (effect o m c s d t) ≡ effect o m c (plainly s) d t
     same-effect d t deduplicated f = refl
     same-effect d t partition f = refl
     same-effect d t loss f = refl
@@ -225,7 +225,7 @@ module _ (o : Opening) (m : Message) (q : HasRing (o .sizes) m) where
         go true = length-set (s .rings) (numberOf (m .kind) (m .scope)) _ ∙ r .rings
         go false = r .rings
 
-    effect-order : (d : Drawn) (t : ℕ) (c : Class) → (c ≡ sent → marked s t (m .id) ≡ false) → InOrder (o .sizes) (effect o m c s d t)
+    effect-order : (d : Drawn) (t : ℕ) (c : Fate) → (c ≡ sent → marked s t (m .id) ≡ false) → InOrder (o .sizes) (effect o m c s d t)
     effect-order d t deduplicated f = r
     effect-order d t partition f = r
     effect-order d t loss f = record { marks = r .marks; queue = r .queue; rings = r .rings }
@@ -236,16 +236,16 @@ module _ (o : Opening) (m : Message) (q : HasRing (o .sizes) m) where
       rings = remembered-many;
     }
 
-    unmarked : (t : ℕ) → classOf o m s t ≡ sent → marked s t (m .id) ≡ false
+    unmarked : (t : ℕ) → fateOf o m s t ≡ sent → marked s t (m .id) ≡ false
     unmarked t = let d = drawn o m t s in sent-unmarked (marked s t (m .id)) (stopped s (m .from) t (m .now)) (d .loss .value) (d .verdict .drops)
 
     same-offer : (t : ℕ) → plainly (offered o m s t) ≡ offered o m (plainly s) t
     unfolding offered
-    same-offer t = same-effect (drawn o m t s) t (classOf o m s t) (unmarked t) ∙ (λ j. effect o m (same-class t j) (plainly s) (same-drawn t j) t)
+    same-offer t = same-effect (drawn o m t s) t (fateOf o m s t) (unmarked t) ∙ (λ j. effect o m (same-fate t j) (plainly s) (same-drawn t j) t)
 
     offer-order : (t : ℕ) → InOrder (o .sizes) (offered o m s t)
     unfolding offered
-    offer-order t = effect-order (drawn o m t s) t (classOf o m s t) (unmarked t)
+    offer-order t = effect-order (drawn o m t s) t (fateOf o m s t) (unmarked t)
 
   same-after : (ts : List ℕ) (s : Live) → InOrder (o .sizes) s → plainly (liveAfter o m s ts) ≡ liveAfter o m (plainly s) ts
   same-after [] s r = refl
@@ -255,7 +255,7 @@ module _ (o : Opening) (m : Message) (q : HasRing (o .sizes) m) where
   same-booked [] s r = refl
   same-booked (t ∷ ts) s r =
       let rest : booked o m (offered o m s t) ts ≡ booked o m (offered o m (plainly s) t) ts = same-booked ts (offered o m s t) (offer-order s r t) ∙ ap (λ (x : LiveBy plain). booked o m x ts) (same-offer s r t) in
-      (λ j. record { till = t; class = same-class s r t j } ∷ rest j)
+      (λ j. record { till = t; fate = same-fate s r t j } ∷ rest j)
 
 -- ---- Flush
 

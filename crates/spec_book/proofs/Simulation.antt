@@ -27,7 +27,7 @@ use Rattle.fault_blocks.specs.declared.BlockWindow.{BlockWindow}
 use Rattle.spec_network.specs.Opening.{Sizes, Opening, link}
 use Rattle.spec_network.specs.Layout.{table}
 use Rattle.spec_network.specs.Live.{Till, downTill, upTill, Live, withTills, withSeen, withEngine, withRings, withWaiting, withLog, withBlocks, isOriginal, idsAt, marked, stopped, tillAt, ringsOf}
-use Rattle.spec_network.specs.Accept.{Message, messageOf, selected, Drawn, drawn, carriedOf, Class, deduplicated, partition, loss, fault, sent, classOf, copies, insertAll, ruled, remembered, wordsMoved, effect, offered, liveAfter}
+use Rattle.spec_network.specs.Accept.{Message, messageOf, selected, Drawn, drawn, carriedOf, Fate, deduplicated, partition, loss, fault, sent, fateOf, copies, insertAll, ruled, remembered, wordsMoved, effect, offered, liveAfter}
 use Rattle.spec_network.specs.Flush.{served, later, stops, lands, unmark, clearing, loggedAll, flushed}
 use Rattle.table_log.specs.Log.{logged, emptyLog}
 use Rattle.spec_network.specs.Calls.{Call, liveStep, withHandlers, ruleAdded, ruleRemoved, accept, flush, takeDown, bringUp, handlers, block, blockDuring, unblock, install, remove, decide, drain, reading}
@@ -67,7 +67,7 @@ module _ (o : Opening) where
         let w = words-wrote (o .sizes) T f (link (m .from) t) n in
         ruled-wrote (o .sizes) (wordsT T (link (m .from) t) n) (w .formed) v
 
-    pub effect-wrote : (c : Class) (T : Tables) (d : Drawn) (t : ℕ) → Formed (o .sizes) T → length (d .echoes .all) ≤ 2 → t < o .sizes .tills
+    pub effect-wrote : (c : Fate) (T : Tables) (d : Drawn) (t : ℕ) → Formed (o .sizes) T → length (d .echoes .all) ≤ 2 → t < o .sizes .tills
         → (c ≡ sent → length (idsAt (live (o .sizes) T) t) < o .sizes .seenSlots) → cell (T .net) waitingAt + 3 ≤ o .sizes .waitSlots → Wrote (o .sizes) (effectT o m c T d t) (effect o m c (live (o .sizes) T) d t)
     effect-wrote deduplicated T d t f g b r w = record { formed = f; holds = refl }
     effect-wrote partition T d t f g b r w = record { formed = f; holds = refl }
@@ -102,16 +102,16 @@ module _ (o : Opening) where
     accept-wrote (t ∷ ts) T s w f b r l =
         let z = o .sizes in
         let d = drawn o m t s in
-        let c = classOf o m s t in
+        let c = fateOf o m s t in
         let g = drawn-good o m k s t (b .0) f in
         let free : c ≡ sent → marked s t (m .id) ≡ false = sent-unmarked (marked s t (m .id)) (stopped s (m .from) t (m .now)) (d .loss .value) (d .verdict .drops) in
         let many : length (s .queue .waiting) ≡ cell (T .net) waitingAt = sym (ap (λ (q : Live). length (q .queue .waiting)) (w .holds)) ∙ length-rows waiting.width waiting.read (cell (T .net) waitingAt) (T .waiting) in
         let slot : c ≡ sent → length (idsAt s t) < z .seenSlots = λ e. room o m s t (r .0) (free e) in
-        let x = effect-wrote (classOf o m (live z T) t) T (drawn o m t (live z T)) t (w .formed)
+        let x = effect-wrote (fateOf o m (live z T) t) T (drawn o m t (live z T)) t (w .formed)
         (subst (λ (q : Live). Good o m (drawn o m t q)) (sym (w .holds)) g .few) (b .0)
-        (subst (λ (q : Live). classOf o m q t ≡ sent → length (idsAt q t) < z .seenSlots) (sym (w .holds)) slot) (omega (arith, many)) in
+        (subst (λ (q : Live). fateOf o m q t ≡ sent → length (idsAt q t) < z .seenSlots) (sym (w .holds)) slot) (omega (arith, many)) in
         let y : Wrote z (offeredT o m T t) (effect o m c s d t) =
-        record { formed = x .formed; holds = x .holds ∙ ap (λ (q : Live). effect o m (classOf o m q t) q (drawn o m t q) t) (w .holds) } in
+        record { formed = x .formed; holds = x .holds ∙ ap (λ (q : Live). effect o m (fateOf o m q t) q (drawn o m t q) t) (w .holds) } in
         accept-wrote ts (offeredT o m T t) (effect o m c s d t) y
         (effect-fits o m k s d t f g c free (b .0) (r .0) (omega arith)) (b .1)
         (each-map (Ready o m s) (Ready o m (offered o m s t)) ts (λ u. effect-ready o m k s d t f g c free (b .0) u) (r .1)) (omega (arith, effect-length o m k s d t f g c))

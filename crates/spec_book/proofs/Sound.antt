@@ -22,7 +22,7 @@ use Rattle.spec_network.specs.Lists.{bit, count, below}
 use Rattle.spec_network.specs.Opening.{Opening}
 use Rattle.spec_network.specs.Layout.{Layout, plain, Marks, inserted}
 use Rattle.spec_network.specs.Live.{LiveBy, isOriginal, marked, idsAt, stopped}
-use Rattle.spec_network.specs.Accept.{Message, messageOf, selected, Drawn, drawn, Class, deduplicated, partition, loss, fault, sent, firstFit, classOf, copies, effect, offered, liveAfter, insertAll}
+use Rattle.spec_network.specs.Accept.{Message, messageOf, selected, Drawn, drawn, Fate, deduplicated, partition, loss, fault, sent, firstFit, fateOf, copies, effect, offered, liveAfter, insertAll}
 use Rattle.spec_network.specs.Flush.{served, stops, unmark, clearing}
 use Rattle.spec_network.specs.Calls.{Call, liveStep, accept, flush, takeDown, bringUp, handlers, block, blockDuring, unblock, install, remove, decide, drain, reading}
 use Rattle.spec_book.specs.Book.{Book, Event, scheduledIn, landedIn, droppedIn, eventsOf, offerEvents, eventsAfter, happened, opened, bookStep}
@@ -65,7 +65,7 @@ sent-unmarked false p l f h = refl
 -- ---- One recipient
 
 module _ (o : Opening) (m : Message) (s : LiveBy plain) (d : Drawn) (t : ℕ) (past : List Event) (h : SoundLive o s past) where
-  effect-sound : (k : Class) → (k ≡ sent → marked s t (m .id) ≡ false) → t < o .sizes .tills → SoundLive o (effect o m k s d t) (eventsOf o m k s d t past)
+  effect-sound : (k : Fate) → (k ≡ sent → marked s t (m .id) ≡ false) → t < o .sizes .tills → SoundLive o (effect o m k s d t) (eventsOf o m k s d t past)
   effect-sound deduplicated f b = h
   effect-sound partition f b = h
   effect-sound loss f b = h
@@ -118,7 +118,7 @@ module _ (o : Opening) (m : Message) where
   accept-sound (t ∷ ts) s past b h =
       let d = drawn o m t s in
       accept-sound ts (offered o m s t) (offerEvents o m s t past) (b .1)
-      (effect-sound o m s d t past h (classOf o m s t) (sent-unmarked (marked s t (m .id)) (stopped s (m .from) t (m .now)) (d .loss .value) (d .verdict .drops)) (b .0))
+      (effect-sound o m s d t past h (fateOf o m s t) (sent-unmarked (marked s t (m .id)) (stopped s (m .from) t (m .now)) (d .loss .value) (d .verdict .drops)) (b .0))
 
 -- ---- Every call
 

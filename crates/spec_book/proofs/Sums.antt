@@ -4,12 +4,12 @@ use Prim.Native.Nat.{ℕ, suc}
 use native.Mathlib.Omega.{arith}
 use mathlib.Core.List.{List, [], _∷_, map}
 use lib.ListN.{length}
-use Rattle.spec_network.specs.Accept.{Message, Class, sent, deduplicated, partition, loss, fault, Counts, add, total, Booked, booked, tally, offered}
+use Rattle.spec_network.specs.Accept.{Message, Fate, sent, deduplicated, partition, loss, fault, Counts, add, total, Booked, booked, tally, offered}
 use Rattle.spec_network.specs.Layout.{plain}
 use Rattle.spec_network.specs.Live.{LiveBy}
 use Rattle.spec_network.specs.Opening.{Opening}
 
-add-total : (k : Class) (n : Counts) → total (add k n) ≡ suc (total n)
+add-total : (k : Fate) (n : Counts) → total (add k n) ≡ suc (total n)
 add-total deduplicated n = omega arith
 add-total partition n = omega arith
 add-total loss n = omega arith
@@ -18,7 +18,7 @@ add-total sent n = omega arith
 
 tally-total : (bs : List Booked) → total (tally bs) ≡ length bs
 tally-total [] = refl
-tally-total (b ∷ bs) = add-total (b .class) (tally bs) ∙ ap suc (tally-total bs)
+tally-total (b ∷ bs) = add-total (b .fate) (tally bs) ∙ ap suc (tally-total bs)
 
 module _ (o : Opening) (m : Message) where
   -- each recipient goes under one class

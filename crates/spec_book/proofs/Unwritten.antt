@@ -10,7 +10,7 @@ use Rattle.fault_rules.specs.Rules.{fireTable}
 use Rattle.fault_decide.specs.Decide.{Decision}
 use Rattle.spec_network.specs.Opening.{Sizes, Opening, link}
 use Rattle.spec_network.specs.Live.{Live, isOriginal, idsAt, ringsOf}
-use Rattle.spec_network.specs.Accept.{Message, messageOf, selected, Drawn, drawn, Class, deduplicated, partition, loss, fault, sent, classOf, copies, carriedOf}
+use Rattle.spec_network.specs.Accept.{Message, messageOf, selected, Drawn, drawn, Fate, deduplicated, partition, loss, fault, sent, fateOf, copies, carriedOf}
 use Rattle.spec_network.specs.Flush.{served, later, stops, lands}
 use Rattle.spec_network.specs.Calls.{Call, accept, flush, takeDown, bringUp, handlers, block, blockDuring, unblock, install, remove, decide, drain, reading}
 use Rattle.spec_network.specs.Tables.{Tables, live, faultWordsAt}
@@ -52,7 +52,7 @@ module _ (o : Opening) where
         go true = refl
         go false = refl
 
-    same-effect : (k : Class) (T : Tables) (d : Drawn) (t : ℕ) → fourOf (effectT o m k T d t) ≡ fourOf T
+    same-effect : (k : Fate) (T : Tables) (d : Drawn) (t : ℕ) → fourOf (effectT o m k T d t) ≡ fourOf T
     same-effect deduplicated T d t = refl
     same-effect partition T d t = refl
     same-effect loss T d t = refl
@@ -65,7 +65,7 @@ module _ (o : Opening) where
 
     same-accept : (ts : List ℕ) (T : Tables) → fourOf (acceptT o m T ts) ≡ fourOf T
     same-accept [] T = refl
-    same-accept (t ∷ ts) T = same-accept ts (offeredT o m T t) ∙ same-effect (classOf o m (live (o .sizes) T) t) T (drawn o m t (live (o .sizes) T)) t
+    same-accept (t ∷ ts) T = same-accept ts (offeredT o m T t) ∙ same-effect (fateOf o m (live (o .sizes) T) t) T (drawn o m t (live (o .sizes) T)) t
 
   pub same-step : (T : Tables) (c : Call) → fourOf (stepT o T c) ≡ fourOf T
   same-step T (accept e true) = same-accept (messageOf o e) (selected o (live (o .sizes) T) (e .scope) (e .from)) T

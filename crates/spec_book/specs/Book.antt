@@ -6,7 +6,7 @@ use Rattle.spec_network.specs.Opening.{Opening}
 use Rattle.table_waiting.specs.declared.Copy.{Copy}
 use Rattle.spec_network.specs.Layout.{plain}
 use Rattle.spec_network.specs.Live.{LiveBy, openingLive}
-use Rattle.spec_network.specs.Accept.{Entry, Message, messageOf, chosen, entered, Drawn, drawn, Class, deduplicated, partition, loss, fault, sent, classOf, copies, offered}
+use Rattle.spec_network.specs.Accept.{Entry, Message, messageOf, chosen, entered, Drawn, drawn, Fate, deduplicated, partition, loss, fault, sent, fateOf, copies, offered}
 use Rattle.spec_network.specs.Flush.{served, stops}
 use Rattle.spec_network.specs.Calls.{Call, Answer, silent, liveStep, answerOf, Kind, kindOf, accepting, flushing, takingDown, draining, quiet}
 
@@ -57,7 +57,7 @@ flushEvents s (c ∷ cs) es = flushEvents s cs (cond (stops s c) (dropped c) (la
 
 module _ (o : Opening) where
   module _ (m : Message) where
-    abbrev pub eventsOf : Class → LiveBy plain → Drawn → ℕ → List Event → List Event
+    abbrev pub eventsOf : Fate → LiveBy plain → Drawn → ℕ → List Event → List Event
     eventsOf deduplicated s d t es = es
     eventsOf partition s d t es = es
     eventsOf loss s d t es = es
@@ -65,7 +65,7 @@ module _ (o : Opening) where
     eventsOf sent s d t es = scheduling (copies o m s d t) es
 
     unfoldable pub offerEvents : LiveBy plain → ℕ → List Event → List Event
-    offerEvents s t es = eventsOf (classOf o m s t) s (drawn o m t s) t es
+    offerEvents s t es = eventsOf (fateOf o m s t) s (drawn o m t s) t es
 
     abbrev pub eventsAfter : LiveBy plain → List ℕ → List Event → List Event
     eventsAfter s [] es = es

@@ -12,7 +12,7 @@ use Rattle.table_waiting.specs.declared.Copy.{Copy}
 use Rattle.spec_network.specs.Opening.{Opening, Draws}
 use Rattle.spec_network.specs.Layout.{plain}
 use Rattle.spec_network.specs.Live.{Live, LiveBy}
-use Rattle.spec_network.specs.Accept.{Message, messageOf, chosen, drawn, Class, deduplicated, partition, loss, fault, sent, classOf, copies, effect, offered, liveAfter}
+use Rattle.spec_network.specs.Accept.{Message, messageOf, chosen, drawn, Fate, deduplicated, partition, loss, fault, sent, fateOf, copies, effect, offered, liveAfter}
 use Rattle.spec_network.specs.Calls.{Call, liveStep, accept}
 use Rattle.spec_network.specs.Questions.{alone, pooled, firstNo, askedIn}
 use Rattle.spec_network.specs.Tables.{Tables, live}
@@ -67,7 +67,7 @@ module _ (o : Opening) (share free : ℕ) (in-limit : share ≤ o .sizes .waitSl
 -- ---- How many copies wait after a call
 
 module _ (o : Opening) where
-  effect-few : (m : Message) (s : LiveBy plain) (t : ℕ) (k : Class) → length (effect o m k s (drawn o m t s) t .queue .waiting) ≤ length (s .queue .waiting) + 3
+  effect-few : (m : Message) (s : LiveBy plain) (t : ℕ) (k : Fate) → length (effect o m k s (drawn o m t s) t .queue .waiting) ≤ length (s .queue .waiting) + 3
   effect-few m s t deduplicated = omega arith
   effect-few m s t partition = omega arith
   effect-few m s t loss = omega arith
@@ -77,7 +77,7 @@ module _ (o : Opening) where
   accept-few : (m : Message) (ts : List ℕ) (s : LiveBy plain) → length (liveAfter o m s ts .queue .waiting) ≤ length (s .queue .waiting) + 3 * length ts
   unfolding offered
   accept-few m [] s = omega arith
-  accept-few m (t ∷ ts) s = omega (arith, accept-few m ts (offered o m s t), effect-few m s t (classOf o m s t))
+  accept-few m (t ∷ ts) s = omega (arith, accept-few m ts (offered o m s t), effect-few m s t (fateOf o m s t))
 
   -- no more than there were, or than it found room for
   pub step-few : (free most : ℕ) (s : LiveBy plain) (c : Call) → firstNo (askedIn o (pooled free) s c) ≡ 0 → length (s .queue .waiting) ≤ most → free ≤ most → length (liveStep o s c .queue .waiting) ≤ most

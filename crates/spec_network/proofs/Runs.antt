@@ -8,7 +8,7 @@ use lib.Dec.{eqb, ltb}
 use lib.ListN.{length, drop, replicate}
 use Rattle.table_waiting.specs.declared.Copy.{Copy}
 use Rattle.fault_rules.specs.declared.FaultRule.{FaultRule}
-use Rattle.fault_rule.specs.declared.Message.{Message}
+use Rattle.fault_rule.specs.declared.MessageContext.{MessageContext}
 use Rattle.fault_rule.specs.Rule.{ruleOf, applies}
 use Rattle.fault_decide.specs.Decide.{Decision}
 use Rattle.spec_network.specs.Opening.{Draw, Draws, Settings, Opening, global}
@@ -48,7 +48,7 @@ abbrev chance : ℕ → ℕ → Draw Bool
 chance rate words = cond (eqb rate 0) (record { value = false; words = words }) (record { value = ltb (words * 37 % 100) rate; words = 2 + words })
 
 -- every rule that applies drops, and takes two words
-abbrev toyDecide : Message → List FaultRule → ℕ → Decision
+abbrev toyDecide : MessageContext → List FaultRule → ℕ → Decision
 toyDecide m [] w = record { drops = false; place = 0; words = w }
 toyDecide m (r ∷ rs) w = record { drops = applies (ruleOf (r .spec)) m; place = 0; words = 2 + w }
 

@@ -166,11 +166,11 @@ ruled e v = withRules e (rulesAfter v (e .rules)) (e .installed) (v .words)
 
 -- ---- One recipient
 
-pub data Class : Type 0 where
-  deduplicated partition loss fault sent : Class
+pub data Fate : Type 0 where
+  deduplicated partition loss fault sent : Fate
 
 -- a recipient goes under the first that fits: its mark stands, it is stopped, the loss draw hits, a rule drops it; else sent
-abbrev pub firstFit : Bool → Bool → Bool → Bool → Class
+abbrev pub firstFit : Bool → Bool → Bool → Bool → Fate
 firstFit true p l f = deduplicated
 firstFit false true l f = partition
 firstFit false false true f = loss
@@ -185,8 +185,8 @@ abbrev pub mark : (k : Layout) → ℕ → ℕ → List (Marks k) → List (Mark
 mark k t i seen = set seen t (withMark k i (getD seen t (noMarks k)))
 
 module _ (o : Opening) (m : Message) where
-  abbrev pub classOf : {k : Layout} → LiveBy k → ℕ → Class
-  classOf s t =
+  abbrev pub fateOf : {k : Layout} → LiveBy k → ℕ → Fate
+  fateOf s t =
       let d = drawn o m t s in
       firstFit (marked s t (m .id)) (stopped s (m .from) t (m .now)) (d .loss .value) (d .verdict .drops)
 
@@ -202,7 +202,7 @@ module _ (o : Opening) (m : Message) where
   remembered {k} s = cond (o .draws .echoing) (withRing k (s .rings) (m .kind) (m .scope) (push slots (ringFor s m) (carriedOf m))) (s .rings)
 
   -- sent sets the mark and puts the copies into waiting; then the ring takes the message
-  abbrev pub effect : {k : Layout} → Class → LiveBy k → Drawn → ℕ → LiveBy k
+  abbrev pub effect : {k : Layout} → Fate → LiveBy k → Drawn → ℕ → LiveBy k
   effect deduplicated s d t = s
   effect partition s d t = s
   effect loss s d t = wordsMoved s t (d .loss .words)
@@ -215,7 +215,7 @@ module _ (o : Opening) (m : Message) where
       withRings s₃ (remembered s)
 
   unfoldable pub offered : {k : Layout} → LiveBy k → ℕ → LiveBy k
-  offered s t = effect (classOf s t) s (drawn o m t s) t
+  offered s t = effect (fateOf s t) s (drawn o m t s) t
 
   -- the selected in host order, each on what the one before left
   abbrev pub liveAfter : {k : Layout} → LiveBy k → List ℕ → LiveBy k
@@ -227,12 +227,12 @@ module _ (o : Opening) (m : Message) where
 -- a selected till, and what it goes under
 pub record Booked : Type 0 where
   pub till : ℕ
-  pub class : Class
+  pub fate : Fate
 
 module _ (o : Opening) (m : Message) where
   abbrev pub booked : {k : Layout} → LiveBy k → List ℕ → List Booked
   booked s [] = []
-  booked s (t ∷ ts) = record { till = t; class = classOf o m s t } ∷ booked (offered o m s t) ts
+  booked s (t ∷ ts) = record { till = t; fate = fateOf o m s t } ∷ booked (offered o m s t) ts
 
 pub record Counts : Type 0 where
   pub sent : ℕ
@@ -241,31 +241,31 @@ pub record Counts : Type 0 where
   pub loss : ℕ
   pub fault : ℕ
 
-abbrev pub classNumber : Class → ℕ
-classNumber sent = 0
-classNumber deduplicated = 1
-classNumber partition = 2
-classNumber loss = 3
-classNumber fault = 4
+abbrev pub fateNumber : Fate → ℕ
+fateNumber sent = 0
+fateNumber deduplicated = 1
+fateNumber partition = 2
+fateNumber loss = 3
+fateNumber fault = 4
 
-abbrev pub isClass : Class → Class → Bool
-isClass j k = eqb (classNumber j) (classNumber k)
+abbrev pub isFate : Fate → Fate → Bool
+isFate j k = eqb (fateNumber j) (fateNumber k)
 
 abbrev pub noCounts : Counts
 noCounts = record { sent = 0; deduplicated = 0; partition = 0; loss = 0; fault = 0 }
 
-abbrev pub add : Class → Counts → Counts
+abbrev pub add : Fate → Counts → Counts
 add k n = record {
-  sent = bit (isClass k sent) + n .sent;
-  deduplicated = bit (isClass k deduplicated) + n .deduplicated;
-  partition = bit (isClass k partition) + n .partition;
-  loss = bit (isClass k loss) + n .loss;
-  fault = bit (isClass k fault) + n .fault;
+  sent = bit (isFate k sent) + n .sent;
+  deduplicated = bit (isFate k deduplicated) + n .deduplicated;
+  partition = bit (isFate k partition) + n .partition;
+  loss = bit (isFate k loss) + n .loss;
+  fault = bit (isFate k fault) + n .fault;
 }
 
 abbrev pub tally : List Booked → Counts
 tally [] = noCounts
-tally (b ∷ bs) = add (b .class) (tally bs)
+tally (b ∷ bs) = add (b .fate) (tally bs)
 
 abbrev pub total : Counts → ℕ
 total n = n .sent + n .deduplicated + n .partition + n .loss + n .fault

@@ -7,7 +7,7 @@ use lib.ListN.{getD, replicate}
 use Rattle.table_waiting.specs.declared.Copy.{Copy}
 use Rattle.table_log.specs.Log.{Log, emptyLog}
 use Rattle.table_rings.specs.declared.Entry as rings
-use Rattle.fault_rule.specs.declared.Message as rule
+use Rattle.fault_rule.specs.declared.MessageContext as rule
 use Rattle.fault_rules.specs.declared.FaultRule.{FaultRule}
 use Rattle.fault_blocks.specs.declared.BlockWindow.{BlockWindow}
 use Rattle.fault_blocks.specs.Blocks.{blocked}
@@ -47,7 +47,7 @@ upTill shards = record { up = 1; gossip = 0; host = 0; shards = shards }
 
 -- what the rules are asked of: `MessageContext`, and now
 abbrev pub Context : Type 0
-Context = rule.Message
+Context = rule.MessageContext
 
 -- `Engine`: the fault stream's word count, and how many rules were ever installed
 pub record Engine : Type 0 where

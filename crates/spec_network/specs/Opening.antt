@@ -2,7 +2,7 @@
 use Prim.Native.Nat.{ℕ, _+_, _*_}
 use mathlib.Core.Bool.{Bool}
 use mathlib.Core.List.{List}
-use Rattle.fault_rule.specs.declared.Message.{Message}
+use Rattle.fault_rule.specs.declared.MessageContext.{MessageContext}
 use Rattle.fault_rules.specs.declared.FaultRule.{FaultRule}
 use Rattle.fault_decide.specs.Decide.{Decision}
 
@@ -107,7 +107,7 @@ pub record Draws : Type 0 where
   pub latency : (from to bytes words : ℕ) → Draw ℕ
   pub index : (from to n words : ℕ) → Draw ℕ
   -- what the rules say of a message
-  pub decide : Message → List FaultRule → (words : ℕ) → Decision
+  pub decide : MessageContext → List FaultRule → (words : ℕ) → Decision
   pub id : (kind scope : ℕ) → (wire : List ℕ) → ℕ
 
 -- what the calls go by

@@ -20,7 +20,7 @@ use Rattle.fault_blocks.specs.declared.BlockWindow.{BlockWindow}
 use Rattle.fault_blocks.specs.Blocks.{always, during, blockTable, unblockTable, openCount}
 use Rattle.spec_network.specs.Opening.{Sizes, Opening, link}
 use Rattle.spec_network.specs.Live.{Till, downTill, upTill, Live, isOriginal, idsAt, tillAt, ringsOf}
-use Rattle.spec_network.specs.Accept.{Entry, Message, messageOf, chosen, Drawn, drawn, Class, deduplicated, partition, loss, fault, sent, classOf, copies, carriedOf}
+use Rattle.spec_network.specs.Accept.{Entry, Message, messageOf, chosen, Drawn, drawn, Fate, deduplicated, partition, loss, fault, sent, fateOf, copies, carriedOf}
 use Rattle.spec_network.specs.Flush.{Row, served, later, stops, lands}
 use Rattle.spec_network.specs.Calls as calls
 use Rattle.spec_network.specs.Calls.{Call, Answer, silent, answerOf, accept, flush, takeDown, bringUp, handlers, block, blockDuring, unblock, install, remove, decide, drain, reading, withHandlers}
@@ -102,7 +102,7 @@ module _ (o : Opening) (m : Message) where
   abbrev pub rememberT : Tables → Tables
   rememberT T = cond (o .draws .echoing) (setRings T (rings.pushed (ringsOf (o .sizes)) (T .rings) (rings.numberOf (m .kind) (m .scope)) (carriedOf m))) T
 
-  abbrev pub effectT : Class → Tables → Drawn → ℕ → Tables
+  abbrev pub effectT : Fate → Tables → Drawn → ℕ → Tables
   effectT deduplicated T d t = T
   effectT partition T d t = T
   effectT loss T d t = wordsT T (link (m .from) t) (d .loss .words)
@@ -114,7 +114,7 @@ module _ (o : Opening) (m : Message) where
       rememberT (pushT (o .sizes) T₂ (copies o m s d t))
 
   abbrev pub offeredT : Tables → ℕ → Tables
-  offeredT T t = effectT (classOf o m (live (o .sizes) T) t) T (drawn o m t (live (o .sizes) T)) t
+  offeredT T t = effectT (fateOf o m (live (o .sizes) T) t) T (drawn o m t (live (o .sizes) T)) t
 
   -- the selected in host order, each on what the one before left
   abbrev pub acceptT : Tables → List ℕ → Tables

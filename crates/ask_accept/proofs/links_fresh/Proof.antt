@@ -6,13 +6,13 @@ use Prim.Native.Nat.{_≤_, _-_}
 use Rattle.table_rows.specs.Rows.{allOf}
 use Rattle.ask_accept.specs.Asking.{freshAt}
 use Rattle.call_offer.specs.Offering.{selectsAt}
-use Rattle.call_recipients.specs.Turning.{left}
+use Rattle.call_recipients.specs.Turning.{remaining}
 use Rattle.spec_network.specs.Tables.{sizesAt}
 use Rattle.ask_accept.proofs.links_fresh.Statement.{statement}
 use Rattle.ask_accept.proofs.links_fresh.Tie as tie
 
 abbrev Inv-loop : tie.InvT-loop
-Inv-loop setup tills words m n to₀ to = (to ≤ n) × (allOf (freshAt words m) (left setup tills m 0) ≡ allOf (freshAt words m) (left setup tills m to))
+Inv-loop setup tills words m n to₀ to = (to ≤ n) × (allOf (freshAt words m) (remaining setup tills m 0) ≡ allOf (freshAt words m) (remaining setup tills m to))
 
 abbrev μ-loop : tie.MeasureT-loop
 μ-loop setup tills words m n to₀ to = n - to

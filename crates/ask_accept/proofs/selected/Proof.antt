@@ -5,14 +5,14 @@ use native.Mathlib.Omega.{arith}
 use Prim.Native.Nat.{_≤_, _-_, _+_}
 use lib.ListN.{length}
 use Rattle.call_offer.specs.Offering.{selectsAt}
-use Rattle.call_recipients.specs.Turning.{left}
+use Rattle.call_recipients.specs.Turning.{remaining}
 use Rattle.spec_network.specs.Tables.{sizesAt}
 use mathlib.Core.Bool.{true}
 use Rattle.ask_accept.proofs.selected.Statement.{statement}
 use Rattle.ask_accept.proofs.selected.Tie as tie
 
 abbrev Inv-loop : tie.InvT-loop
-Inv-loop setup tills m n c₀ to₀ c to = (to ≤ n) × (c ≤ to) × (length (left setup tills m 0) ≡ c + length (left setup tills m to))
+Inv-loop setup tills m n c₀ to₀ c to = (to ≤ n) × (c ≤ to) × (length (remaining setup tills m 0) ≡ c + length (remaining setup tills m to))
 
 abbrev μ-loop : tie.MeasureT-loop
 μ-loop setup tills m n c₀ to₀ c to = n - to

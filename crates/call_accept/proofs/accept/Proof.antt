@@ -1,6 +1,6 @@
 use Rattle.call_accept.proofs.Calling.{shut, early, closed, full, delivered}
 use Rattle.call_accept.proofs.Facts.{lent-says, fixed, seen-held, asked-facts, going, arguments-say, scope-in, named}
-use Rattle.call_offer.specs.declared.Message.{Message}
+use Rattle.call_offer.specs.declared.Outgoing.{Outgoing}
 use Rattle.ask_tables.proofs.Ladder.{is-no, is-yes}
 use lib.ListN.{length}
 use mathlib.Core.Path.{sym, _∙_}
@@ -152,7 +152,7 @@ tail-requires c κs =
     let q =
     arguments-say (a .setup .now) (a .from) (a .kind) (a .class) (a .scope) (length (a .wire .now)) (a .at) (at-arguments .arguments .result)
     (at-arguments .arguments .ensures) (at-if2 .if2 .left) in
-    let m : Message = record { from = a .from; now = a .at; kind = a .kind; class = a .class; scope = a .scope; wire = length (a .wire .now); id = at-id-of .id-of .result; tag = a .tag } in (
+    let m : Outgoing = record { from = a .from; now = a .at; kind = a .kind; class = a .class; scope = a .scope; wire = length (a .wire .now); id = at-id-of .id-of .result; tag = a .tag } in (
       asked-facts (a .setup .now) (a .net .now) (a .names .now) (a .tills .now) (a .words .now) (a .keys .now) (a .prices .now) (a .seen .now) (a .waiting .now)
           (a .rings .now) (a .rules .now) (a .blocks .now) p m (q .sender) (scope-in (a .setup .now) (a .scope) (p .setupSays .sizes .shards) (q .target)),
       p .wordsSize,
@@ -222,7 +222,7 @@ serve-requires c κs =
     lent-says (a .setup .now) (a .net .now) (a .names .now) (a .tills .now) (a .words .now) (a .keys .now) (a .prices .now) (a .seen .now) (a .waiting .now)
     (a .rings .now) (a .rules .now) (a .blocks .now) (is-yes _ _ (at-lent .lent .ensures) (at-if1 .if1 .left)) in
     let scope = scope-in (a .setup .now) (a .scope) (q .setupSays .sizes .shards) (p .target) in
-    let m : Message = record { from = a .from; now = a .at; kind = a .kind; class = a .class; scope = a .scope; wire = length (a .wire .now); id = at-id-of .id-of .result; tag = a .tag } in (
+    let m : Outgoing = record { from = a .from; now = a .at; kind = a .kind; class = a .class; scope = a .scope; wire = length (a .wire .now); id = at-id-of .id-of .result; tag = a .tag } in (
       fixed (a .setup .now) (a .net .now) (a .names .now) (a .tills .now) (a .words .now) (a .keys .now) (a .prices .now) (a .seen .now) (a .waiting .now)
           (a .rings .now) (a .rules .now) (a .blocks .now) q,
       record { from = p .sender; kind = p .type; scope = scope; wire = p .short; now = p .soon },

@@ -1,18 +1,18 @@
 use Prim.Native.Nat.{_-_}
 use native.Mathlib.Omega.{arith}
-use Rattle.call_flush_pass.specs.Pass.{ground}
+use Rattle.call_flush_pass.specs.Pass.{flushView}
 use Rattle.call_flush_pass.proofs.Passing.{Mid, begin, more, end, near-copy, row-room}
 use Rattle.call_flush_pass.proofs.pass.Statement.{statement}
 use Rattle.call_flush_pass.proofs.pass.Tie as tie
 
 abbrev Inv-loop : tie.InvT-loop
-Inv-loop tills blocks waiting seen₀ log₀ out₀ z k m₀ i₀ seen log out m i = Mid z (ground z tills blocks) waiting k seen₀ log₀ out₀ i seen log out m
+Inv-loop tills blocks waiting seen₀ log₀ out₀ z k m₀ i₀ seen log out m i = Mid z (flushView z tills blocks) waiting k seen₀ log₀ out₀ i seen log out m
 
 abbrev μ-loop : tie.MeasureT-loop
 μ-loop tills blocks waiting seen₀ log₀ out₀ z k m₀ i₀ seen log out m i = k - i
 
 loop-holds : tie.Need-loop-holds Inv-loop μ-loop
-loop-holds c = let a = c .before .before .before .before .before .before .args in begin (a .z) (ground (a .z) (a .tills .now) (a .blocks .now)) (a .waiting .now) (a .k) (a .seen .now) (a .log .now) (a .out .now) (c .before .before .before .before .before .before .pre .2)
+loop-holds c = let a = c .before .before .before .before .before .before .args in begin (a .z) (flushView (a .z) (a .tills .now) (a .blocks .now)) (a .waiting .now) (a .k) (a .seen .now) (a .log .now) (a .out .now) (c .before .before .before .before .before .before .pre .2)
 
 mul-get : tie.Need-mul-get Inv-loop μ-loop
 mul-get c = omega (arith, c .before .before .before .before .before .before .before .before .pre .1 .few)
@@ -23,8 +23,8 @@ get-requires c κs = omega (arith, c .before .before .before .before .before .be
 turn-requires : tie.Need-turn-requires Inv-loop μ-loop
 turn-requires c κs = let a = c .before .before .before .before .before .before .before .before .before .before .before .before .args in
     let l = c .before .before .before .before .before .loop in
-    let m = near-copy (a .z) (ground (a .z) (a .tills .now) (a .blocks .now)) (a .waiting .now) (a .k) (a .seen .now) (a .log .now) (a .out .now) (l .i) _ _ _ (l .m) (c .before .before .before .before .loop-test .taken) (c .before .before .before .before .before .before .before .before .before .before .before .before .pre .1) (l .inv) (c .before .before .before .get .result) (c .before .before .before .get .ensures) in
-    (c .before .before .before .before .before .before .before .before .before .before .before .before .pre .0, m, l .inv .room, record { few = c .before .before .before .before .before .before .before .before .before .before .before .before .pre .3 .few; size = omega (arith, c .before .before .before .before .before .before .before .before .before .before .before .before .pre .3 .size, l .inv .log) }, row-room (a .z) (ground (a .z) (a .tills .now) (a .blocks .now)) (a .waiting .now) (a .k) (a .seen .now) (a .log .now) (a .out .now) (l .i) _ _ _ (l .m) (c .before .before .before .before .loop-test .taken) (c .before .before .before .before .before .before .before .before .before .before .before .before .pre .1) (l .inv), omega (arith, l .inv .counts .0, c .before .before .before .before .before .before .before .before .before .before .before .before .pre .1 .few), omega (arith, l .inv .counts .1, c .before .before .before .before .before .before .before .before .before .before .before .before .pre .1 .few), omega (arith, l .inv .counts .2, c .before .before .before .before .before .before .before .before .before .before .before .before .pre .1 .few))
+    let m = near-copy (a .z) (flushView (a .z) (a .tills .now) (a .blocks .now)) (a .waiting .now) (a .k) (a .seen .now) (a .log .now) (a .out .now) (l .i) _ _ _ (l .m) (c .before .before .before .before .loop-test .taken) (c .before .before .before .before .before .before .before .before .before .before .before .before .pre .1) (l .inv) (c .before .before .before .get .result) (c .before .before .before .get .ensures) in
+    (c .before .before .before .before .before .before .before .before .before .before .before .before .pre .0, m, l .inv .room, record { few = c .before .before .before .before .before .before .before .before .before .before .before .before .pre .3 .few; size = omega (arith, c .before .before .before .before .before .before .before .before .before .before .before .before .pre .3 .size, l .inv .log) }, row-room (a .z) (flushView (a .z) (a .tills .now) (a .blocks .now)) (a .waiting .now) (a .k) (a .seen .now) (a .log .now) (a .out .now) (l .i) _ _ _ (l .m) (c .before .before .before .before .loop-test .taken) (c .before .before .before .before .before .before .before .before .before .before .before .before .pre .1) (l .inv), omega (arith, l .inv .counts .0, c .before .before .before .before .before .before .before .before .before .before .before .before .pre .1 .few), omega (arith, l .inv .counts .1, c .before .before .before .before .before .before .before .before .before .before .before .before .pre .1 .few), omega (arith, l .inv .counts .2, c .before .before .before .before .before .before .before .before .before .before .before .before .pre .1 .few))
 
 add-i : tie.Need-add-i Inv-loop μ-loop
 add-i c = omega (arith, c .before .before .before .before .before .before .before .before .before .before .before .before .before .before .before .before .before .before .before .pre .1 .few)
@@ -35,7 +35,7 @@ loop-less c = omega arith
 loop-again : tie.Need-loop-again Inv-loop μ-loop
 loop-again c = let a = c .before .before .before .before .before .before .before .before .before .before .before .before .before .before .before .before .before .before .before .args in
     let l = c .before .before .before .before .before .before .before .before .before .before .before .before .loop in
-    more (a .z) (ground (a .z) (a .tills .now) (a .blocks .now)) (a .waiting .now) (a .k) (a .seen .now) (a .log .now) (a .out .now) (l .i) _ _ _ (l .m) (c .before .before .before .before .before .before .before .before .before .before .before .loop-test .taken) (c .before .before .before .before .before .before .before .before .before .before .before .before .before .before .before .before .before .before .before .pre .1) (l .inv) (c .before .before .before .before .before .before .before .before .before .before .get .result) (c .before .before .before .before .before .before .before .before .before .before .get .ensures) _ _ _ _ (c .before .before .before .before .before .before .turn .kept .1 .1 .0) (c .before .before .before .before .before .before .turn .kept .1 .1 .1 .0) (c .before .before .before .before .before .before .turn .kept .1 .1 .1 .1 .0) (c .before .before .before .before .before .before .turn .ensures)
+    more (a .z) (flushView (a .z) (a .tills .now) (a .blocks .now)) (a .waiting .now) (a .k) (a .seen .now) (a .log .now) (a .out .now) (l .i) _ _ _ (l .m) (c .before .before .before .before .before .before .before .before .before .before .before .loop-test .taken) (c .before .before .before .before .before .before .before .before .before .before .before .before .before .before .before .before .before .before .before .pre .1) (l .inv) (c .before .before .before .before .before .before .before .before .before .before .get .result) (c .before .before .before .before .before .before .before .before .before .before .get .ensures) _ _ _ _ (c .before .before .before .before .before .before .turn .kept .1 .1 .0) (c .before .before .before .before .before .before .turn .kept .1 .1 .1 .0) (c .before .before .before .before .before .before .turn .kept .1 .1 .1 .1 .0) (c .before .before .before .before .before .before .turn .ensures)
 
 same-length : tie.Need-same-length Inv-loop μ-loop
 same-length c = c .before .loop .inv .seen
@@ -47,7 +47,7 @@ same-length-3 : tie.Need-same-length-3 Inv-loop μ-loop
 same-length-3 c = c .before .loop .inv .out
 
 returns : tie.Need-returns Inv-loop μ-loop
-returns c = let a = c .before .before .before .before .before .before .before .before .args in end (a .z) (ground (a .z) (a .tills .now) (a .blocks .now)) (a .waiting .now) (a .k) (a .seen .now) (a .log .now) (a .out .now) (c .before .loop .i) _ _ _ (c .before .loop .m) (c .loop-test .left) (c .before .loop .inv)
+returns c = let a = c .before .before .before .before .before .before .before .before .args in end (a .z) (flushView (a .z) (a .tills .now) (a .blocks .now)) (a .waiting .now) (a .k) (a .seen .now) (a .log .now) (a .out .now) (c .before .loop .i) _ _ _ (c .before .loop .m) (c .loop-test .left) (c .before .loop .inv)
 
 pub pass-spec : {M : Type 1} → statement M
 pass-spec =

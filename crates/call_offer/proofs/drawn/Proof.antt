@@ -1,7 +1,7 @@
 use Rattle.spec_network.specs.Lending.{tablesOf}
 use Rattle.call_offer.proofs.Considered.{is-loss, is-fault, is-sent}
 use Rattle.call_offer.proofs.Readings.{ring-is, ring-below}
-use Rattle.call_offer.specs.Offering.{told, Draws}
+use Rattle.call_offer.specs.Offering.{asMessage, Draws}
 use Rattle.spec_network.specs.Tables.{sizesAt}
 use Rattle.spec_network.specs.Live.{ringsOf}
 use Rattle.table_rings.specs.Rings.{numberOf, entries}
@@ -33,7 +33,7 @@ chance-requires c κs = search needs
 
 returns : tie.Need-returns
 unfolding Draws
-returns c = let a = c .before .before .before .before .before .before .before .before .before .before .before .before .before .args in λ names tills seen waiting blocks log hm hs. is-loss (tablesOf (a .setup .now) (a .net .now) names tills (a .words .now) (a .keys .now) (a .prices .now) seen waiting (a .rings .now) (a .rules .now) blocks log) (told (a .m)) (a .to) hm hs (c .before .before .before .link-at .result) (c .before .before .before .link-at .ensures) (c .before .before .chance .result) (c .before .before .chance .ensures) (c .if1 .taken)
+returns c = let a = c .before .before .before .before .before .before .before .before .before .before .before .before .before .args in λ names tills seen waiting blocks log hm hs. is-loss (tablesOf (a .setup .now) (a .net .now) names tills (a .words .now) (a .keys .now) (a .prices .now) seen waiting (a .rings .now) (a .rules .now) blocks log) (asMessage (a .m)) (a .to) hm hs (c .before .before .before .link-at .result) (c .before .before .before .link-at .ensures) (c .before .before .chance .result) (c .before .before .chance .ensures) (c .if1 .taken)
 
 delay-requires : tie.Need-delay-requires
 delay-requires c κs = search needs
@@ -48,7 +48,7 @@ unfolding Draws
 returns-2 c =
     let a = c .before .before .before .before .before .before .before .before .before .before .before .before .before .before .before .before .before .before .args in
     λ names tills seen waiting blocks log hm hs.
-    is-fault (tablesOf (a .setup .now) (a .net .now) names tills (a .words .now) (a .keys .now) (a .prices .now) seen waiting (a .rings .now) (a .rules .now) blocks log) (told (a .m)) (a .to) hm hs (c .before .before .before .before .before .before .before .before .link-at .result) (c .before .before .before .before .before .before .before .before .link-at .ensures) (c .before .before .before .before .before .before .before .chance .result) (c .before .before .before .before .before .before .before .chance .ensures) (c .before .before .before .before .before .if1 .left) (c .before .before .before .before .delay .result) (c .before .before .before .before .delay .ensures) (c .before .decided .result) (c .before .decided .ensures) (c .if2 .taken)
+    is-fault (tablesOf (a .setup .now) (a .net .now) names tills (a .words .now) (a .keys .now) (a .prices .now) seen waiting (a .rings .now) (a .rules .now) blocks log) (asMessage (a .m)) (a .to) hm hs (c .before .before .before .before .before .before .before .before .link-at .result) (c .before .before .before .before .before .before .before .before .link-at .ensures) (c .before .before .before .before .before .before .before .chance .result) (c .before .before .before .before .before .before .before .chance .ensures) (c .before .before .before .before .before .if1 .left) (c .before .before .before .before .delay .result) (c .before .before .before .before .delay .ensures) (c .before .decided .result) (c .before .decided .ensures) (c .if2 .taken)
 
 draw-echoes-requires : tie.Need-draw-echoes-requires
 draw-echoes-requires c κs =
@@ -67,9 +67,9 @@ returns-3 c =
     let s = c .before .before .before .before .before .before .before .before .before .before .before .before .before .before .before .before .before .before .before in
     let a = c .before .before .before .before .before .before .before .before .before .before .before .before .before .before .before .before .before .before .before .args in
     λ names tills seen waiting blocks log hm hs.
-    is-sent (tablesOf (a .setup .now) (a .net .now) names tills (a .words .now) (a .keys .now) (a .prices .now) seen waiting (a .rings .now) (a .rules .now) blocks log) (told (a .m)) (a .to) hm hs (c .before .before .before .before .before .before .before .before .before .link-at .result) (c .before .before .before .before .before .before .before .before .before .link-at .ensures) (c .before .before .before .before .before .before .before .before .chance .result) (c .before .before .before .before .before .before .before .before .chance .ensures) (c .before .before .before .before .before .before .if1 .left) (c .before .before .before .before .before .delay .result) (c .before .before .before .before .before .delay .ensures) (c .before .before .decided .result) (c .before .before .decided .ensures) (c .before .if2 .left)
+    is-sent (tablesOf (a .setup .now) (a .net .now) names tills (a .words .now) (a .keys .now) (a .prices .now) seen waiting (a .rings .now) (a .rules .now) blocks log) (asMessage (a .m)) (a .to) hm hs (c .before .before .before .before .before .before .before .before .before .link-at .result) (c .before .before .before .before .before .before .before .before .before .link-at .ensures) (c .before .before .before .before .before .before .before .before .chance .result) (c .before .before .before .before .before .before .before .before .chance .ensures) (c .before .before .before .before .before .before .if1 .left) (c .before .before .before .before .before .delay .result) (c .before .before .before .before .before .delay .ensures) (c .before .before .decided .result) (c .before .before .decided .ensures) (c .before .if2 .left)
     (entries (ringsOf (sizesAt (a .setup .now))) (a .rings .now) (numberOf (a .m .kind) (a .m .scope)))
-    (ring-is (tablesOf (a .setup .now) (a .net .now) names tills (a .words .now) (a .keys .now) (a .prices .now) seen waiting (a .rings .now) (a .rules .now) blocks log) (told (a .m)) (ring-below (sizesAt (a .setup .now)) (a .m .kind) (a .m .scope) (s .pre .ranged .kind) (s .pre .ranged .scope)))
+    (ring-is (tablesOf (a .setup .now) (a .net .now) names tills (a .words .now) (a .keys .now) (a .prices .now) seen waiting (a .rings .now) (a .rules .now) blocks log) (asMessage (a .m)) (ring-below (sizesAt (a .setup .now)) (a .m .kind) (a .m .scope) (s .pre .ranged .kind) (s .pre .ranged .scope)))
     (c .draw-echoes .result) (c .draw-echoes .ensures)
 
 pub drawn-spec : {M : Type 1} → statement M

@@ -1,5 +1,5 @@
 use Rattle.call_recipients.proofs.Turns.{Done, done-none, going-more, total-more, done-more, done-all}
-use Rattle.call_recipients.specs.Turning.{Going}
+use Rattle.call_recipients.specs.Turning.{AdmittedFrom}
 use Rattle.call_schedule.specs.Writing.{countsOf}
 use Rattle.spec_network.specs.Accept.{total}
 use native.Mathlib.Omega.{arith}
@@ -10,7 +10,7 @@ use Rattle.call_recipients.proofs.serve.Statement.{statement}
 use Rattle.call_recipients.proofs.serve.Tie as tie
 
 abbrev Inv-loop : tie.InvT-loop
-Inv-loop setup net₀ tills words₀ keys prices seen₀ waiting₀ rings₀ rules₀ blocks m n c₀ to₀ net words seen waiting rings rules c to = (to ≤ n) × (total (countsOf c) ≤ to) × (length net ≡ length net₀) × (length words ≡ length words₀) × (length seen ≡ length seen₀) × (length waiting ≡ length waiting₀) × (length rings ≡ length rings₀) × (length rules ≡ length rules₀) × Going setup net tills words seen waiting rings rules m to × Done setup tills keys prices blocks net₀ words₀ seen₀ waiting₀ rings₀ rules₀ m net words seen waiting rings rules c to
+Inv-loop setup net₀ tills words₀ keys prices seen₀ waiting₀ rings₀ rules₀ blocks m n c₀ to₀ net words seen waiting rings rules c to = (to ≤ n) × (total (countsOf c) ≤ to) × (length net ≡ length net₀) × (length words ≡ length words₀) × (length seen ≡ length seen₀) × (length waiting ≡ length waiting₀) × (length rings ≡ length rings₀) × (length rules ≡ length rules₀) × AdmittedFrom setup net tills words seen waiting rings rules m to × Done setup tills keys prices blocks net₀ words₀ seen₀ waiting₀ rings₀ rules₀ m net words seen waiting rings rules c to
 
 abbrev μ-loop : tie.MeasureT-loop
 μ-loop setup net₀ tills words₀ keys prices seen₀ waiting₀ rings₀ rules₀ blocks m n c₀ to₀ net words seen waiting rings rules c to = n - to

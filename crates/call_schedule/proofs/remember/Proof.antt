@@ -1,6 +1,6 @@
 use Rattle.call_schedule.proofs.Pushing.{unremembered, ring-took}
 use Rattle.ask_tables.proofs.Ladder.{is-no, is-yes}
-use Rattle.call_offer.specs.Offering.{told}
+use Rattle.call_offer.specs.Offering.{asMessage}
 use Rattle.spec_network.specs.Tables.{settingsAt}
 use borrow.Author.Needs.{needs}
 use Rattle.call_schedule.proofs.remember.Statement.{statement}
@@ -10,7 +10,7 @@ echoing-requires : tie.Need-echoing-requires
 echoing-requires c κs = search needs
 
 returns : tie.Need-returns
-returns c = unremembered (settingsAt (c .before .before .before .before .args .setup .now)) (c .before .before .before .before .args .rings .now) (told (c .before .before .before .before .args .m)) (is-no _ _ (c .before .echoing .ensures) (c .if1 .taken))
+returns c = unremembered (settingsAt (c .before .before .before .before .args .setup .now)) (c .before .before .before .before .args .rings .now) (asMessage (c .before .before .before .before .args .m)) (is-no _ _ (c .before .echoing .ensures) (c .if1 .taken))
 
 shared-slice-read-many : tie.Need-shared-slice-read-many
 shared-slice-read-many c = search needs
@@ -28,7 +28,7 @@ same-length : tie.Need-same-length
 same-length c = search needs
 
 returns-2 : tie.Need-returns-2
-returns-2 c = let a = c .before .before .before .before .before .before .before .before .before .before .args in ring-took (settingsAt (a .setup .now)) (a .rings .now) (told (a .m)) (is-yes _ _ (c .before .before .before .before .before .before .before .echoing .ensures) (c .before .before .before .before .before .before .if1 .left)) (c .before .before .before .before .number .result) _ (c .before .before .before .before .number .ensures .0) (c .before .before .push .ensures)
+returns-2 c = let a = c .before .before .before .before .before .before .before .before .before .before .args in ring-took (settingsAt (a .setup .now)) (a .rings .now) (asMessage (a .m)) (is-yes _ _ (c .before .before .before .before .before .before .before .echoing .ensures) (c .before .before .before .before .before .before .if1 .left)) (c .before .before .before .before .number .result) _ (c .before .before .before .before .number .ensures .0) (c .before .before .push .ensures)
 
 pub remember-spec : {M : Type 1} → statement M
 remember-spec =
