@@ -53,7 +53,13 @@ fn front_fit(sizes: NetworkSizes, plan: RegionPlan, n: TableLengths) -> bool
     if n.words != ask_tables::LINKS as u64 {
         return false;
     }
-    if !is_sum(n.keys, 0, ask_tables::LINK_KEY_WIDTH, sizes.tills, sizes.tills) {
+    if !is_sum(
+        n.keys,
+        0,
+        ask_tables::LINK_KEY_WIDTH,
+        sizes.tills,
+        sizes.tills,
+    ) {
         return false;
     }
     prices_fit(n.prices, plan, sizes.tills)

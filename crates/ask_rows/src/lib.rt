@@ -100,7 +100,13 @@ pub fn names_held(setup: &[u64], names: &[u8]) -> bool
         return false;
     }
     let shards = setup[ask_tables::SHARDS] as usize;
-    lengths_within(names, KEYS, SHARD_KEY_WIDTH, shards, ask_tables::LONGEST_KEY)
+    lengths_within(
+        names,
+        KEYS,
+        SHARD_KEY_WIDTH,
+        shards,
+        ask_tables::LONGEST_KEY,
+    )
 }
 
 // Row i of the links.

@@ -13,7 +13,7 @@ use Rattle.spec_network.specs.Tables.{Tables, live, sizesAt}
 use Rattle.spec_network.specs.Real.{idOf, drawsOf, openingAt}
 use Rattle.spec_network.specs.Writes.{acceptT, callReply}
 use Rattle.call_reply.proofs.Laws.{silenced, stays, answered, steps}
-use Rattle.spec_network.specs.Lending.{lendAccept}
+use Rattle.spec_network.specs.Lending.{lendAccept, setNames}
 use Rattle.spec_network.specs.Contract.{Does}
 use Rattle.call_offer.specs.declared.Outgoing.{Outgoing}
 use Rattle.call_offer.specs.Offering.{asMessage}
@@ -110,4 +110,4 @@ module _ (setup net names tills words keys prices seen waiting rings rules block
               let T = lendAccept L setup net names tills words keys prices seen waiting rings rules blocks in
               let T′ = lendAccept L setup net′ names tills words′ keys prices seen′ waiting′ rings′ rules′ blocks in
               by T T′ r true (ap not (ne-eqb opens 0 opened))
-              (served T e message (same-message T refl) refl refl T′ c r (sym z ∙ number-late T e lends message refl refl is S k t asked passed tail) p (w names (L .log) .0) (w names (L .log) .1))
+              (served T e message (same-message T refl) refl refl T′ c r (sym z ∙ number-late T e lends message refl refl is S k t asked passed tail) p (w (setNames L names) .0) (w (setNames L names) .1))

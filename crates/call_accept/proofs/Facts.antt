@@ -28,7 +28,7 @@ use Rattle.ask_tables.proofs.Passed.{PassedSetup, PassedNet, setup-says, net-sa
 use Rattle.ask_tables.proofs.PassedRows.{PassedTills, PassedSeen, PassedBlocks, words-say, rules-say, keys-say, tills-say, seen-says, blocks-say}
 use Rattle.ask_rows.proofs.Passed.{PassedWaiting, PassedRings, PassedNames, waiting-says, rings-say, names-say, prices-say}
 use Rattle.link_draws.specs.Drawing.{Priced}
-use Rattle.call_message.specs.Outgoing.{Named}
+use Rattle.call_message.specs.Message.{Named}
 use Rattle.call_offer.specs.declared.Outgoing.{Outgoing}
 use Rattle.call_offer.specs.Needed.{Fixed, SeenHeld, RingsHeld}
 use Rattle.call_offer.specs.Offering.{selectsAt}

@@ -1,6 +1,6 @@
 -- The small functions of the pass: tills, stops, handlers, a row's words, the counts of one copy. Assumes nothing.
 use mathlib.Core.Path.{_≡_, refl, sym, ap, _∙_}
-use mathlib.Core.Bool.{Bool, true, false, not, _&&_, _||_}
+use mathlib.Core.Bool.{Bool, not, _&&_, _||_}
 use mathlib.Core.List.{List, [], _∷_}
 use Prim.Native.Nat.{ℕ, _+_, _*_, _≤_, _<_}
 use native.Mathlib.Nat.{add-zero}
@@ -23,6 +23,7 @@ use Rattle.spec_network.specs.Live.{Till, downTill}
 use Rattle.spec_network.specs.Flush.{stops}
 use Rattle.spec_network.specs.Tables.{tillForm}
 use Rattle.spec_network.specs.Writes.{rowWidth, rowWords}
+use Rattle.call_stopped.specs.Stopped.{upAt, stoppedBy}
 use Rattle.call_flush_pass.specs.declared.Extents.{Extents}
 use Rattle.call_flush_pass.specs.declared.Taken.{Taken}
 use Rattle.call_flush_pass.specs.declared.Moved.{Moved}
@@ -50,18 +51,14 @@ module _ (n : ℕ) (tills : List ℕ) (t : ℕ) (h : t < n) where
 -- ---- Stopped: by an end that is down, or by a block
 
 module _ (z : Extents) (tills blocks : List ℕ) (c : Copy) where
-  pub stop-from : upIn (z .tills) tills (c .delivery .from) ≡ false → true ≡ stops (flushView z tills blocks) c
+  -- as the tables say it, and as the live part does
+  pub stop-is : c .delivery .from < z .tills → c .delivery .to < z .tills
+      → stoppedBy tills blocks (z .windows) (c .delivery .from) (c .delivery .to) (c .delivery .time) ≡ stops (flushView z tills blocks) c
   unfolding flushView upIn
-  stop-from p = sym (ap (λ (b : Bool). not b || not (upIn (z .tills) tills (c .delivery .to)) || blocked (c .delivery .from) (c .delivery .to) (c .delivery .time) (blocksOf blocks (z .windows))) p)
-
-  pub stop-to : upIn (z .tills) tills (c .delivery .from) ≡ true → upIn (z .tills) tills (c .delivery .to) ≡ false → true ≡ stops (flushView z tills blocks) c
-  unfolding flushView upIn
-  stop-to p q = sym (λ j. not (p j) || not (q j) || blocked (c .delivery .from) (c .delivery .to) (c .delivery .time) (blocksOf blocks (z .windows)))
-
-  pub stop-block : upIn (z .tills) tills (c .delivery .from) ≡ true → upIn (z .tills) tills (c .delivery .to) ≡ true
-      → blocked (c .delivery .from) (c .delivery .to) (c .delivery .time) (blocksOf blocks (z .windows)) ≡ stops (flushView z tills blocks) c
-  unfolding flushView upIn
-  stop-block p q = sym (λ j. not (p j) || not (q j) || blocked (c .delivery .from) (c .delivery .to) (c .delivery .time) (blocksOf blocks (z .windows)))
+  stop-is f h =
+      let p : upAt tills (c .delivery .from) ≡ upIn (z .tills) tills (c .delivery .from) = up-at (z .tills) tills (c .delivery .from) f in
+      let q : upAt tills (c .delivery .to) ≡ upIn (z .tills) tills (c .delivery .to) = up-at (z .tills) tills (c .delivery .to) h in
+      λ j. not (p j) || not (q j) || blocked (c .delivery .from) (c .delivery .to) (c .delivery .time) (blocksOf blocks (z .windows))
 
 -- ---- Handlers
 

@@ -127,9 +127,6 @@ module _ (s : Live) (c : Copy) where
   unfolding written rowBy
   written-snoc cs out room = go (stops s c) refl
     where
-      n : ℕ
-      n = length (lands s cs)
-
       go : (b : Bool) → stops s c ≡ b
           → over rowForm (rowsOf s (cs ++ (c ∷ []))) out ≡ cond b (over rowForm (rowsOf s cs) out) (putWords (over rowForm (rowsOf s cs) out) (length (lands s cs) * rowWidth) (rowWords (rowOf s c)))
       go true h = ap (λ (l : List Copy). over rowForm (map (rowOf s) l) out) (dropped-lands cs h)

@@ -9,7 +9,7 @@ ghost use Rattle.spec_network.specs.Lists as lists;
 ghost use Rattle.spec_network.specs.Tables.{tillForm};
 ghost use Rattle.spec_network.specs.Flush.{stops, rowOf};
 ghost use Rattle.spec_network.specs.Writes.{rowWidth, rowWords};
-ghost use Rattle.call_flush_pass.specs.Pass.{flushView, upIn, takenBy, unmarked, clearedOne, droppedMore, handledBy, rowAs, Room, Near, SeenRoom, LogRoom, Due, Turned, Landed, Passed};
+ghost use Rattle.call_flush_pass.specs.Pass.{flushView, takenBy, unmarked, clearedOne, droppedMore, handledBy, rowAs, Room, Near, SeenRoom, LogRoom, Due, Turned, Landed, Passed};
 use table_waiting::Copy;
 
 // How many words a row of the output has.
@@ -41,27 +41,20 @@ pub struct Moved {
     pub dropped: usize,
 }
 
-fn is_up(tills: &[u64], n: usize, t: u64) -> bool
-    requires { ⌜ (t < n) × (n * tillForm .width ≤ length (now tills)) ⌝ }
-    ensures { λ r. ⌜ r ≡ upIn n (now (tills .entry)) t ⌝ }
-{
-    tills[t as usize * ask_tables::TILL_WIDTH] != 0
-}
-
 // Blocks at the copy's own time, tills as they are now.
 fn is_stopped(tills: &[u64], blocks: &[u64], z: Extents, c: Copy) -> bool
     requires { ⌜ Room z (now tills) (now blocks) × Near z c ⌝ }
     ensures { λ r. ⌜ r ≡ stops (flushView z (now (tills .entry)) (now (blocks .entry))) c ⌝ }
 {
     let d = c.delivery;
-    let n = z.tills;
-    if !is_up(tills, n, d.from) {
-        return true;
-    }
-    if !is_up(tills, n, d.to) {
-        return true;
-    }
-    fault_blocks::is_blocked(blocks, z.windows, d.from, d.to, d.time)
+    call_stopped::stopped(
+        tills,
+        blocks,
+        z.windows,
+        d.from as usize,
+        d.to as usize,
+        d.time,
+    )
 }
 
 fn bit(stands: bool) -> u64

@@ -109,7 +109,7 @@ module _ (s l out : List ℕ) where
 
   module _ (r : ℕ) (q : r ≡ drainNumber s l (length out / delivery.width)) where
     pub drain-refused : (v : Drained) → v ≡ noDrain r → (r ≡ 0 → ⊥) → DoesDrain s l l v out out
-    unfolding DoesDrain
+    unfolding DoesDrain tallyCells
     drain-refused v e h = λ T.
         let same = q ∙ drain-number T in
         let still = reply.silenced (lendLog T s l) (drainCall out) r same h in

@@ -7,8 +7,8 @@ use lib.ListN.{length, replicate}
 use Rattle.table_rows.specs.Rows.{flat}
 use Rattle.table_delivery.specs.Delivery as delivery
 use Rattle.table_log.specs.declared.Tally.{Tally}
-use Rattle.table_log.specs.Log.{noTally, tallyForm, classes, tallyWidth}
-use Rattle.spec_network.specs.Calls.{Call, drain, reading, tallyOf, Answer, silent, counted, moved, number, tallied, drained, copies, ids}
+use Rattle.table_log.specs.Log.{tallyForm, classes, tallyWidth}
+use Rattle.spec_network.specs.Calls.{Call, drain, reading, tallyOf, Answer, shown}
 use Rattle.spec_network.specs.Tables.{Tables, sizesAt}
 use Rattle.spec_network.specs.Lending.{lendLog}
 use Rattle.spec_network.specs.Writes.{Reply}
@@ -21,24 +21,10 @@ use Rattle.call_log.specs.declared.Tallied.{Tallied}
 
 -- how many records an answer has, and how many the capacity forced out
 abbrev pub recordsIn : Answer → ℕ
-recordsIn (drained l) = length (l .records)
-recordsIn silent = 0
-recordsIn (counted n) = 0
-recordsIn (moved rows delivered drops) = 0
-recordsIn (number found value) = 0
-recordsIn (tallied t) = 0
-recordsIn (copies cs) = 0
-recordsIn (ids is) = 0
+recordsIn a = length (shown a .log .records)
 
 abbrev pub forcedIn : Answer → ℕ
-forcedIn (drained l) = l .forced
-forcedIn silent = 0
-forcedIn (counted n) = 0
-forcedIn (moved rows delivered drops) = 0
-forcedIn (number found value) = 0
-forcedIn (tallied t) = 0
-forcedIn (copies cs) = 0
-forcedIn (ids is) = 0
+forcedIn a = shown a .log .forced
 
 -- deliveries and bytes of each class, class by class
 unfoldable pub tallyCells : List Tally → List ℕ
@@ -48,24 +34,10 @@ abbrev pub noCells : List ℕ
 noCells = replicate (classes * tallyWidth) 0
 
 abbrev pub cellsIn : Answer → List ℕ
-cellsIn (drained l) = tallyCells (l .tallies)
-cellsIn silent = noCells
-cellsIn (counted n) = noCells
-cellsIn (moved rows delivered drops) = noCells
-cellsIn (number found value) = noCells
-cellsIn (tallied t) = noCells
-cellsIn (copies cs) = noCells
-cellsIn (ids is) = noCells
+cellsIn a = tallyCells (shown a .log .tallies)
 
 abbrev pub tallyIn : Answer → Tally
-tallyIn (tallied t) = t
-tallyIn silent = noTally
-tallyIn (counted n) = noTally
-tallyIn (moved rows delivered drops) = noTally
-tallyIn (number found value) = noTally
-tallyIn (drained l) = noTally
-tallyIn (copies cs) = noTally
-tallyIn (ids is) = noTally
+tallyIn a = shown a .tally
 
 abbrev pub drainedOf : Reply → Drained
 drainedOf q = record { number = q .number; records = recordsIn (q .answer); forced = forcedIn (q .answer); tallies = cellsIn (q .answer) }

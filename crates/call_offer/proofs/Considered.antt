@@ -16,7 +16,6 @@ use Rattle.spec_network.specs.Tables.{cell, Tables, live, sizesAt, settingsAt, 
 use Rattle.spec_network.specs.Real.{keyOf, faultKeyOf, chance, drawsOf, openingAt}
 use Rattle.spec_network.specs.Accept as accept
 use Rattle.spec_network.specs.Accept.{Drawn, drawn, context, echoesOf, ringFor, loss, fault, firstFit, fateOf}
-use Rattle.call_offer.specs.declared.Outgoing.{Outgoing}
 use Rattle.call_offer.specs.declared.Echoes.{Echoes}
 use Rattle.call_offer.specs.declared.Ruling.{Ruling}
 use Rattle.call_offer.specs.declared.Offer.the-variants.{Deduplicated, Partition, Loss, Fault, Sent}
@@ -24,7 +23,7 @@ use Rattle.call_offer.specs.Offering.{keyed, Echoed, decisionIn, Answers
 
 -- ---- The draws of a recipient, read from the tables
 
-module _ (T : Tables) (m : accept.Outgoing) (t : ℕ) where
+module _ (T : Tables) (m : accept.Message) (t : ℕ) where
   abbrev s : Live
   s = live (sizesAt (T .setup)) T
 

@@ -1,7 +1,7 @@
 -- What is read of one till: whether it is selected, stopped, marked. Assumes nothing.
 use Prim.Native.Nat.{ℕ, _+_, _*_, _≤_, _<_}
 use mathlib.Core.Path.{_≡_, refl, sym, ap, _∙_}
-use mathlib.Core.Bool.{Bool, true, false, not, _&&_, _||_, false≢true}
+use mathlib.Core.Bool.{Bool, true, false, not, _&&_, _||_}
 use mathlib.Core.List.{List, []}
 use native.Mathlib.Omega.{arith}
 use native.Mathlib.Nat.{mul-le-mul-right, suc-mul, add-zero}
@@ -22,7 +22,8 @@ use Rattle.spec_network.specs.Opening.{Sizes, Settings, global}
 use Rattle.spec_network.specs.Live.{Live, Till, downTill, tillAt, isUp, marked, stopped, ringsOf}
 use Rattle.spec_network.specs.Accept.{Message, receives, ringFor}
 use Rattle.spec_network.specs.Tables.{cell, Tables, live, sizesAt, tillForm, idsStart, blocksAt}
-use Rattle.call_offer.specs.Offering.{upAt, selectsAt, stoppedAt, echoingAt}
+use Rattle.call_stopped.specs.Stopped.{upAt}
+use Rattle.call_offer.specs.Offering.{selectsAt, stoppedAt, echoingAt}
 
 -- ---- Tests
 
@@ -46,21 +47,6 @@ module _ (tills : List ℕ) (scope from t : ℕ) where
 
   pub hosted : (t ≡ from → ⊥) → (scope ≡ global → ⊥) → hosts ≡ selectsAt tills scope from t
   hosted h k = sym (and-on hosts) ∙ (λ j. (sym (ne-eqb scope global k) j || hosts) && not (sym (ne-eqb t from h) j))
-
--- the ways out of `stopped`
-pub sender-down : (a b c : Bool) → a ≡ false → true ≡ (not a || not b || c)
-sender-down true b c e = absurd (false≢true (sym e))
-sender-down false b c e = refl
-
-pub till-down : (a b c : Bool) → a ≡ true → b ≡ false → true ≡ (not a || not b || c)
-till-down true true c e f = absurd (false≢true (sym f))
-till-down true false c e f = refl
-till-down false b c e f = absurd (false≢true e)
-
-pub both-up : (a b c r : Bool) → a ≡ true → b ≡ true → r ≡ c → r ≡ (not a || not b || c)
-both-up true true c r e f h = h
-both-up true false c r e f h = absurd (false≢true f)
-both-up false b c r e f h = absurd (false≢true e)
 
 -- a till's marks lie in the table
 pub marks-in : (t n k : ℕ) → t < n → n + t * k + k ≤ n + n * k

@@ -13,14 +13,14 @@ use Rattle.link_latency.specs.declared.Sample.{Sample}
 use Rattle.link_latency.specs.Latency.{longest}
 use Rattle.fault_decide.specs.Decide.{Decision, decideOf}
 use Rattle.table_rings.specs.Rings.{none}
-use Rattle.fault_blocks.specs.Blocks.{blocked, blocksOf}
 use Rattle.link_draws.specs.Drawing.{delayDraw}
-use Rattle.spec_network.specs.Lending.{tablesOf}
+use Rattle.call_stopped.specs.Stopped.{stoppedBy}
+use Rattle.spec_network.specs.Lending.{lendDraws, lendOffer}
 use Rattle.spec_network.specs.Lists.{bitAt}
 use Rattle.spec_network.specs.Opening.{Draw, Opening, Settings, global, longestWire}
 use Rattle.spec_network.specs.Live.{Carried, Live, marked, stopped}
 use Rattle.spec_network.specs.Limits.{rateOf}
-use Rattle.spec_network.specs.Tables.{cell, live, sizesAt, tillForm, blocksAt}
+use Rattle.spec_network.specs.Tables.{cell, Tables, live, sizesAt, tillForm, blocksAt}
 use Rattle.spec_network.specs.Real.{chance, faultKeyOf, idOf, openingAt}
 use Rattle.spec_network.specs.Accept as accept
 use Rattle.spec_network.specs.Accept.{Drawn, drawn, Timed, duplicateOf, replayOf, carriedOf, deduplicated, partition, loss, fault, sent, fateOf}
@@ -33,19 +33,16 @@ use Rattle.call_offer.specs.declared.Offer.{Offer}
 use Rattle.call_offer.specs.declared.Offer.the-variants.{Deduplicated, Partition, Loss, Fault, Sent}
 
 -- the message as `Accept` has it
-abbrev pub asMessage : Outgoing → accept.Outgoing
+abbrev pub asMessage : Outgoing → accept.Message
 asMessage m = record { from = m .from; now = m .now; kind = m .kind; class = m .class; scope = m .scope; wire = m .wire; id = m .id; tag = m .tag }
 
 -- ---- What the tables say of a till
-
-abbrev pub upAt : List ℕ → ℕ → Bool
-upAt tills t = not (eqb (cell tills (t * tillForm .width)) 0)
 
 abbrev pub selectsAt : List ℕ → (scope from t : ℕ) → Bool
 selectsAt tills scope from t = (eqb scope global || bitAt (cell tills (t * tillForm .width + 3)) scope) && not (eqb t from)
 
 abbrev pub stoppedAt : (net tills blocks : List ℕ) (from to now : ℕ) → Bool
-stoppedAt net tills blocks from to now = not (upAt tills from) || not (upAt tills to) || blocked from to now (blocksOf blocks (cell net blocksAt))
+stoppedAt net tills blocks from to now = stoppedBy tills blocks (cell net blocksAt) from to now
 
 -- ---- Draws on one link: an opening whose links all have the stream with this key
 
@@ -86,20 +83,20 @@ pub record Replays (d : Draw (List accept.Echoed)) (c : Cursor) (r : Replay) : T
   pub short : r .old .wire ≤ longestWire
 
 -- an echo of the message, and one of the ring's
-abbrev pub doubled : accept.Outgoing → (latency : ℕ) → Timed
+abbrev pub doubled : accept.Message → (latency : ℕ) → Timed
 doubled m latency = record { what = duplicateOf (carriedOf m); latency = latency }
 
 abbrev pub replayedAs : Carried → (latency : ℕ) → Timed
 replayedAs old latency = record { what = replayOf old; latency = latency }
 
 -- the echoes, duplicate first
-abbrev pub echoesIn : accept.Outgoing → Echoes → List Timed
+abbrev pub echoesIn : accept.Message → Echoes → List Timed
 echoesIn m e = cond (e .duplicate .some) (doubled m (e .duplicate .latency) ∷ []) [] ++ cond (e .replay .some) (replayedAs (e .old) (e .replay .latency) ∷ []) []
 
 abbrev pub noEchoes : ℕ → Echoes
 noEchoes words = record { duplicate = record { some = false; latency = 0 }; replay = record { some = false; latency = 0 }; old = none; words = words }
 
-pub record Echoed (m : accept.Outgoing) (t : ℕ) (d : accept.Echoes) (e : Echoes) : Type 0 where
+pub record Echoed (m : accept.Message) (t : ℕ) (d : accept.Echoes) (e : Echoes) : Type 0 where
   pub all : d .all ≡ echoesIn m e
   pub words : d .words ≡ e .words
   pub first : e .duplicate .latency ≤ longest
@@ -111,7 +108,7 @@ decisionIn v = record { drops = v .drops; place = v .place; words = v .words }
 
 -- ---- The offer
 
-pub record Sends (m : accept.Outgoing) (t : ℕ) (d : Drawn) (x : Sending) : Type 0 where
+pub record Sends (m : accept.Message) (t : ℕ) (d : Drawn) (x : Sending) : Type 0 where
   pub latency : d .latency .value ≡ x .latency
   pub passed : d .verdict .drops ≡ false
   pub words : d .verdict .words ≡ x .fault
@@ -119,7 +116,7 @@ pub record Sends (m : accept.Outgoing) (t : ℕ) (d : Drawn) (x : Sending) : Typ
   pub below : x .latency ≤ longest
 
 -- the first of the five that fits, and what of the draws it leaves to be written
-unfoldable pub Answers : Opening → accept.Outgoing → Live → ℕ → Offer → Type 0
+unfoldable pub Answers : Opening → accept.Message → Live → ℕ → Offer → Type 0
 Answers o m s t Deduplicated = fateOf o m s t ≡ deduplicated
 Answers o m s t Partition = fateOf o m s t ≡ partition
 Answers o m s t (Loss n) = (fateOf o m s t ≡ loss) × (drawn o m t s .loss .words ≡ n)
@@ -129,11 +126,11 @@ Answers o m s t (Sent x) = (fateOf o m s t ≡ sent) × Sends m t (drawn o m t s
 -- so it is for a recipient that no mark and no partition stops, whatever the tables hold that are not lent
 unfoldable pub Draws : (setup net words keys prices rings rules : List ℕ) → Outgoing → ℕ → Offer → Type 0
 Draws setup net words keys prices rings rules m t r =
-    (names tills seen waiting blocks log : List ℕ) → let T = tablesOf setup net names tills words keys prices seen waiting rings rules blocks log in
+    (L : Tables) → let T = lendDraws L setup net words keys prices rings rules in
     let s = live (sizesAt setup) T in
     marked s t (m .id) ≡ false → stopped s (m .from) t (m .now) ≡ false → Answers (openingAt T) (asMessage m) s t r
 
 -- so it is whatever the tables hold that are not lent
 unfoldable pub Offers : (setup net tills words keys prices seen rings rules blocks : List ℕ) → Outgoing → ℕ → Offer → Type 0
 Offers setup net tills words keys prices seen rings rules blocks m t r =
-    (names waiting log : List ℕ) → let T = tablesOf setup net names tills words keys prices seen waiting rings rules blocks log in Answers (openingAt T) (asMessage m) (live (sizesAt setup) T) t r
+    (L : Tables) → let T = lendOffer L setup net tills words keys prices seen rings rules blocks in Answers (openingAt T) (asMessage m) (live (sizesAt setup) T) t r

@@ -17,7 +17,7 @@ ghost use Rattle.fault_decide.specs.Decide.{decideOf};
 ghost use Rattle.spec_network.specs.Real.{faultKeyOf};
 ghost use Rattle.spec_network.specs.Tables.{cell, sizesAt, settingsAt, tillForm, idsStart, setupWidth, blocksAt, netWidth, rulesAt, faultWordsAt};
 ghost use Rattle.call_offer.specs.Needed.{Fixed, Ranged, RingsHeld, SeenHeld, State, Rulable, Drawable};
-ghost use Rattle.call_offer.specs.Offering.{asMessage, upAt, selectsAt, stoppedAt, echoingAt, keyed, DelayedIf, Replays, noEchoes, Echoed, decisionIn, Draws, Offers};
+ghost use Rattle.call_offer.specs.Offering.{asMessage, selectsAt, stoppedAt, echoingAt, keyed, DelayedIf, Replays, noEchoes, Echoed, decisionIn, Draws, Offers};
 use link_latency::Sample;
 use math_time::Time;
 use rand_streams::Cursor;
@@ -101,13 +101,6 @@ pub fn selects(tills: &[u64], scope: u64, from: u64, to: usize) -> bool
     (tills[to * ask_tables::TILL_WIDTH + 3] >> scope) % 2 == 1
 }
 
-fn is_up(tills: &[u64], t: usize) -> bool
-    requires { ⌜ t * tillForm .width < length (now tills) ⌝ }
-    ensures { λ r. ⌜ r ≡ upAt (now (tills .entry)) t ⌝ }
-{
-    tills[t * ask_tables::TILL_WIDTH] != 0
-}
-
 // Does the till's mark for the id stand?
 pub fn marked(setup: &[u64], seen: &[u64], to: usize, id: u64) -> bool
     requires { ⌜ (length (now setup) ≡ setupWidth) × SeenHeld (sizesAt (now setup)) (now seen) × (to < sizesAt (now setup) .tills) ⌝ }
@@ -122,17 +115,12 @@ fn stopped(net: &[u64], tills: &[u64], blocks: &[u64], from: usize, to: usize, a
     requires { ⌜ («from» * tillForm .width < length (now tills)) × (to * tillForm .width < length (now tills)) × (length (now net) ≡ netWidth) × (cell (now net) blocksAt * blockWidth ≤ length (now blocks)) ⌝ }
     ensures { λ r. ⌜ r ≡ stoppedAt (now (net .entry)) (now (tills .entry)) (now (blocks .entry)) «from» to at ⌝ }
 {
-    if !is_up(tills, from) {
-        return true;
-    }
-    if !is_up(tills, to) {
-        return true;
-    }
-    fault_blocks::is_blocked(
+    call_stopped::stopped(
+        tills,
         blocks,
         net[ask_tables::BLOCKS] as usize,
-        from as u64,
-        to as u64,
+        from,
+        to,
         at,
     )
 }

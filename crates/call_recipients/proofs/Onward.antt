@@ -23,7 +23,7 @@ use Rattle.spec_network.specs.Writes.{setLog, offeredT}
 use Rattle.spec_book.proofs.Formed.{Formed}
 use Rattle.spec_book.proofs.Fitting.{NearMessage}
 use Rattle.spec_book.proofs.Sound.{sent-unmarked}
-use Rattle.spec_network.specs.Lending.{tablesOf}
+use Rattle.spec_network.specs.Lending.{lendServe}
 use Rattle.call_offer.specs.declared.Outgoing.{Outgoing}
 use Rattle.call_offer.specs.declared.Offer.the-variants.{Sent}
 use Rattle.call_offer.specs.declared.Sending.{Sending}
@@ -35,10 +35,10 @@ use Rattle.call_recipients.specs.Turning.{remaining, AdmittedFrom}
 use Rattle.call_recipients.proofs.Simulated.{quiet, quiet-formed, after-formed, after-live}
 use Rattle.call_recipients.proofs.Stepping.{rest-on, rest-off, Step, stepped, decided}
 
-module _ (setup net names tills words keys prices seen waiting rings rules blocks log : List ℕ) (m : Outgoing) (to : ℕ)
+module _ (L : Tables) (setup net tills words keys prices seen waiting rings rules blocks : List ℕ) (m : Outgoing) (to : ℕ)
     (F : Fixed setup tills keys prices blocks) (R : Ranged setup m) (G : AdmittedFrom setup net tills words seen waiting rings rules m to) (b : to < sizesAt setup .tills) where
   abbrev T : Tables
-  T = tablesOf setup net names tills words keys prices seen waiting rings rules blocks log
+  T = lendServe L setup net tills words keys prices seen waiting rings rules blocks
 
   abbrev z : Sizes
   z = sizesAt setup

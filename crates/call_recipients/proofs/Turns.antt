@@ -11,13 +11,13 @@ use Rattle.spec_network.specs.Tables.{Tables, live, sizesAt}
 use Rattle.spec_network.specs.Real.{openingAt}
 use Rattle.spec_network.specs.Accept.{Fate, deduplicated, partition, loss, fault, sent, fateOf, offered, Counts, booked, tally, noCounts, add, isFate, total}
 use Rattle.spec_network.specs.Writes.{offeredT, acceptT}
-use Rattle.spec_network.specs.Lending.{tablesOf}
+use Rattle.spec_network.specs.Lending.{lendServe, noTables, setWaiting}
 use Rattle.call_offer.specs.declared.Outgoing.{Outgoing}
 use Rattle.call_offer.specs.declared.Offer.{Offer}
 use Rattle.call_offer.specs.Needed.{Fixed, Ranged}
 use Rattle.call_offer.specs.Offering.{asMessage, selectsAt, Answers, Offers}
 use Rattle.call_schedule.specs.declared.Counts as counts
-use Rattle.call_schedule.specs.Writing.{Applicable, Applies, classIn, countsOf}
+use Rattle.call_schedule.specs.Writing.{Applicable, Applies, fateIn, countsOf}
 use Rattle.call_schedule.proofs.Applying.{answers-write}
 use Rattle.call_recipients.specs.Turning.{remaining, AdmittedFrom, Turned, Served}
 use Rattle.call_recipients.proofs.Stepping.{rest-on, rest-off, rest-end}
@@ -35,26 +35,26 @@ module _ (setup tills keys prices blocks net words seen waiting rings rules : Li
     netSize = G .state .netSize;
     wordsSize = G .state .wordsSize;
     sendable = λ x h.
-        let T = tablesOf setup net [] tills words keys prices seen waiting rings rules blocks [] in
-        can-send setup net [] tills words keys prices seen waiting rings rules blocks [] m to F R G b e x (subst (Answers (openingAt T) (asMessage m) (live (sizesAt setup) T) to) h (a [] waiting []));
+        let T = lendServe noTables setup net tills words keys prices seen waiting rings rules blocks in
+        can-send noTables setup net tills words keys prices seen waiting rings rules blocks m to F R G b e x (subst (Answers (openingAt T) (asMessage m) (live (sizesAt setup) T) to) h (a (setWaiting noTables waiting)));
   }
 
   pub passed-by : (c : counts.Counts) → selectsAt tills (m .scope) (m .from) to ≡ false → Turned setup tills keys prices blocks net words seen waiting rings rules net words seen waiting rings rules m to c c
   unfolding Turned
-  passed-by c e = λ names log.
-      let T = tablesOf setup net names tills words keys prices seen waiting rings rules blocks log in (
+  passed-by c e = λ L.
+      let T = lendServe L setup net tills words keys prices seen waiting rings rules blocks in (
         ap (λ (b : Bool). cond b (offeredT (openingAt T) (asMessage m) T to) T) (sym e),
         ap (λ (b : Bool). cond b (add (fateOf (openingAt T) (asMessage m) (live (sizesAt setup) T) to) (countsOf c)) (countsOf c)) (sym e),
       )
 
   pub taken-up : (net′ words′ seen′ waiting′ rings′ rules′ : List ℕ) (c n : counts.Counts) (r : Offer) → selectsAt tills (m .scope) (m .from) to ≡ true
       → Offers setup net tills words keys prices seen rings rules blocks m to r → Applies m to r setup net words seen waiting rings rules net′ words′ seen′ waiting′ rings′ rules′
-      → countsOf n ≡ add (classIn r) (countsOf c) → Turned setup tills keys prices blocks net words seen waiting rings rules net′ words′ seen′ waiting′ rings′ rules′ m to c n
+      → countsOf n ≡ add (fateIn r) (countsOf c) → Turned setup tills keys prices blocks net words seen waiting rings rules net′ words′ seen′ waiting′ rings′ rules′ m to c n
   unfolding Turned Offers Applies
-  taken-up net′ words′ seen′ waiting′ rings′ rules′ c n r e a w k = λ names log.
-      let T = tablesOf setup net names tills words keys prices seen waiting rings rules blocks log in
-      let both = answers-write (openingAt T) (asMessage m) T to r (a names waiting log) in (
-        w names tills keys prices blocks log ∙ both .1 ∙ ap (λ (b : Bool). cond b (offeredT (openingAt T) (asMessage m) T to) T) (sym e),
+  taken-up net′ words′ seen′ waiting′ rings′ rules′ c n r e a w k = λ L.
+      let T = lendServe L setup net tills words keys prices seen waiting rings rules blocks in
+      let both = answers-write (openingAt T) (asMessage m) T to r (a (setWaiting L waiting)) in (
+        w T ∙ both .1 ∙ ap (λ (b : Bool). cond b (offeredT (openingAt T) (asMessage m) T to) T) (sym e),
         k ∙ ap (λ (j : Fate). add j (countsOf c)) (both .0) ∙ ap (λ (b : Bool). cond b (add (fateOf (openingAt T) (asMessage m) (live (sizesAt setup) T) to) (countsOf c)) (countsOf c)) (sym e),
       )
 
@@ -122,15 +122,15 @@ module _ (setup tills keys prices blocks net₀ words₀ seen₀ waiting₀ ring
   -- what was done, with what is left, is all of it
   unfoldable pub Done : (net words seen waiting rings rules : List ℕ) (c : counts.Counts) (to : ℕ) → Type 0
   Done net words seen waiting rings rules c to =
-      (names log : List ℕ) → let T₀ = tablesOf setup net₀ names tills words₀ keys prices seen₀ waiting₀ rings₀ rules₀ blocks log in
-      let T = tablesOf setup net names tills words keys prices seen waiting rings rules blocks log in
+      (L : Tables) → let T₀ = lendServe L setup net₀ tills words₀ keys prices seen₀ waiting₀ rings₀ rules₀ blocks in
+      let T = lendServe L setup net tills words keys prices seen waiting rings rules blocks in
       (acceptT (openingAt T₀) (asMessage m) T (remaining setup tills m to) ≡ acceptT (openingAt T₀) (asMessage m) T₀ (remaining setup tills m 0))
       × (plus (countsOf c) (tally (booked (openingAt T₀) (asMessage m) (live (sizesAt setup) T) (remaining setup tills m to))) ≡ tally (booked (openingAt T₀) (asMessage m) (live (sizesAt setup) T₀) (remaining setup tills m 0)))
 
   pub done-none : (c : counts.Counts) → countsOf c ≡ noCounts → Done net₀ words₀ seen₀ waiting₀ rings₀ rules₀ c 0
   unfolding Done
-  done-none c e = λ names log.
-      let T₀ = tablesOf setup net₀ names tills words₀ keys prices seen₀ waiting₀ rings₀ rules₀ blocks log in
+  done-none c e = λ L.
+      let T₀ = lendServe L setup net₀ tills words₀ keys prices seen₀ waiting₀ rings₀ rules₀ blocks in
       let t = tally (booked (openingAt T₀) (asMessage m) (live (sizesAt setup) T₀) (remaining setup tills m 0)) in
       (refl, ap (λ (a : Counts). plus a t) e ∙ none-plus t)
 
@@ -139,15 +139,15 @@ module _ (setup tills keys prices blocks net₀ words₀ seen₀ waiting₀ ring
       (turned : Turned setup tills keys prices blocks net words seen waiting rings rules net′ words′ seen′ waiting′ rings′ rules′ m to c n) where
     pub going-more : AdmittedFrom setup net′ tills words′ seen′ waiting′ rings′ rules′ m (to + 1)
     unfolding Turned
-    going-more = go (selectsAt tills (m .scope) (m .from) to) refl (turned [] [] .0)
+    going-more = go (selectsAt tills (m .scope) (m .from) to) refl (turned noTables .0)
       where
-        go : (v : Bool) → selectsAt tills (m .scope) (m .from) to ≡ v → tablesOf setup net′ [] tills words′ keys prices seen′ waiting′ rings′ rules′ blocks [] ≡ cond v (offeredT (openingAt (tablesOf setup net [] tills words keys prices seen waiting rings rules blocks [])) (asMessage m) (tablesOf setup net [] tills words keys prices seen waiting rings rules blocks []) to) (tablesOf setup net [] tills words keys prices seen waiting rings rules blocks []) → AdmittedFrom setup net′ tills words′ seen′ waiting′ rings′ rules′ m (to + 1)
-        go true e q = subst (λ (x : Tables). AdmittedFrom setup (x .net) tills (x .words) (x .seen) (x .waiting) (x .rings) (x .rules) m (to + 1)) (sym q) (goes-on setup net [] tills words keys prices seen waiting rings rules blocks [] m to F R G b e class)
-        go false e q = subst (λ (x : Tables). AdmittedFrom setup (x .net) tills (x .words) (x .seen) (x .waiting) (x .rings) (x .rules) m (to + 1)) (sym q) (passes-on setup net [] tills words keys prices seen waiting rings rules blocks [] m to F R G b e)
+        go : (v : Bool) → selectsAt tills (m .scope) (m .from) to ≡ v → lendServe noTables setup net′ tills words′ keys prices seen′ waiting′ rings′ rules′ blocks ≡ cond v (offeredT (openingAt (lendServe noTables setup net tills words keys prices seen waiting rings rules blocks)) (asMessage m) (lendServe noTables setup net tills words keys prices seen waiting rings rules blocks) to) (lendServe noTables setup net tills words keys prices seen waiting rings rules blocks) → AdmittedFrom setup net′ tills words′ seen′ waiting′ rings′ rules′ m (to + 1)
+        go true e q = subst (λ (x : Tables). AdmittedFrom setup (x .net) tills (x .words) (x .seen) (x .waiting) (x .rings) (x .rules) m (to + 1)) (sym q) (goes-on noTables setup net tills words keys prices seen waiting rings rules blocks m to F R G b e class)
+        go false e q = subst (λ (x : Tables). AdmittedFrom setup (x .net) tills (x .words) (x .seen) (x .waiting) (x .rings) (x .rules) m (to + 1)) (sym q) (passes-on noTables setup net tills words keys prices seen waiting rings rules blocks m to F R G b e)
 
     pub total-more : total (countsOf c) ≤ to → total (countsOf n) ≤ to + 1
     unfolding Turned
-    total-more h = go (selectsAt tills (m .scope) (m .from) to) (fateOf (openingAt (tablesOf setup net [] tills words keys prices seen waiting rings rules blocks [])) (asMessage m) (live (sizesAt setup) (tablesOf setup net [] tills words keys prices seen waiting rings rules blocks [])) to) (turned [] [] .1)
+    total-more h = go (selectsAt tills (m .scope) (m .from) to) (fateOf (openingAt (lendServe noTables setup net tills words keys prices seen waiting rings rules blocks)) (asMessage m) (live (sizesAt setup) (lendServe noTables setup net tills words keys prices seen waiting rings rules blocks)) to) (turned noTables .1)
       where
         go : (v : Bool) (k : Fate) → countsOf n ≡ cond v (add k (countsOf c)) (countsOf c) → total (countsOf n) ≤ to + 1
         go true k q = omega (arith, ap total q, total-add k (countsOf c))
@@ -155,41 +155,41 @@ module _ (setup tills keys prices blocks net₀ words₀ seen₀ waiting₀ ring
 
     pub done-more : Done net words seen waiting rings rules c to → Done net′ words′ seen′ waiting′ rings′ rules′ n (to + 1)
     unfolding Done Turned
-    done-more d = λ names log. go names log (selectsAt tills (m .scope) (m .from) to) refl (turned names log .0) (turned names log .1)
+    done-more d = λ L. go L (selectsAt tills (m .scope) (m .from) to) refl (turned L .0) (turned L .1)
       where
-        go : (names log : List ℕ) (v : Bool) → selectsAt tills (m .scope) (m .from) to ≡ v
-            → tablesOf setup net′ names tills words′ keys prices seen′ waiting′ rings′ rules′ blocks log ≡ cond v (offeredT (openingAt (tablesOf setup net names tills words keys prices seen waiting rings rules blocks log)) (asMessage m) (tablesOf setup net names tills words keys prices seen waiting rings rules blocks log) to) (tablesOf setup net names tills words keys prices seen waiting rings rules blocks log)
-            → countsOf n ≡ cond v (add (fateOf (openingAt (tablesOf setup net names tills words keys prices seen waiting rings rules blocks log)) (asMessage m) (live (sizesAt setup) (tablesOf setup net names tills words keys prices seen waiting rings rules blocks log)) to) (countsOf c)) (countsOf c)
-            → (acceptT (openingAt (tablesOf setup net₀ names tills words₀ keys prices seen₀ waiting₀ rings₀ rules₀ blocks log)) (asMessage m) (tablesOf setup net′ names tills words′ keys prices seen′ waiting′ rings′ rules′ blocks log) (remaining setup tills m (to + 1)) ≡ acceptT (openingAt (tablesOf setup net₀ names tills words₀ keys prices seen₀ waiting₀ rings₀ rules₀ blocks log)) (asMessage m) (tablesOf setup net₀ names tills words₀ keys prices seen₀ waiting₀ rings₀ rules₀ blocks log) (remaining setup tills m 0))
-            × (plus (countsOf n) (tally (booked (openingAt (tablesOf setup net₀ names tills words₀ keys prices seen₀ waiting₀ rings₀ rules₀ blocks log)) (asMessage m) (live (sizesAt setup) (tablesOf setup net′ names tills words′ keys prices seen′ waiting′ rings′ rules′ blocks log)) (remaining setup tills m (to + 1)))) ≡ tally (booked (openingAt (tablesOf setup net₀ names tills words₀ keys prices seen₀ waiting₀ rings₀ rules₀ blocks log)) (asMessage m) (live (sizesAt setup) (tablesOf setup net₀ names tills words₀ keys prices seen₀ waiting₀ rings₀ rules₀ blocks log)) (remaining setup tills m 0)))
-        go names log true e q k =
-            let T = tablesOf setup net names tills words keys prices seen waiting rings rules blocks log in
+        go : (L : Tables) (v : Bool) → selectsAt tills (m .scope) (m .from) to ≡ v
+            → lendServe L setup net′ tills words′ keys prices seen′ waiting′ rings′ rules′ blocks ≡ cond v (offeredT (openingAt (lendServe L setup net tills words keys prices seen waiting rings rules blocks)) (asMessage m) (lendServe L setup net tills words keys prices seen waiting rings rules blocks) to) (lendServe L setup net tills words keys prices seen waiting rings rules blocks)
+            → countsOf n ≡ cond v (add (fateOf (openingAt (lendServe L setup net tills words keys prices seen waiting rings rules blocks)) (asMessage m) (live (sizesAt setup) (lendServe L setup net tills words keys prices seen waiting rings rules blocks)) to) (countsOf c)) (countsOf c)
+            → (acceptT (openingAt (lendServe L setup net₀ tills words₀ keys prices seen₀ waiting₀ rings₀ rules₀ blocks)) (asMessage m) (lendServe L setup net′ tills words′ keys prices seen′ waiting′ rings′ rules′ blocks) (remaining setup tills m (to + 1)) ≡ acceptT (openingAt (lendServe L setup net₀ tills words₀ keys prices seen₀ waiting₀ rings₀ rules₀ blocks)) (asMessage m) (lendServe L setup net₀ tills words₀ keys prices seen₀ waiting₀ rings₀ rules₀ blocks) (remaining setup tills m 0))
+            × (plus (countsOf n) (tally (booked (openingAt (lendServe L setup net₀ tills words₀ keys prices seen₀ waiting₀ rings₀ rules₀ blocks)) (asMessage m) (live (sizesAt setup) (lendServe L setup net′ tills words′ keys prices seen′ waiting′ rings′ rules′ blocks)) (remaining setup tills m (to + 1)))) ≡ tally (booked (openingAt (lendServe L setup net₀ tills words₀ keys prices seen₀ waiting₀ rings₀ rules₀ blocks)) (asMessage m) (live (sizesAt setup) (lendServe L setup net₀ tills words₀ keys prices seen₀ waiting₀ rings₀ rules₀ blocks)) (remaining setup tills m 0)))
+        go L true e q k =
+            let T = lendServe L setup net tills words keys prices seen waiting rings rules blocks in
             let o : Opening = openingAt T in
             let s : Live = live (sizesAt setup) T in
             let ts : List ℕ = remaining setup tills m (to + 1) in
             let r : remaining setup tills m to ≡ to ∷ ts = rest-on (λ t. selectsAt tills (m .scope) (m .from) t) (sizesAt setup .tills) to b e in
-            let p : live (sizesAt setup) (offeredT o (asMessage m) T to) ≡ offered o (asMessage m) s to = live-after setup net names tills words keys prices seen waiting rings rules blocks log m to F R G b e class in (
-              ap (λ (x : Tables). acceptT o (asMessage m) x ts) q ∙ ap (acceptT o (asMessage m) T) (sym r) ∙ d names log .0,
+            let p : live (sizesAt setup) (offeredT o (asMessage m) T to) ≡ offered o (asMessage m) s to = live-after L setup net tills words keys prices seen waiting rings rules blocks m to F R G b e class in (
+              ap (λ (x : Tables). acceptT o (asMessage m) x ts) q ∙ ap (acceptT o (asMessage m) T) (sym r) ∙ d L .0,
               (λ j. plus (k j) (tally (booked o (asMessage m) ((ap (live (sizesAt setup)) q ∙ p) j) ts)))
                   ∙ plus-add (fateOf o (asMessage m) s to) (countsOf c) (tally (booked o (asMessage m) (offered o (asMessage m) s to) ts))
                   ∙ ap (λ (l : List ℕ). plus (countsOf c) (tally (booked o (asMessage m) s l))) (sym r)
-                  ∙ d names log .1,
+                  ∙ d L .1,
             )
-        go names log false e q k =
-            let T = tablesOf setup net names tills words keys prices seen waiting rings rules blocks log in
+        go L false e q k =
+            let T = lendServe L setup net tills words keys prices seen waiting rings rules blocks in
             let o : Opening = openingAt T in
             let r : remaining setup tills m to ≡ remaining setup tills m (to + 1) = rest-off (λ t. selectsAt tills (m .scope) (m .from) t) (sizesAt setup .tills) to b e in (
-              (λ j. acceptT o (asMessage m) (q j) (sym r j)) ∙ d names log .0,
-              (λ j. plus (k j) (tally (booked o (asMessage m) (live (sizesAt setup) (q j)) (sym r j)))) ∙ d names log .1,
+              (λ j. acceptT o (asMessage m) (q j) (sym r j)) ∙ d L .0,
+              (λ j. plus (k j) (tally (booked o (asMessage m) (live (sizesAt setup) (q j)) (sym r j)))) ∙ d L .1,
             )
 
   pub done-all : (net words seen waiting rings rules : List ℕ) (c : counts.Counts) (to : ℕ) → sizesAt setup .tills ≤ to → Done net words seen waiting rings rules c to
       → Served setup tills keys prices blocks net₀ words₀ seen₀ waiting₀ rings₀ rules₀ net words seen waiting rings rules m c
   unfolding Done Served
-  done-all net words seen waiting rings rules c to h d = λ names log.
-      let T₀ = tablesOf setup net₀ names tills words₀ keys prices seen₀ waiting₀ rings₀ rules₀ blocks log in
-      let T = tablesOf setup net names tills words keys prices seen waiting rings rules blocks log in
+  done-all net words seen waiting rings rules c to h d = λ L.
+      let T₀ = lendServe L setup net₀ tills words₀ keys prices seen₀ waiting₀ rings₀ rules₀ blocks in
+      let T = lendServe L setup net tills words keys prices seen waiting rings rules blocks in
       let r : remaining setup tills m to ≡ [] = rest-end (λ t. selectsAt tills (m .scope) (m .from) t) (sizesAt setup .tills) to h in (
-        ap (acceptT (openingAt T₀) (asMessage m) T) (sym r) ∙ d names log .0,
-        sym (plus-none (countsOf c)) ∙ ap (λ (l : List ℕ). plus (countsOf c) (tally (booked (openingAt T₀) (asMessage m) (live (sizesAt setup) T) l))) (sym r) ∙ d names log .1,
+        ap (acceptT (openingAt T₀) (asMessage m) T) (sym r) ∙ d L .0,
+        sym (plus-none (countsOf c)) ∙ ap (λ (l : List ℕ). plus (countsOf c) (tally (booked (openingAt T₀) (asMessage m) (live (sizesAt setup) T) l))) (sym r) ∙ d L .1,
       )

@@ -10,11 +10,11 @@ use Rattle.table_marks.specs.Marks.{found, idsOf}
 use Rattle.fault_rules.specs.Rules.{ruleSlots}
 use Rattle.table_waiting.specs.Waiting.{width}
 use Rattle.spec_network.specs.Opening.{link, mostWords, lastNumber}
-use Rattle.spec_network.specs.Tables.{cell, live, sizesAt, idsStart, sequenceAt, waitingAt, faultWordsAt}
+use Rattle.spec_network.specs.Tables.{cell, Tables, live, sizesAt, idsStart, sequenceAt, waitingAt, faultWordsAt}
 use Rattle.spec_network.specs.Real.{openingAt}
 use Rattle.spec_network.specs.Accept.{fateOf, booked, tally, add}
 use Rattle.spec_network.specs.Writes.{offeredT, acceptT}
-use Rattle.spec_network.specs.Lending.{tablesOf}
+use Rattle.spec_network.specs.Lending.{lendServe}
 use Rattle.call_offer.specs.declared.Outgoing.{Outgoing}
 use Rattle.call_offer.specs.Needed.{State}
 use Rattle.call_offer.specs.Offering.{asMessage, selectsAt}
@@ -46,15 +46,15 @@ pub record AdmittedFrom (setup net tills words seen waiting rings rules : List �
 -- one turn: a till that is selected is offered the message, and counted under its class. So it is whatever the tables hold that are not lent
 unfoldable pub Turned : (setup tills keys prices blocks : List ℕ) (net words seen waiting rings rules net′ words′ seen′ waiting′ rings′ rules′ : List ℕ) → Outgoing → ℕ → (c r : Counts) → Type 0
 Turned setup tills keys prices blocks net words seen waiting rings rules net′ words′ seen′ waiting′ rings′ rules′ m to c r =
-    (names log : List ℕ) → let T = tablesOf setup net names tills words keys prices seen waiting rings rules blocks log in
+    (L : Tables) → let T = lendServe L setup net tills words keys prices seen waiting rings rules blocks in
     let q = selectsAt tills (m .scope) (m .from) to in
-    (tablesOf setup net′ names tills words′ keys prices seen′ waiting′ rings′ rules′ blocks log ≡ cond q (offeredT (openingAt T) (asMessage m) T to) T)
+    (lendServe L setup net′ tills words′ keys prices seen′ waiting′ rings′ rules′ blocks ≡ cond q (offeredT (openingAt T) (asMessage m) T to) T)
     × (countsOf r ≡ cond q (add (fateOf (openingAt T) (asMessage m) (live (sizesAt setup) T) to) (countsOf c)) (countsOf c))
 
 -- all of them
 unfoldable pub Served : (setup tills keys prices blocks : List ℕ) (net words seen waiting rings rules net′ words′ seen′ waiting′ rings′ rules′ : List ℕ) → Outgoing → (r : Counts) → Type 0
 Served setup tills keys prices blocks net words seen waiting rings rules net′ words′ seen′ waiting′ rings′ rules′ m r =
-    (names log : List ℕ) → let T = tablesOf setup net names tills words keys prices seen waiting rings rules blocks log in
+    (L : Tables) → let T = lendServe L setup net tills words keys prices seen waiting rings rules blocks in
     let ts = remaining setup tills m 0 in
-    (tablesOf setup net′ names tills words′ keys prices seen′ waiting′ rings′ rules′ blocks log ≡ acceptT (openingAt T) (asMessage m) T ts)
+    (lendServe L setup net′ tills words′ keys prices seen′ waiting′ rings′ rules′ blocks ≡ acceptT (openingAt T) (asMessage m) T ts)
     × (countsOf r ≡ tally (booked (openingAt T) (asMessage m) (live (sizesAt setup) T) ts))

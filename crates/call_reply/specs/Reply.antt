@@ -1,29 +1,15 @@
 -- Document 01, 'Questions' (a "no" returns the number with all counts 0): the fields of a reply, for each case of an answer.
 use Prim.Native.Nat.{ℕ}
-use Rattle.spec_network.specs.Calls.{Answer, silent, counted, moved, number, tallied, drained, copies, ids}
+use Rattle.spec_network.specs.Calls.{Answer, shown}
 use Rattle.spec_network.specs.Writes.{Reply}
 use Rattle.call_reply.specs.declared.Done.{Done}
 use Rattle.call_reply.specs.declared.Value.{Value}
 
 abbrev pub foundIn : Answer → ℕ
-foundIn (number found value) = found
-foundIn silent = 0
-foundIn (counted n) = 0
-foundIn (moved rows delivered drops) = 0
-foundIn (tallied t) = 0
-foundIn (drained l) = 0
-foundIn (copies cs) = 0
-foundIn (ids is) = 0
+foundIn a = shown a .found
 
 abbrev pub valueIn : Answer → ℕ
-valueIn (number found value) = value
-valueIn silent = 0
-valueIn (counted n) = 0
-valueIn (moved rows delivered drops) = 0
-valueIn (tallied t) = 0
-valueIn (drained l) = 0
-valueIn (copies cs) = 0
-valueIn (ids is) = 0
+valueIn a = shown a .value
 
 -- a call that answers nothing but whether it was refused
 abbrev pub doneOf : Reply → Done

@@ -19,7 +19,7 @@ use Rattle.spec_network.specs.Real.{drawsOf, openingAt}
 use Rattle.spec_network.specs.Accept as accept
 use Rattle.spec_network.specs.Accept.{Timed, Drawn, drawn, original, echo, echoCopies, carriedOf, Fate, sent, fateOf, add}
 use Rattle.spec_network.specs.Writes.{setRings, setRules, wordsT, netT, ruledT, marksT, pushT, rememberT, effectT, offeredT}
-use Rattle.spec_network.specs.Lending.{tablesOf}
+use Rattle.spec_network.specs.Lending.{lendApply, lendSend, setRules}
 use Rattle.call_offer.specs.declared.Outgoing.{Outgoing}
 use Rattle.call_offer.specs.declared.Faulted.{Faulted}
 use Rattle.call_offer.specs.declared.Sending.{Sending}
@@ -27,12 +27,12 @@ use Rattle.call_offer.specs.declared.Offer.{Offer}
 use Rattle.call_offer.specs.declared.Offer.the-variants.{Deduplicated, Partition, Loss, Fault, Sent}
 use Rattle.call_offer.specs.Offering.{asMessage, doubled, replayedAs, echoesIn, Answers}
 use Rattle.call_schedule.specs.declared.Counts.{Counts}
-use Rattle.call_schedule.specs.Writing.{markedSeen, pushedNet, pushedWaiting, remembered, sentT, offerT, Sends, Applies, classIn, countsOf}
+use Rattle.call_schedule.specs.Writing.{markedSeen, pushedNet, pushedWaiting, remembered, sentT, offerT, Sends, Applies, fateIn, countsOf}
 use Rattle.call_schedule.proofs.Pushing.{after, push-copies}
 
 -- ---- Sent
 
-module _ (T : Tables) (m : accept.Outgoing) (t : ℕ) (x : Sending) (below : t < sizesAt (T .setup) .tills) (size : 2 ≤ length (T .net)) where
+module _ (T : Tables) (m : accept.Message) (t : ℕ) (x : Sending) (below : t < sizesAt (T .setup) .tills) (size : 2 ≤ length (T .net)) where
   abbrev o : Opening
   o = openingAt T
 
@@ -84,8 +84,8 @@ pub sends : (m : Outgoing) (t : ℕ) (x : Sending) (setup net words seen waiting
     → c₃ ≡ echo (asMessage m) t 0 (replayedAs (x .echoes .old) (x .echoes .replay .latency)) → n₃ ≡ pushedNet (x .echoes .replay .some) n₂ w₂ c₃ → w₃ ≡ pushedWaiting (x .echoes .replay .some) n₂ w₂ c₃
     → rings′ ≡ remembered (settingsAt setup) rings (asMessage m) → Sends m t x setup net words seen waiting rings n₃ (set words (link (m .from) t) (x .echoes .words)) seen′ w₃ rings′
 unfolding Sends
-sends m t x setup net words seen waiting rings {seen′} {n₁} {n₂} {n₃} {w₁} {w₂} {w₃} {rings′} {c₁} {c₂} {c₃} below size es k₁ p₁ q₁ k₂ p₂ q₂ k₃ p₃ q₃ er = λ names tills keys prices rules blocks log.
-    let T = tablesOf setup net names tills words keys prices seen waiting rings rules blocks log in
+sends m t x setup net words seen waiting rings {seen′} {n₁} {n₂} {n₃} {w₁} {w₂} {w₃} {rings′} {c₁} {c₂} {c₃} below size es k₁ p₁ q₁ k₂ p₂ q₂ k₃ p₃ q₃ er = λ L.
+    let T = lendSend L setup net words seen waiting rings in
     let net₀ : List ℕ = set net faultWordsAt (x .fault) in
     let a : Bool = x .echoes .duplicate .some in
     let b : Bool = x .echoes .replay .some in
@@ -95,42 +95,42 @@ sends m t x setup net words seen waiting rings {seen′} {n₁} {n₂} {n₃} {w
     let Q₂ = q₂ ∙ (λ j. pushedWaiting a (P₁ j) (Q₁ j) (k₂ j)) in
     let P₃ = p₃ ∙ (λ j. pushedNet b (P₂ j) (Q₂ j) (k₃ j)) in
     let Q₃ = q₃ ∙ (λ j. pushedWaiting b (P₂ j) (Q₂ j) (k₃ j)) in
-    (λ j. tablesOf setup (P₃ j) names tills (set words (link (m .from) t) (x .echoes .words)) keys prices (es j) (Q₃ j) (er j) rules blocks log) ∙ sym (sent-is T (asMessage m) t x below size)
+    (λ j. lendSend L setup (P₃ j) (set words (link (m .from) t) (x .echoes .words)) (es j) (Q₃ j) (er j)) ∙ sym (sent-is T (asMessage m) t x below size)
 
 -- ---- The five
 
 module _ (m : Outgoing) (t : ℕ) (r : Offer) (setup net words seen waiting rings rules : List ℕ) where
   pub writes-none : r ≡ Deduplicated → Applies m t r setup net words seen waiting rings rules net words seen waiting rings rules
   unfolding Applies offerT
-  writes-none e = λ names tills keys prices blocks log.
-      let T = tablesOf setup net names tills words keys prices seen waiting rings rules blocks log in ap (offerT (openingAt T) (asMessage m) T t) (sym e)
+  writes-none e = λ L.
+      let T = lendApply L setup net words seen waiting rings rules in ap (offerT (openingAt T) (asMessage m) T t) (sym e)
 
   pub writes-nothing : r ≡ Partition → Applies m t r setup net words seen waiting rings rules net words seen waiting rings rules
   unfolding Applies offerT
-  writes-nothing e = λ names tills keys prices blocks log.
-      let T = tablesOf setup net names tills words keys prices seen waiting rings rules blocks log in ap (offerT (openingAt T) (asMessage m) T t) (sym e)
+  writes-nothing e = λ L.
+      let T = lendApply L setup net words seen waiting rings rules in ap (offerT (openingAt T) (asMessage m) T t) (sym e)
 
   pub writes-loss : (n : ℕ) → r ≡ Loss n → Applies m t r setup net words seen waiting rings rules net (set words (link (m .from) t) n) seen waiting rings rules
   unfolding Applies offerT
-  writes-loss n e = λ names tills keys prices blocks log.
-      let T = tablesOf setup net names tills words keys prices seen waiting rings rules blocks log in ap (offerT (openingAt T) (asMessage m) T t) (sym e)
+  writes-loss n e = λ L.
+      let T = lendApply L setup net words seen waiting rings rules in ap (offerT (openingAt T) (asMessage m) T t) (sym e)
 
   pub writes-fault : (f : Faulted) (rules′ : List ℕ) → r ≡ Fault f → rules′ ≡ fireTable rules (f .place)
       → Applies m t r setup net words seen waiting rings rules (set net faultWordsAt (f .fault)) (set words (link (m .from) t) (f .words)) seen waiting rings rules′
   unfolding Applies offerT
-  writes-fault f rules′ e q = λ names tills keys prices blocks log.
-      let T = tablesOf setup net names tills words keys prices seen waiting rings rules blocks log in
-      ap (λ (l : List ℕ). tablesOf setup (set net faultWordsAt (f .fault)) names tills (set words (link (m .from) t) (f .words)) keys prices seen waiting rings l blocks log) q
+  writes-fault f rules′ e q = λ L.
+      let T = lendApply L setup net words seen waiting rings rules in
+      ap (λ (l : List ℕ). lendApply L setup (set net faultWordsAt (f .fault)) (set words (link (m .from) t) (f .words)) seen waiting rings l) q
       ∙ ap (offerT (openingAt T) (asMessage m) T t) (sym e)
 
   pub writes-sent : (x : Sending) (net′ words′ seen′ waiting′ rings′ : List ℕ) → r ≡ Sent x → Sends m t x setup net words seen waiting rings net′ words′ seen′ waiting′ rings′
       → Applies m t r setup net words seen waiting rings rules net′ words′ seen′ waiting′ rings′ rules
   unfolding Applies Sends offerT
-  writes-sent x net′ words′ seen′ waiting′ rings′ e q = λ names tills keys prices blocks log.
-      let T = tablesOf setup net names tills words keys prices seen waiting rings rules blocks log in q names tills keys prices rules blocks log ∙ ap (offerT (openingAt T) (asMessage m) T t) (sym e)
+  writes-sent x net′ words′ seen′ waiting′ rings′ e q = λ L.
+      let T = lendApply L setup net words seen waiting rings rules in q (setRules L rules) ∙ ap (offerT (openingAt T) (asMessage m) T t) (sym e)
 
 -- THE LAW: an offer writes what its class and its draws say
-module _ (o : Opening) (m : accept.Outgoing) (T : Tables) (t : ℕ) where
+module _ (o : Opening) (m : accept.Message) (T : Tables) (t : ℕ) where
   abbrev d : Drawn
   d = drawn o m t (live (o .sizes) T)
 
@@ -140,7 +140,7 @@ module _ (o : Opening) (m : accept.Outgoing) (T : Tables) (t : ℕ) where
   unruled : (T′ : Tables) (v : Decision) → v .drops ≡ false → netT T′ faultWordsAt (v .words) ≡ ruledT T′ v
   unruled T′ v e = ap (λ (b : Bool). cond b (setRules (netT T′ faultWordsAt (v .words)) (fireTable (T′ .rules) (v .place))) (netT T′ faultWordsAt (v .words))) (sym e)
 
-  pub answers-write : (r : Offer) → Answers o m (live (o .sizes) T) t r → (classIn r ≡ fateOf o m (live (o .sizes) T) t) × (offerT o m T t r ≡ offeredT o m T t)
+  pub answers-write : (r : Offer) → Answers o m (live (o .sizes) T) t r → (fateIn r ≡ fateOf o m (live (o .sizes) T) t) × (offerT o m T t r ≡ offeredT o m T t)
   unfolding Answers offerT sentT
   answers-write Deduplicated a = (sym a, by-class _ a)
   answers-write Partition a = (sym a, by-class _ a)
@@ -160,7 +160,7 @@ module _ (o : Opening) (m : accept.Outgoing) (T : Tables) (t : ℕ) where
 
 -- ---- The counts
 
-pub counted-as : (c n : Counts) (r v : Offer) → r ≡ v → n .sent ≡ add (classIn v) (countsOf c) .sent → n .deduplicated ≡ add (classIn v) (countsOf c) .deduplicated
-    → n .partition ≡ add (classIn v) (countsOf c) .partition → n .loss ≡ add (classIn v) (countsOf c) .loss → n .fault ≡ add (classIn v) (countsOf c) .fault → countsOf n ≡ add (classIn r) (countsOf c)
+pub counted-as : (c n : Counts) (r v : Offer) → r ≡ v → n .sent ≡ add (fateIn v) (countsOf c) .sent → n .deduplicated ≡ add (fateIn v) (countsOf c) .deduplicated
+    → n .partition ≡ add (fateIn v) (countsOf c) .partition → n .loss ≡ add (fateIn v) (countsOf c) .loss → n .fault ≡ add (fateIn v) (countsOf c) .fault → countsOf n ≡ add (fateIn r) (countsOf c)
 counted-as c n r v e p q u w y =
-    (λ j. record { sent = p j; deduplicated = q j; partition = u j; loss = w j; fault = y j }) ∙ ap (λ (k : Offer). add (classIn k) (countsOf c)) (sym e)
+    (λ j. record { sent = p j; deduplicated = q j; partition = u j; loss = w j; fault = y j }) ∙ ap (λ (k : Offer). add (fateIn k) (countsOf c)) (sym e)

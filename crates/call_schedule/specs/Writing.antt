@@ -18,7 +18,7 @@ use Rattle.spec_network.specs.Accept as accept
 use Rattle.spec_network.specs.Accept.{original, echoCopies, carriedOf, Fate, deduplicated, partition, loss, fault, sent}
 use Rattle.spec_network.specs.Writes.{wordsT, netT, ruledT, marksT, pushT, rememberT}
 use Rattle.spec_network.specs.Real.{openingAt}
-use Rattle.spec_network.specs.Lending.{tablesOf}
+use Rattle.spec_network.specs.Lending.{lendApply, lendSend}
 use Rattle.call_offer.specs.declared.Outgoing.{Outgoing}
 use Rattle.call_offer.specs.declared.Sending.{Sending}
 use Rattle.call_offer.specs.declared.Offer.{Offer}
@@ -47,7 +47,7 @@ unfoldable pub pushedWaiting : Bool → (net waiting : List ℕ) → Copy → Li
 pushedWaiting hit net waiting c = cond hit (over form (queue net waiting c) waiting) waiting
 
 -- the ring takes the message, where an echo rate is above 0
-abbrev pub remembered : Settings → List ℕ → accept.Outgoing → List ℕ
+abbrev pub remembered : Settings → List ℕ → accept.Message → List ℕ
 remembered x rings m = cond (echoingAt x) (pushed (ringsOf (x .sizes)) rings (numberOf (m .kind) (m .scope)) (carriedOf m)) rings
 
 -- room for one copy more
@@ -84,7 +84,7 @@ pub record Applicable (setup net words seen waiting rings : List ℕ) (m : Outgo
 -- ---- What an offer writes
 
 -- sent: word counts, the mark, the original, its echoes, the ring
-unfoldable pub sentT : Opening → accept.Outgoing → Tables → ℕ → Sending → Tables
+unfoldable pub sentT : Opening → accept.Message → Tables → ℕ → Sending → Tables
 sentT o m T t x =
     let s = live (o .sizes) T in
     let T₁ = netT (wordsT T (link (m .from) t) (x .echoes .words)) faultWordsAt (x .fault) in
@@ -92,7 +92,7 @@ sentT o m T t x =
     let n = suc (s .queue .sequence) in
     rememberT o m (pushT (o .sizes) T₂ (original m t n (x .latency) ∷ echoCopies m t n (echoesIn m (x .echoes))))
 
-unfoldable pub offerT : Opening → accept.Outgoing → Tables → ℕ → Offer → Tables
+unfoldable pub offerT : Opening → accept.Message → Tables → ℕ → Offer → Tables
 offerT o m T t Deduplicated = T
 offerT o m T t Partition = T
 offerT o m T t (Loss n) = wordsT T (link (m .from) t) n
@@ -102,22 +102,22 @@ offerT o m T t (Sent x) = sentT o m T t x
 -- so it is whatever the tables hold that are not lent: those before, and those after
 unfoldable pub Sends : Outgoing → ℕ → Sending → (setup net words seen waiting rings net′ words′ seen′ waiting′ rings′ : List ℕ) → Type 0
 Sends m t x setup net words seen waiting rings net′ words′ seen′ waiting′ rings′ =
-    (names tills keys prices rules blocks log : List ℕ) → let T = tablesOf setup net names tills words keys prices seen waiting rings rules blocks log in
-    tablesOf setup net′ names tills words′ keys prices seen′ waiting′ rings′ rules blocks log ≡ sentT (openingAt T) (asMessage m) T t x
+    (L : Tables) → let T = lendSend L setup net words seen waiting rings in
+    lendSend L setup net′ words′ seen′ waiting′ rings′ ≡ sentT (openingAt T) (asMessage m) T t x
 
 unfoldable pub Applies : Outgoing → ℕ → Offer → (setup net words seen waiting rings rules net′ words′ seen′ waiting′ rings′ rules′ : List ℕ) → Type 0
 Applies m t r setup net words seen waiting rings rules net′ words′ seen′ waiting′ rings′ rules′ =
-    (names tills keys prices blocks log : List ℕ) → let T = tablesOf setup net names tills words keys prices seen waiting rings rules blocks log in
-    tablesOf setup net′ names tills words′ keys prices seen′ waiting′ rings′ rules′ blocks log ≡ offerT (openingAt T) (asMessage m) T t r
+    (L : Tables) → let T = lendApply L setup net words seen waiting rings rules in
+    lendApply L setup net′ words′ seen′ waiting′ rings′ rules′ ≡ offerT (openingAt T) (asMessage m) T t r
 
 -- ---- The five counts
 
-abbrev pub classIn : Offer → Fate
-classIn Deduplicated = deduplicated
-classIn Partition = partition
-classIn (Loss n) = loss
-classIn (Fault f) = fault
-classIn (Sent x) = sent
+abbrev pub fateIn : Offer → Fate
+fateIn Deduplicated = deduplicated
+fateIn Partition = partition
+fateIn (Loss n) = loss
+fateIn (Fault f) = fault
+fateIn (Sent x) = sent
 
 -- the counts as `Accept` has them
 abbrev pub countsOf : Counts → accept.Counts

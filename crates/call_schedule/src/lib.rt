@@ -8,10 +8,10 @@ ghost use Rattle.spec_network.specs.Accept.{copyWith, original, add, total};
 ghost use Rattle.spec_network.specs.Tables.{cell, sizesAt, settingsAt, setupWidth};
 ghost use Rattle.call_offer.specs.Needed.{Ranged, RingsHeld, SeenHeld};
 ghost use Rattle.call_offer.specs.Offering.{asMessage};
-ghost use Rattle.call_schedule.specs.Writing.{markedSeen, pushedNet, pushedWaiting, remembered, Room, Sendable, Applicable, Sends, Applies, classIn, countsOf};
+ghost use Rattle.call_schedule.specs.Writing.{markedSeen, pushedNet, pushedWaiting, remembered, Room, Sendable, Applicable, Sends, Applies, fateIn, countsOf};
 use call_offer::Echo;
-use call_offer::Outgoing;
 use call_offer::Offer;
+use call_offer::Outgoing;
 use call_offer::Sending;
 use table_delivery::Delivery;
 use table_rings::Entry;
@@ -205,7 +205,7 @@ pub fn apply(
 // One recipient more, under its class.
 pub fn count(c: Counts, r: Offer) -> Counts
     requires { ⌜ total (countsOf c) ≤ 64 ⌝ }
-    ensures { λ n. ⌜ countsOf n ≡ add (classIn r) (countsOf c) ⌝ }
+    ensures { λ n. ⌜ countsOf n ≡ add (fateIn r) (countsOf c) ⌝ }
 {
     match r {
         Offer::Deduplicated => Counts {

@@ -1,9 +1,9 @@
 -- Document 01, network (`take_down`, `bring_up`) and 'What changes shape' (handlers), with questions 1, 4 and 5: THE CONTRACTS of the calls on tills and marks. Of the
 -- tables `setup` and `tills`, `seen` or both are lent; the others hold whatever they hold, and stay.
-use mathlib.Core.List.{List, []}
+use mathlib.Core.List.{List}
 use Prim.Native.Nat.{ℕ}
 use lib.ListN.{length}
-use Rattle.spec_network.specs.Calls.{Call, takeDown, bringUp, handlers, reading, isDown, marksOf, Answer, silent, counted, moved, number, tallied, drained, copies, ids}
+use Rattle.spec_network.specs.Calls.{Call, takeDown, bringUp, handlers, reading, isDown, marksOf, Answer, shown}
 use Rattle.spec_network.specs.Tables.{Tables}
 use Rattle.spec_network.specs.Lending.{lendTills, lendSeen, lendTillsSeen}
 use Rattle.spec_network.specs.Writes.{Reply}
@@ -32,14 +32,7 @@ DoesIsDown s a t r = (T : Tables) → Does valueOf (lendTills T s a) (lendTills 
 
 -- how many ids an answer has
 abbrev pub idsIn : Answer → List ℕ
-idsIn (ids is) = is
-idsIn silent = []
-idsIn (counted n) = []
-idsIn (moved rows delivered drops) = []
-idsIn (number found value) = []
-idsIn (tallied t) = []
-idsIn (drained l) = []
-idsIn (copies cs) = []
+idsIn a = shown a .ids
 
 abbrev pub marksReply : Reply → Marks
 marksReply q = record { number = q .number; count = length (idsIn (q .answer)) }

@@ -8,7 +8,7 @@ use lib.ListN.{length}
 use Rattle.table_waiting.specs.declared.Copy.{Copy}
 use Rattle.table_waiting.specs.Waiting as waiting
 use Rattle.spec_network.specs.Lists.{count}
-use Rattle.spec_network.specs.Calls.{Call, Reading, reading, transit, nextTime, waitingCopies, Answer, silent, counted, moved, number, tallied, drained, copies, ids}
+use Rattle.spec_network.specs.Calls.{Call, Reading, reading, transit, nextTime, waitingCopies, Answer, shown}
 use Rattle.spec_network.specs.Tables.{Tables, sizesAt}
 use Rattle.spec_network.specs.Lending.{lendWaiting}
 use Rattle.spec_network.specs.Writes.{Reply}
@@ -32,14 +32,7 @@ DoesNextTime s n w r = Reads s n w nextTime r
 
 -- how many copies an answer has
 abbrev pub copiesIn : Answer → ℕ
-copiesIn (copies cs) = length cs
-copiesIn silent = 0
-copiesIn (counted n) = 0
-copiesIn (moved rows delivered drops) = 0
-copiesIn (number found value) = 0
-copiesIn (tallied t) = 0
-copiesIn (drained l) = 0
-copiesIn (ids is) = 0
+copiesIn a = length (shown a .copies)
 
 abbrev pub copiedOf : Reply → Copied
 copiedOf q = record { number = q .number; copies = copiesIn (q .answer) }

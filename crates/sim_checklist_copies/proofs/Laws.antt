@@ -9,7 +9,7 @@ use borrow.Author.Tests.{eq-eqb, ne-eqb}
 use Rattle.sim_printer.specs.Printer.{Page, Spelled}
 use Rattle.sim_figures.specs.Figures.{logAt}
 use Rattle.sim_comparison.specs.declared.Pair.{Pair}
-use Rattle.sim_comparison.specs.Compared.{fateOf, classesDiffer}
+use Rattle.sim_comparison.specs.Compared.{classOf, classesDiffer}
 use Rattle.sim_sheet.specs.Sheet.{figure, Prints, wide, bytes, saying, newline, atRight, verdictLine, threeOf}
 use Rattle.sim_sheet.proofs.Laws.{onward, nothing, figured, shown-three, shown-none}
 use Rattle.sim_checklist_copies.specs.Copies.{kindsOf, noneIn, classLine, classLines, classTable, asSender, asReceiver}
@@ -28,12 +28,12 @@ none-left p e = simp (eq-eqb (p .left) 0 e)
 pub some-left : (p : Pair) → (p .left ≡ 0 → ⊥) → false ≡ noneIn p
 some-left p e = simp (ne-eqb (p .left) 0 e)
 
-pub no-class : (p : Page) (l : List ℕ) (of k : ℕ) (c : Pair) (b : Bool) → c ≡ fateOf l of k → b ≡ noneIn c → b ≡ true → Prints (classLine l of k) p p
+pub no-class : (p : Page) (l : List ℕ) (of k : ℕ) (c : Pair) (b : Bool) → c ≡ classOf l of k → b ≡ noneIn c → b ≡ true → Prints (classLine l of k) p p
 unfolding classLine
 no-class p l of k c b e f t = simp (sym (ap noneIn e) ∙ (sym f ∙ t)) (nothing p)
 
 pub a-class :
-    (p m o r q : Page) (l : List ℕ) (of k : ℕ) (c : Pair) (b : Bool) → c ≡ fateOf l of k → b ≡ noneIn c → b ≡ false → Spelled 10 1 5 k p m → Spelled 10 1 21 (c .left) m o
+    (p m o r q : Page) (l : List ℕ) (of k : ℕ) (c : Pair) (b : Bool) → c ≡ classOf l of k → b ≡ noneIn c → b ≡ false → Spelled 10 1 5 k p m → Spelled 10 1 21 (c .left) m o
     → Spelled 10 1 22 (c .right) o r → Prints newline r q → Prints (classLine l of k) p q
 unfolding classLine
 a-class p m o r q l of k c b e f t s u v a =

@@ -6,7 +6,7 @@ use lib.Dec.{eqb}
 use lib.ListN.{getD}
 use Rattle.sim_figures.specs.Figures.{tillsAt, logAt, landedAt, droppedAt, waitingAt, sentOf, receivedOf, lostToOf, transitOf, tillRow}
 use Rattle.sim_comparison.specs.declared.Pair.{Pair}
-use Rattle.sim_comparison.specs.Compared.{plus, originalsOf, echoesOf, copiesOf, rowsOf, orderOf, deliveredOf, fateOf, agreed, classesDiffer}
+use Rattle.sim_comparison.specs.Compared.{plus, originalsOf, echoesOf, copiesOf, rowsOf, orderOf, deliveredOf, classOf, agreed, classesDiffer}
 use Rattle.sim_sheet.specs.Sheet.{Piece, figure, wide, bytes, saying, newline, labelled, atRight, lineOf, verdictIn, verdictLine, comparedLines, tableOf, threeOf}
 
 -- ---- D
@@ -39,7 +39,7 @@ noneIn p = cond (eqb (p .left) 0) (eqb (p .right) 0) false
 
 -- a class's line in the table of deliveries (of is 0) or bytes (1); nothing where both figures are 0
 unfoldable pub classLine : List ℕ → ℕ → ℕ → List Piece
-classLine l of k = cond (noneIn (fateOf l of k)) [] (figure k 5 ∷ figure (fateOf l of k .left) 21 ∷ figure (fateOf l of k .right) 22 ∷ newline)
+classLine l of k = cond (noneIn (classOf l of k)) [] (figure k 5 ∷ figure (classOf l of k .left) 21 ∷ figure (classOf l of k .right) 22 ∷ newline)
 
 abbrev pub classLines : List ℕ → ℕ → List Piece
 classLines l of = tableOf (classLine l of) 8

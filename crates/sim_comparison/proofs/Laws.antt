@@ -9,7 +9,7 @@ use lib.ListN.{getD}
 use borrow.Author.Tests.{eq-eqb, ne-eqb}
 use Rattle.sim_figures.specs.Figures.{logAt, logged, classRow, tillRow}
 use Rattle.sim_comparison.specs.declared.Pair.{Pair}
-use Rattle.sim_comparison.specs.Compared.{pair, plus, sumOf, columnOf, fateOf, agreed, within, differs, classesDiffer}
+use Rattle.sim_comparison.specs.Compared.{pair, plus, sumOf, columnOf, classOf, agreed, within, differs, classesDiffer}
 
 pub both : {a b x y : ℕ} → a ≡ x → b ≡ y → pair a b ≡ pair x y
 both e f = cc
@@ -46,14 +46,14 @@ column-end l of i n s h k e =
     let same : i ≡ n = omega arith in
     e ∙ ap (λ (j : ℕ). columnOf l of j) same
 
-pub class-unlogged : (l : List ℕ) (of k r n g : ℕ) → r ≡ classRow k → n ≡ getD l (r + of) 0 → g ≡ getD l logAt 0 → g ≡ 0 → pair n n ≡ fateOf l of k
-unfolding fateOf
+pub class-unlogged : (l : List ℕ) (of k r n g : ℕ) → r ≡ classRow k → n ≡ getD l (r + of) 0 → g ≡ getD l logAt 0 → g ≡ 0 → pair n n ≡ classOf l of k
+unfolding classOf
 class-unlogged l of k r n g row e f z =
     let here : n ≡ getD l (classRow k + of) 0 = e ∙ ap (λ (x : ℕ). getD l (x + of) 0) row in
     simp (eq-eqb (getD l logAt 0) 0 (sym f ∙ z)) (both here here)
 
-pub class-logged : (l : List ℕ) (of k r n m g : ℕ) → r ≡ classRow k → n ≡ getD l (r + of) 0 → m ≡ getD l (r + of + logged) 0 → g ≡ getD l logAt 0 → (g ≡ 0 → ⊥) → pair n m ≡ fateOf l of k
-unfolding fateOf
+pub class-logged : (l : List ℕ) (of k r n m g : ℕ) → r ≡ classRow k → n ≡ getD l (r + of) 0 → m ≡ getD l (r + of + logged) 0 → g ≡ getD l logAt 0 → (g ≡ 0 → ⊥) → pair n m ≡ classOf l of k
+unfolding classOf
 class-logged l of k r n m g row e h f z =
     simp (ne-eqb (getD l logAt 0) 0 (λ q. z (f ∙ q)))
     (both (e ∙ ap (λ (x : ℕ). getD l (x + of) 0) row) (h ∙ ap (λ (x : ℕ). getD l (x + of + logged) 0) row))
@@ -68,7 +68,7 @@ pub classes-none : (l : List ℕ) (of : ℕ) → 0 ≡ classesDiffer l of 0
 unfolding classesDiffer
 classes-none l of = refl
 
-pub classes-more : (l : List ℕ) (of k t n s : ℕ) (p : Pair) (b : Bool) → t ≡ classesDiffer l of k → p ≡ fateOf l of k → b ≡ agreed p → n ≡ differs b → s ≡ plus t n → s ≡ classesDiffer l of (k + 1)
+pub classes-more : (l : List ℕ) (of k t n s : ℕ) (p : Pair) (b : Bool) → t ≡ classesDiffer l of k → p ≡ classOf l of k → b ≡ agreed p → n ≡ differs b → s ≡ plus t n → s ≡ classesDiffer l of (k + 1)
 unfolding classesDiffer
 classes-more l of k t n s p b e f g h w = rw add-one (sums e (said f g h) w)
 

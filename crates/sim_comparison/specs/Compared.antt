@@ -78,8 +78,8 @@ abbrev pub deliveredOf : List ℕ → Pair
 deliveredOf l = pair (getD l handledAt 0) (getD l saidDeliveredAt 0)
 
 -- of is 0 for deliveries, 1 for bytes; without a log there is nothing to compare
-unfoldable pub fateOf : List ℕ → ℕ → ℕ → Pair
-fateOf l of k = pair (getD l (classRow k + of) 0) (cond (eqb (getD l logAt 0) 0) (getD l (classRow k + of) 0) (getD l (classRow k + of + logged) 0))
+unfoldable pub classOf : List ℕ → ℕ → ℕ → Pair
+classOf l of k = pair (getD l (classRow k + of) 0) (cond (eqb (getD l logAt 0) 0) (getD l (classRow k + of) 0) (getD l (classRow k + of + logged) 0))
 
 -- ---- Do they agree?
 
@@ -95,7 +95,7 @@ differs b = cond b 0 1
 
 unfoldable pub classesDiffer : List ℕ → ℕ → ℕ → ℕ
 classesDiffer l of zero = 0
-classesDiffer l of (suc k) = plus (classesDiffer l of k) (differs (agreed (fateOf l of k)))
+classesDiffer l of (suc k) = plus (classesDiffer l of k) (differs (agreed (classOf l of k)))
 
 unfoldable pub sendersDiffer : List ℕ → ℕ
 sendersDiffer l =

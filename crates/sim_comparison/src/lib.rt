@@ -210,7 +210,7 @@ pub fn delivered(figures: &[u64]) -> Pair
 // Deliveries (of is 0) or bytes (1) of a class.
 pub fn class(figures: &[u64], of: usize, k: u64) -> Pair
     requires { ⌜ of ≤ 1 ⌝ }
-    ensures { λ r. ⌜ r ≡ is.fateOf (now (figures .entry)) of k ⌝ }
+    ensures { λ r. ⌜ r ≡ is.classOf (now (figures .entry)) of k ⌝ }
 {
     let b = class_row(k) + of;
     let n = get(figures, b);

@@ -48,9 +48,6 @@ use Rattle.spec_book.proofs.Fit.{cell-fits, rows-fit, fit-put, fit-clos
 use Rattle.spec_book.proofs.Bounds.{DrawsFit}
 use Rattle.spec_book.proofs.CellsAccept.{CopyFit, MessageFits, drawn-words, effect-cells, set-most, cells-tills, cells-rules, cells-blocks, cells-log, cells-waiting, cell-net, copy-reads, waiting-fits, marks-cells, ids-fit, removed-fit, ruled-cells}
 
-abbrev In : ℕ → Type 0
-In v = v < 2 ^ 64
-
 -- ---- Accept
 
 module _ (o : Opening) (lim : Limited (o .sizes)) (g : DrawsFit o) (m : Message) (k : NearMessage (o .sizes) m) (q : MessageFits m) where

@@ -108,3 +108,25 @@ lendFlush T setup net tills seen waiting blocks log = setLog (setBlocks (setWait
 -- accept
 abbrev pub lendAccept : Tables → (setup net names tills words keys prices seen waiting rings rules blocks : List ℕ) → Tables
 lendAccept T setup net names tills words keys prices seen waiting rings rules blocks = tablesOf setup net names tills words keys prices seen waiting rings rules blocks (T .log)
+
+-- ---- What the parts of an accept are lent
+
+-- every selected till in turn: all but the names and the log
+abbrev pub lendServe : Tables → (setup net tills words keys prices seen waiting rings rules blocks : List ℕ) → Tables
+lendServe T setup net tills words keys prices seen waiting rings rules blocks = lendAccept T setup net (T .names) tills words keys prices seen waiting rings rules blocks
+
+-- what becomes of a message at one till
+abbrev pub lendOffer : Tables → (setup net tills words keys prices seen rings rules blocks : List ℕ) → Tables
+lendOffer T setup net tills words keys prices seen rings rules blocks = lendServe T setup net tills words keys prices seen (T .waiting) rings rules blocks
+
+-- its draws
+abbrev pub lendDraws : Tables → (setup net words keys prices rings rules : List ℕ) → Tables
+lendDraws T setup net words keys prices rings rules = lendOffer T setup net (T .tills) words keys prices (T .seen) rings rules (T .blocks)
+
+-- what that writes
+abbrev pub lendApply : Tables → (setup net words seen waiting rings rules : List ℕ) → Tables
+lendApply T setup net words seen waiting rings rules = lendServe T setup net (T .tills) words (T .keys) (T .prices) seen waiting rings rules (T .blocks)
+
+-- what a sent message writes
+abbrev pub lendSend : Tables → (setup net words seen waiting rings : List ℕ) → Tables
+lendSend T setup net words seen waiting rings = lendApply T setup net words seen waiting rings (T .rules)

@@ -83,9 +83,6 @@ module _ (log : List ℕ) (class wire : ℕ) (room : recordsAt ≤ length log) w
   at : ℕ
   at = talliesAt + class * tallyWidth
 
-  new : List ℕ
-  new = tallyForm .words (tallied (tallyAt log class) wire)
-
   by-class : {A : Type 0} (F : List ℕ → A) → (class < classes → F (putWords log (talliesAt + class * tallyWidth) (tallyForm .words (tallied (tallyAt log class) wire))) ≡ F log) → F (talliedAt log class wire) ≡ F log
   unfolding talliedAt
   by-class F k = go (ltb class classes) refl

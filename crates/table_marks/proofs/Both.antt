@@ -199,9 +199,6 @@ module _ (seen : List ℕ) (start count id : ℕ) (room : start + count + 1 ≤ 
   placed-is : placed id (idsOf seen start count) ≡ grown (idsOf seen start (older count)) more
   placed-is = ap₂ (λ (a b : List ℕ). grown a (placedIn id b)) (old-is seen start count id fit) (new-is seen start count id fit)
 
-  full : Bool
-  full = eqb (length more) newest
-
   pub more-apart : (l : List ℕ) → (count % newest + 1 ≡ newest → ⊥) → l ≡ putWords seen (start + older count) more → l ≡ putWords seen start (placed id (idsOf seen start count))
   more-apart l h p =
       let f : eqb (length more) newest ≡ false = ne-eqb (length more) newest (λ z. h (sym length-more ∙ z)) in

@@ -92,9 +92,6 @@ module _ (P : ℕ → Type 0) where
 
 -- ---- No ids
 
-pub removed-none : (j : ℕ) → removed j [] ≡ []
-removed-none j = rw (found-member-in j [] tt) refl
-
 pub none-ordered : Ordered []
 none-ordered = (tt, tt, tt)
 

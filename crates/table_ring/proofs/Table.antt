@@ -80,9 +80,6 @@ module _ {R : Type 0} (f : Form R) (x : Exact f) (m h base : ℕ) where
 
   -- ONE ENTRY MORE
   module _ (ws : List ℕ) (e : R) (head : h + 2 ≤ base) (room : base + m * f .width ≤ length ws) (sound : Sound m h ws) where
-    at : ℕ
-    at = base + nextAt f m h base ws .slot * f .width
-
     put : List ℕ
     put = putWords ws (base + nextAt f m h base ws .slot * f .width) (f .words e)
 

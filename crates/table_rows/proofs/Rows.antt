@@ -7,7 +7,6 @@ use native.Mathlib.Omega.{arith}
 use lib.ListN.{length, take, drop, length-drop, length-append, take-append-drop}
 use lib.Seq.{drop-drop, drop-at, take-at, drop-append-le, length-take-le, drop-append-add}
 use mathlib.Core.Bool.{Bool, true, false}
-use Rattle.table_shift.specs.Shift.{insertedWords, closed}
 use Rattle.table_rows.specs.Rows.{rows, pick, keep, flat, kept}
 
 -- k rows of n: the words of the others
@@ -118,52 +117,6 @@ module _ {R : Type 0} (S : ℕ) (read : List ℕ → R) where
   pub rows-more : (ws : List ℕ) (i : ℕ) → rows S read ws (i + 1) ≡ rows S read ws i ++ (read (drop (i * S) ws) ∷ [])
   rows-more ws i = rows-add i 1 ws
 
-  module _ (alone : (l m : List ℕ) → S ≤ length l → read (l ++ m) ≡ read l) where
-    -- a row inserted at place p
-    pub rows-inserted : (ws v : List ℕ) (n p : ℕ) → length v ≡ S → p ≤ n → (n + 1) * S ≤ length ws
-        → rows S read (insertedWords ws (p * S) (n * S) v) (n + 1) ≡ take p (rows S read ws n) ++ (read v ∷ drop p (rows S read ws n))
-    unfolding insertedWords
-    rows-inserted ws v n p lv h room =
-        let q = part p n S h in
-        let q1 : n * S + S ≡ (n + 1) * S = omega (arith, add-mul n 1 S) in
-        let front : List ℕ = take (p * S) ws in
-        let back : List ℕ = take (n * S - p * S) (drop (p * S) ws) in
-        let rest : List ℕ = drop (n * S + length v) ws in
-        let m : n + 1 ≡ p + suc (n - p) = omega arith in
-        let k : n * S - p * S ≡ (n - p) * S = omega arith in
-        let lf : length front ≡ p * S = length-take-le (p * S) ws (omega arith) in
-        let ld : length (drop (p * S) ws) ≡ length ws - p * S = length-drop (p * S) ws in
-        let room' : (n - p) * S ≤ length (drop (p * S) ws) = omega arith in
-        let sk : back ≡ take ((n - p) * S) (drop (p * S) ws) = ap (λ (j : ℕ). take j (drop (p * S) ws)) k in
-        let lb : length back ≡ (n - p) * S = ap length sk ∙ length-take-le ((n - p) * S) (drop (p * S) ws) room' in
-        let d1 : rows S read front p ≡ rows S read ws p = rows-take alone p ws (omega arith) in
-        let d2 : rows S read (back ++ rest) (n - p) ≡ rows S read (drop (p * S) ws) (n - p)
-        = rows-front alone (n - p) back rest (omega arith) ∙ ap (λ (l : List ℕ). rows S read l (n - p)) sk ∙ rows-take alone (n - p) (drop (p * S) ws) room' in
-        ap (rows S read (front ++ (v ++ (back ++ rest)))) m
-        ∙ rows-append alone p (suc (n - p)) front (v ++ (back ++ rest)) lf
-        ∙ ap (λ (l : List R). l ++ rows S read (v ++ (back ++ rest)) (suc (n - p))) (d1 ∙ sym (take-rows ws n p h))
-        ∙ ap (λ (x : R). take p (rows S read ws n) ++ (x ∷ rows S read (drop S (v ++ (back ++ rest))) (n - p))) (alone v (back ++ rest) (omega arith))
-        ∙ ap (λ (l : List ℕ). take p (rows S read ws n) ++ (read v ∷ rows S read l (n - p))) (drop-at v (back ++ rest) S lv)
-        ∙ ap (λ (l : List R). take p (rows S read ws n) ++ (read v ∷ l)) (d2 ∙ sym (drop-rows ws n p h))
-
-    -- the first k rows dropped
-    pub rows-dropped : (ws : List ℕ) (n k : ℕ) → k ≤ n → n * S ≤ length ws → rows S read (closed ws (k * S) (n * S) (k * S)) (n - k) ≡ drop k (rows S read ws n)
-    unfolding closed
-    rows-dropped ws n k h room =
-        let q = part k n S h in
-        let z : k * S - k * S ≡ 0 = omega arith in
-        let m : n * S - k * S ≡ (n - k) * S = omega arith in
-        let ld : length (drop (k * S) ws) ≡ length ws - k * S = length-drop (k * S) ws in
-        let room' : (n - k) * S ≤ length (drop (k * S) ws) = omega arith in
-        let moved : List ℕ = take ((n - k) * S) (drop (k * S) ws) in
-        let rest : List ℕ = drop (n * S - k * S) ws in
-        let lm : length moved ≡ (n - k) * S = length-take-le ((n - k) * S) (drop (k * S) ws) room' in
-        ap (λ (j : ℕ). rows S read (take j ws ++ (take (n * S - k * S) (drop (k * S) ws) ++ rest)) (n - k)) z
-        ∙ ap (λ (j : ℕ). rows S read (take j (drop (k * S) ws) ++ rest) (n - k)) m
-        ∙ rows-front alone (n - k) moved rest (omega arith)
-        ∙ rows-take alone (n - k) (drop (k * S) ws) room'
-        ∙ sym (drop-rows ws n k h)
-
 -- kept rows move down in place: what the table holds at row i, k of them kept
 module _ {R : Type 0} (S : ℕ) (read : List ℕ → R) (words : R → List ℕ) (q : R → Bool)
     (len : (r : R) → length (words r) ≡ S) (back : (r : R) (m : List ℕ) → read (words r ++ m) ≡ r) where
@@ -192,9 +145,6 @@ module _ {R : Type 0} (S : ℕ) (read : List ℕ → R) (words : R → List ℕ)
       go false h = omega arith
 
   module _ (ws : List ℕ) where
-    count : ℕ → ℕ
-    count i = length (keep q (rows S read ws i))
-
     pub kept-first : kept S read words q ws 0 ≡ ws
     unfolding kept
     kept-first = ap (λ (k : ℕ). drop k ws) (zero-mul S)

@@ -1,6 +1,5 @@
 -- One word of one row written, and the length of a table whose rows were kept, over any width S.
-use mathlib.Core.Path.{_≡_, refl, sym, ap, _∙_}
-use mathlib.Core.Bool.{Bool, true, false, cond}
+use mathlib.Core.Path.{_≡_, sym, ap, _∙_}
 use mathlib.Core.List.{List, _∷_, _++_}
 use Prim.Native.Nat.{ℕ, _+_, _*_, _≤_, _<_}
 use native.Mathlib.Nat.{add-mul, mul-le-mul-right}
@@ -31,8 +30,3 @@ module _ {R : Type 0} (S : ℕ) (read : List ℕ → R) (alone : (l m : List ℕ
       let k : S ≤ length (drop (p * S) ws) = rw length-drop (omega (arith, q, add-mul p 1 S)) in
       ap (λ (x : List ℕ). rows S read x n) (set-part ws S (p * S) j v h)
       ∙ rows-put S read alone ws (set (take S (drop (p * S) ws)) j v) n p (length-set (take S (drop (p * S) ws)) j v ∙ length-take-le S (drop (p * S) ws) k) l room
-
--- so does a write that is made only where a test holds
-pub chosen-length : (b : Bool) (x y : List ℕ) → (b ≡ true → length x ≡ length y) → length (cond b x y) ≡ length y
-chosen-length true x y h = h refl
-chosen-length false x y h = refl

@@ -64,19 +64,6 @@ up-join l a k z by h q room =
     ∙ ap (λ (x : List ℕ). take (a + by) l ++ x) (sym (append-assoc (take (k - a) (drop a l)) (take (z - k) (drop k l)) (drop (z + by) l)))
     ∙ ap (λ (x : List ℕ). take (a + by) l ++ (x ++ drop (z + by) l)) (sym (part-add l a k z h q))
 
--- what lies before a move stays
-pub opened-before : (l : List ℕ) (a z by : ℕ) → a + by ≤ length l → take a (opened l a z by) ≡ take a l
-unfolding opened
-opened-before l a z by h =
-    let t = length-take-le (a + by) l h in
-    take-append-le a (take (a + by) l) (take (z - a) (drop a l) ++ drop (z + by) l) (omega arith) ∙ take-take a (a + by) l (omega arith)
-
--- one block more is moved up
-pub up-part : (l : List ℕ) (k m z by : ℕ) → k + m ≤ z → z + by ≤ length l
-    → length (opened l (k + m) z by) ≡ length l
-    → putWords (opened l (k + m) z by) (k + by) (take m (drop k (opened l (k + m) z by))) ≡ opened l k z by
-up-part l k m z by h room long = up-block (opened l (k + m) z by) k m by (omega arith) ∙ up-join l k (k + m) z by (omega arith) h room
-
 -- a move up in the part from a on
 pub up-tail : (l ys : List ℕ) (a z by : ℕ) → a ≤ z → z + by ≤ length l → ys ≡ opened (take (length l - a) (drop a l)) 0 (z - a) by
     → take a l ++ (ys ++ drop (length l - a) (drop a l)) ≡ opened l a z by

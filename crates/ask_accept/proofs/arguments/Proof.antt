@@ -20,22 +20,56 @@ shared-slice-read-if3 : tie.Need-shared-slice-read-if3
 shared-slice-read-if3 c = search needs
 
 returns-3 : tie.Need-returns-3
-returns-3 c = let a = c .before .before .before .before .before .before .before .args in no-class (a .setup .now) (a .from) (a .kind) (a .class) (a .scope) (a .wire) (a .at) (c .before .before .before .before .if1 .left) (c .if3 .taken)
+returns-3 c =
+    let at-if1 = c .before .before .before .before in
+    let start = at-if1 .before .before .before in
+    let a = start .args in no-class (a .setup .now) (a .from) (a .kind) (a .class) (a .scope) (a .wire) (a .at) (at-if1 .if1 .left) (c .if3 .taken)
 
 scope-exists-requires : tie.Need-scope-exists-requires
 scope-exists-requires c κs = search needs
 
 returns-4 : tie.Need-returns-4
-returns-4 c = let a = c .before .before .before .before .before .before .before .before .before .args in no-scope (a .setup .now) (a .from) (a .kind) (a .class) (a .scope) (a .wire) (a .at) (c .before .before .before .before .before .before .if1 .left) (is-no _ _ (c .before .scope-exists .ensures) (c .if4 .taken))
+returns-4 c =
+    let at-scope-exists = c .before in
+    let at-if1 = at-scope-exists .before .before .before .before .before in
+    let start = at-if1 .before .before .before in
+    let a = start .args in no-scope (a .setup .now) (a .from) (a .kind) (a .class) (a .scope) (a .wire) (a .at) (at-if1 .if1 .left)
+    (is-no _ _ (at-scope-exists .scope-exists .ensures) (c .if4 .taken))
 
 returns-5 : tie.Need-returns-5
-returns-5 c = let a = c .before .before .before .before .before .before .before .before .before .before .args in too-long (a .setup .now) (a .from) (a .kind) (a .class) (a .scope) (a .wire) (a .at) (c .before .before .before .before .before .before .before .if1 .left) (c .before .before .before .before .before .if2 .left) (c .before .before .before .if3 .left) (is-yes _ _ (c .before .before .scope-exists .ensures) (c .before .if4 .left)) (c .if5 .taken)
+returns-5 c =
+    let at-if4 = c .before in
+    let at-scope-exists = at-if4 .before in
+    let at-if3 = at-scope-exists .before in
+    let at-if2 = at-if3 .before .before in
+    let at-if1 = at-if2 .before .before in
+    let start = at-if1 .before .before .before in
+    let a = start .args in too-long (a .setup .now) (a .from) (a .kind) (a .class) (a .scope) (a .wire) (a .at) (at-if1 .if1 .left) (at-if2 .if2 .left)
+    (at-if3 .if3 .left) (is-yes _ _ (at-scope-exists .scope-exists .ensures) (at-if4 .if4 .left)) (c .if5 .taken)
 
 returns-6 : tie.Need-returns-6
-returns-6 c = let a = c .before .before .before .before .before .before .before .before .before .before .before .args in too-late (a .setup .now) (a .from) (a .kind) (a .class) (a .scope) (a .wire) (a .at) (c .before .before .before .before .before .before .before .before .if1 .left) (c .before .before .before .before .before .before .if2 .left) (c .before .before .before .before .if3 .left) (is-yes _ _ (c .before .before .before .scope-exists .ensures) (c .before .before .if4 .left)) (c .before .if5 .left) (c .if6 .taken)
+returns-6 c =
+    let at-if5 = c .before in
+    let at-if4 = at-if5 .before in
+    let at-scope-exists = at-if4 .before in
+    let at-if3 = at-scope-exists .before in
+    let at-if2 = at-if3 .before .before in
+    let at-if1 = at-if2 .before .before in
+    let start = at-if1 .before .before .before in
+    let a = start .args in too-late (a .setup .now) (a .from) (a .kind) (a .class) (a .scope) (a .wire) (a .at) (at-if1 .if1 .left) (at-if2 .if2 .left)
+    (at-if3 .if3 .left) (is-yes _ _ (at-scope-exists .scope-exists .ensures) (at-if4 .if4 .left)) (at-if5 .if5 .left) (c .if6 .taken)
 
 returns-7 : tie.Need-returns-7
-returns-7 c = let a = c .before .before .before .before .before .before .before .before .before .before .before .args in all-near (a .setup .now) (a .from) (a .kind) (a .class) (a .scope) (a .wire) (a .at) (c .before .before .before .before .before .before .before .before .if1 .left) (c .before .before .before .before .before .before .if2 .left) (c .before .before .before .before .if3 .left) (is-yes _ _ (c .before .before .before .scope-exists .ensures) (c .before .before .if4 .left)) (c .before .if5 .left) (c .if6 .left)
+returns-7 c =
+    let at-if5 = c .before in
+    let at-if4 = at-if5 .before in
+    let at-scope-exists = at-if4 .before in
+    let at-if3 = at-scope-exists .before in
+    let at-if2 = at-if3 .before .before in
+    let at-if1 = at-if2 .before .before in
+    let start = at-if1 .before .before .before in
+    let a = start .args in all-near (a .setup .now) (a .from) (a .kind) (a .class) (a .scope) (a .wire) (a .at) (at-if1 .if1 .left) (at-if2 .if2 .left)
+    (at-if3 .if3 .left) (is-yes _ _ (at-scope-exists .scope-exists .ensures) (at-if4 .if4 .left)) (at-if5 .if5 .left) (c .if6 .left)
 
 pub arguments-spec : {M : Type 1} → statement M
 arguments-spec =

@@ -30,63 +30,289 @@ tills-held-requires c κs = (is-yes _ _ (c .before .before .before .before .befo
 
 returns-4 : tie.Need-returns-4
 unfolding acceptLent
-returns-4 c = on _ _ _ (is-yes _ _ (c .before .before .before .before .before .before .before .setup-held .ensures) (c .before .before .before .before .before .before .if1 .left)) (on _ _ _ (is-yes _ _ (c .before .before .before .before .before .net-held .ensures) (c .before .before .before .before .if2 .left)) (on _ _ _ (is-yes _ _ (c .before .before .before .names-held .ensures) (c .before .before .if3 .left)) (off _ _ (is-no _ _ (c .before .tills-held .ensures) (c .if4 .taken)))))
+returns-4 c =
+    let at-tills-held = c .before in
+    let at-if3 = at-tills-held .before in
+    let at-names-held = at-if3 .before in
+    let at-if2 = at-names-held .before in
+    let at-net-held = at-if2 .before in
+    let at-if1 = at-net-held .before in
+    let at-setup-held = at-if1 .before in
+    on _ _ _ (is-yes _ _ (at-setup-held .setup-held .ensures) (at-if1 .if1 .left))
+    (on _ _ _ (is-yes _ _ (at-net-held .net-held .ensures) (at-if2 .if2 .left))
+    (on _ _ _ (is-yes _ _ (at-names-held .names-held .ensures) (at-if3 .if3 .left)) (off _ _ (is-no _ _ (at-tills-held .tills-held .ensures) (c .if4 .taken)))))
 
 words-held-requires : tie.Need-words-held-requires
 words-held-requires c κs = search needs
 
 returns-5 : tie.Need-returns-5
 unfolding acceptLent
-returns-5 c = on _ _ _ (is-yes _ _ (c .before .before .before .before .before .before .before .before .before .setup-held .ensures) (c .before .before .before .before .before .before .before .before .if1 .left)) (on _ _ _ (is-yes _ _ (c .before .before .before .before .before .before .before .net-held .ensures) (c .before .before .before .before .before .before .if2 .left)) (on _ _ _ (is-yes _ _ (c .before .before .before .before .before .names-held .ensures) (c .before .before .before .before .if3 .left)) (on _ _ _ (is-yes _ _ (c .before .before .before .tills-held .ensures) (c .before .before .if4 .left)) (off _ _ (is-no _ _ (c .before .words-held .ensures) (c .if5 .taken))))))
+returns-5 c =
+    let at-words-held = c .before in
+    let at-if4 = at-words-held .before in
+    let at-tills-held = at-if4 .before in
+    let at-if3 = at-tills-held .before in
+    let at-names-held = at-if3 .before in
+    let at-if2 = at-names-held .before in
+    let at-net-held = at-if2 .before in
+    let at-if1 = at-net-held .before in
+    let at-setup-held = at-if1 .before in
+    on _ _ _ (is-yes _ _ (at-setup-held .setup-held .ensures) (at-if1 .if1 .left))
+    (on _ _ _ (is-yes _ _ (at-net-held .net-held .ensures) (at-if2 .if2 .left))
+    (on _ _ _ (is-yes _ _ (at-names-held .names-held .ensures) (at-if3 .if3 .left))
+    (on _ _ _ (is-yes _ _ (at-tills-held .tills-held .ensures) (at-if4 .if4 .left))
+    (off _ _ (is-no _ _ (at-words-held .words-held .ensures) (c .if5 .taken))))))
 
 keys-held-requires : tie.Need-keys-held-requires
-keys-held-requires c κs = (is-yes _ _ (c .before .before .before .before .before .before .before .before .before .setup-held .ensures) (c .before .before .before .before .before .before .before .before .if1 .left))
+keys-held-requires c κs =
+    let at-if1 = c .before .before .before .before .before .before .before .before in
+    let at-setup-held = at-if1 .before in
+    (is-yes _ _ (at-setup-held .setup-held .ensures) (at-if1 .if1 .left))
 
 returns-6 : tie.Need-returns-6
 unfolding acceptLent
-returns-6 c = on _ _ _ (is-yes _ _ (c .before .before .before .before .before .before .before .before .before .before .before .setup-held .ensures) (c .before .before .before .before .before .before .before .before .before .before .if1 .left)) (on _ _ _ (is-yes _ _ (c .before .before .before .before .before .before .before .before .before .net-held .ensures) (c .before .before .before .before .before .before .before .before .if2 .left)) (on _ _ _ (is-yes _ _ (c .before .before .before .before .before .before .before .names-held .ensures) (c .before .before .before .before .before .before .if3 .left)) (on _ _ _ (is-yes _ _ (c .before .before .before .before .before .tills-held .ensures) (c .before .before .before .before .if4 .left)) (on _ _ _ (is-yes _ _ (c .before .before .before .words-held .ensures) (c .before .before .if5 .left)) (off _ _ (is-no _ _ (c .before .keys-held .ensures) (c .if6 .taken)))))))
+returns-6 c =
+    let at-keys-held = c .before in
+    let at-if5 = at-keys-held .before in
+    let at-words-held = at-if5 .before in
+    let at-if4 = at-words-held .before in
+    let at-tills-held = at-if4 .before in
+    let at-if3 = at-tills-held .before in
+    let at-names-held = at-if3 .before in
+    let at-if2 = at-names-held .before in
+    let at-net-held = at-if2 .before in
+    let at-if1 = at-net-held .before in
+    let at-setup-held = at-if1 .before in
+    on _ _ _ (is-yes _ _ (at-setup-held .setup-held .ensures) (at-if1 .if1 .left))
+    (on _ _ _ (is-yes _ _ (at-net-held .net-held .ensures) (at-if2 .if2 .left))
+    (on _ _ _ (is-yes _ _ (at-names-held .names-held .ensures) (at-if3 .if3 .left))
+    (on _ _ _ (is-yes _ _ (at-tills-held .tills-held .ensures) (at-if4 .if4 .left))
+    (on _ _ _ (is-yes _ _ (at-words-held .words-held .ensures) (at-if5 .if5 .left)) (off _ _ (is-no _ _ (at-keys-held .keys-held .ensures) (c .if6 .taken)))))))
 
 prices-held-requires : tie.Need-prices-held-requires
-prices-held-requires c κs = (is-yes _ _ (c .before .before .before .before .before .before .before .before .before .before .before .setup-held .ensures) (c .before .before .before .before .before .before .before .before .before .before .if1 .left))
+prices-held-requires c κs =
+    let at-if1 = c .before .before .before .before .before .before .before .before .before .before in
+    let at-setup-held = at-if1 .before in
+    (is-yes _ _ (at-setup-held .setup-held .ensures) (at-if1 .if1 .left))
 
 returns-7 : tie.Need-returns-7
 unfolding acceptLent
-returns-7 c = on _ _ _ (is-yes _ _ (c .before .before .before .before .before .before .before .before .before .before .before .before .before .setup-held .ensures) (c .before .before .before .before .before .before .before .before .before .before .before .before .if1 .left)) (on _ _ _ (is-yes _ _ (c .before .before .before .before .before .before .before .before .before .before .before .net-held .ensures) (c .before .before .before .before .before .before .before .before .before .before .if2 .left)) (on _ _ _ (is-yes _ _ (c .before .before .before .before .before .before .before .before .before .names-held .ensures) (c .before .before .before .before .before .before .before .before .if3 .left)) (on _ _ _ (is-yes _ _ (c .before .before .before .before .before .before .before .tills-held .ensures) (c .before .before .before .before .before .before .if4 .left)) (on _ _ _ (is-yes _ _ (c .before .before .before .before .before .words-held .ensures) (c .before .before .before .before .if5 .left)) (on _ _ _ (is-yes _ _ (c .before .before .before .keys-held .ensures) (c .before .before .if6 .left)) (off _ _ (is-no _ _ (c .before .prices-held .ensures) (c .if7 .taken))))))))
+returns-7 c =
+    let at-prices-held = c .before in
+    let at-if6 = at-prices-held .before in
+    let at-keys-held = at-if6 .before in
+    let at-if5 = at-keys-held .before in
+    let at-words-held = at-if5 .before in
+    let at-if4 = at-words-held .before in
+    let at-tills-held = at-if4 .before in
+    let at-if3 = at-tills-held .before in
+    let at-names-held = at-if3 .before in
+    let at-if2 = at-names-held .before in
+    let at-net-held = at-if2 .before in
+    let at-if1 = at-net-held .before in
+    let at-setup-held = at-if1 .before in
+    on _ _ _ (is-yes _ _ (at-setup-held .setup-held .ensures) (at-if1 .if1 .left))
+    (on _ _ _ (is-yes _ _ (at-net-held .net-held .ensures) (at-if2 .if2 .left))
+    (on _ _ _ (is-yes _ _ (at-names-held .names-held .ensures) (at-if3 .if3 .left))
+    (on _ _ _ (is-yes _ _ (at-tills-held .tills-held .ensures) (at-if4 .if4 .left))
+    (on _ _ _ (is-yes _ _ (at-words-held .words-held .ensures) (at-if5 .if5 .left))
+    (on _ _ _ (is-yes _ _ (at-keys-held .keys-held .ensures) (at-if6 .if6 .left))
+    (off _ _ (is-no _ _ (at-prices-held .prices-held .ensures) (c .if7 .taken))))))))
 
 seen-held-requires : tie.Need-seen-held-requires
-seen-held-requires c κs = (is-yes _ _ (c .before .before .before .before .before .before .before .before .before .before .before .before .before .setup-held .ensures) (c .before .before .before .before .before .before .before .before .before .before .before .before .if1 .left))
+seen-held-requires c κs =
+    let at-if1 = c .before .before .before .before .before .before .before .before .before .before .before .before in
+    let at-setup-held = at-if1 .before in
+    (is-yes _ _ (at-setup-held .setup-held .ensures) (at-if1 .if1 .left))
 
 returns-8 : tie.Need-returns-8
 unfolding acceptLent
-returns-8 c = on _ _ _ (is-yes _ _ (c .before .before .before .before .before .before .before .before .before .before .before .before .before .before .before .setup-held .ensures) (c .before .before .before .before .before .before .before .before .before .before .before .before .before .before .if1 .left)) (on _ _ _ (is-yes _ _ (c .before .before .before .before .before .before .before .before .before .before .before .before .before .net-held .ensures) (c .before .before .before .before .before .before .before .before .before .before .before .before .if2 .left)) (on _ _ _ (is-yes _ _ (c .before .before .before .before .before .before .before .before .before .before .before .names-held .ensures) (c .before .before .before .before .before .before .before .before .before .before .if3 .left)) (on _ _ _ (is-yes _ _ (c .before .before .before .before .before .before .before .before .before .tills-held .ensures) (c .before .before .before .before .before .before .before .before .if4 .left)) (on _ _ _ (is-yes _ _ (c .before .before .before .before .before .before .before .words-held .ensures) (c .before .before .before .before .before .before .if5 .left)) (on _ _ _ (is-yes _ _ (c .before .before .before .before .before .keys-held .ensures) (c .before .before .before .before .if6 .left)) (on _ _ _ (is-yes _ _ (c .before .before .before .prices-held .ensures) (c .before .before .if7 .left)) (off _ _ (is-no _ _ (c .before .seen-held .ensures) (c .if8 .taken)))))))))
+returns-8 c =
+    let at-seen-held = c .before in
+    let at-if7 = at-seen-held .before in
+    let at-prices-held = at-if7 .before in
+    let at-if6 = at-prices-held .before in
+    let at-keys-held = at-if6 .before in
+    let at-if5 = at-keys-held .before in
+    let at-words-held = at-if5 .before in
+    let at-if4 = at-words-held .before in
+    let at-tills-held = at-if4 .before in
+    let at-if3 = at-tills-held .before in
+    let at-names-held = at-if3 .before in
+    let at-if2 = at-names-held .before in
+    let at-net-held = at-if2 .before in
+    let at-if1 = at-net-held .before in
+    let at-setup-held = at-if1 .before in
+    on _ _ _ (is-yes _ _ (at-setup-held .setup-held .ensures) (at-if1 .if1 .left))
+    (on _ _ _ (is-yes _ _ (at-net-held .net-held .ensures) (at-if2 .if2 .left))
+    (on _ _ _ (is-yes _ _ (at-names-held .names-held .ensures) (at-if3 .if3 .left))
+    (on _ _ _ (is-yes _ _ (at-tills-held .tills-held .ensures) (at-if4 .if4 .left))
+    (on _ _ _ (is-yes _ _ (at-words-held .words-held .ensures) (at-if5 .if5 .left))
+    (on _ _ _ (is-yes _ _ (at-keys-held .keys-held .ensures) (at-if6 .if6 .left))
+    (on _ _ _ (is-yes _ _ (at-prices-held .prices-held .ensures) (at-if7 .if7 .left))
+    (off _ _ (is-no _ _ (at-seen-held .seen-held .ensures) (c .if8 .taken)))))))))
 
 waiting-held-requires : tie.Need-waiting-held-requires
-waiting-held-requires c κs = ((is-yes _ _ (c .before .before .before .before .before .before .before .before .before .before .before .before .before .before .before .setup-held .ensures) (c .before .before .before .before .before .before .before .before .before .before .before .before .before .before .if1 .left)), (is-yes _ _ (c .before .before .before .before .before .before .before .before .before .before .before .before .before .net-held .ensures) (c .before .before .before .before .before .before .before .before .before .before .before .before .if2 .left)))
+waiting-held-requires c κs =
+    let at-if2 = c .before .before .before .before .before .before .before .before .before .before .before .before in
+    let at-net-held = at-if2 .before in
+    let at-if1 = at-net-held .before in
+    let at-setup-held = at-if1 .before in
+    ((is-yes _ _ (at-setup-held .setup-held .ensures) (at-if1 .if1 .left)), (is-yes _ _ (at-net-held .net-held .ensures) (at-if2 .if2 .left)))
 
 returns-9 : tie.Need-returns-9
 unfolding acceptLent
-returns-9 c = on _ _ _ (is-yes _ _ (c .before .before .before .before .before .before .before .before .before .before .before .before .before .before .before .before .before .setup-held .ensures) (c .before .before .before .before .before .before .before .before .before .before .before .before .before .before .before .before .if1 .left)) (on _ _ _ (is-yes _ _ (c .before .before .before .before .before .before .before .before .before .before .before .before .before .before .before .net-held .ensures) (c .before .before .before .before .before .before .before .before .before .before .before .before .before .before .if2 .left)) (on _ _ _ (is-yes _ _ (c .before .before .before .before .before .before .before .before .before .before .before .before .before .names-held .ensures) (c .before .before .before .before .before .before .before .before .before .before .before .before .if3 .left)) (on _ _ _ (is-yes _ _ (c .before .before .before .before .before .before .before .before .before .before .before .tills-held .ensures) (c .before .before .before .before .before .before .before .before .before .before .if4 .left)) (on _ _ _ (is-yes _ _ (c .before .before .before .before .before .before .before .before .before .words-held .ensures) (c .before .before .before .before .before .before .before .before .if5 .left)) (on _ _ _ (is-yes _ _ (c .before .before .before .before .before .before .before .keys-held .ensures) (c .before .before .before .before .before .before .if6 .left)) (on _ _ _ (is-yes _ _ (c .before .before .before .before .before .prices-held .ensures) (c .before .before .before .before .if7 .left)) (on _ _ _ (is-yes _ _ (c .before .before .before .seen-held .ensures) (c .before .before .if8 .left)) (off _ _ (is-no _ _ (c .before .waiting-held .ensures) (c .if9 .taken))))))))))
+returns-9 c =
+    let at-waiting-held = c .before in
+    let at-if8 = at-waiting-held .before in
+    let at-seen-held = at-if8 .before in
+    let at-if7 = at-seen-held .before in
+    let at-prices-held = at-if7 .before in
+    let at-if6 = at-prices-held .before in
+    let at-keys-held = at-if6 .before in
+    let at-if5 = at-keys-held .before in
+    let at-words-held = at-if5 .before in
+    let at-if4 = at-words-held .before in
+    let at-tills-held = at-if4 .before in
+    let at-if3 = at-tills-held .before in
+    let at-names-held = at-if3 .before in
+    let at-if2 = at-names-held .before in
+    let at-net-held = at-if2 .before in
+    let at-if1 = at-net-held .before in
+    let at-setup-held = at-if1 .before in
+    on _ _ _ (is-yes _ _ (at-setup-held .setup-held .ensures) (at-if1 .if1 .left))
+    (on _ _ _ (is-yes _ _ (at-net-held .net-held .ensures) (at-if2 .if2 .left))
+    (on _ _ _ (is-yes _ _ (at-names-held .names-held .ensures) (at-if3 .if3 .left))
+    (on _ _ _ (is-yes _ _ (at-tills-held .tills-held .ensures) (at-if4 .if4 .left))
+    (on _ _ _ (is-yes _ _ (at-words-held .words-held .ensures) (at-if5 .if5 .left))
+    (on _ _ _ (is-yes _ _ (at-keys-held .keys-held .ensures) (at-if6 .if6 .left))
+    (on _ _ _ (is-yes _ _ (at-prices-held .prices-held .ensures) (at-if7 .if7 .left))
+    (on _ _ _ (is-yes _ _ (at-seen-held .seen-held .ensures) (at-if8 .if8 .left))
+    (off _ _ (is-no _ _ (at-waiting-held .waiting-held .ensures) (c .if9 .taken))))))))))
 
 rings-held-requires : tie.Need-rings-held-requires
-rings-held-requires c κs = (is-yes _ _ (c .before .before .before .before .before .before .before .before .before .before .before .before .before .before .before .before .before .setup-held .ensures) (c .before .before .before .before .before .before .before .before .before .before .before .before .before .before .before .before .if1 .left))
+rings-held-requires c κs =
+    let at-if1 = c .before .before .before .before .before .before .before .before .before .before .before .before .before .before .before .before in
+    let at-setup-held = at-if1 .before in
+    (is-yes _ _ (at-setup-held .setup-held .ensures) (at-if1 .if1 .left))
 
 returns-10 : tie.Need-returns-10
 unfolding acceptLent
-returns-10 c = on _ _ _ (is-yes _ _ (c .before .before .before .before .before .before .before .before .before .before .before .before .before .before .before .before .before .before .before .setup-held .ensures) (c .before .before .before .before .before .before .before .before .before .before .before .before .before .before .before .before .before .before .if1 .left)) (on _ _ _ (is-yes _ _ (c .before .before .before .before .before .before .before .before .before .before .before .before .before .before .before .before .before .net-held .ensures) (c .before .before .before .before .before .before .before .before .before .before .before .before .before .before .before .before .if2 .left)) (on _ _ _ (is-yes _ _ (c .before .before .before .before .before .before .before .before .before .before .before .before .before .before .before .names-held .ensures) (c .before .before .before .before .before .before .before .before .before .before .before .before .before .before .if3 .left)) (on _ _ _ (is-yes _ _ (c .before .before .before .before .before .before .before .before .before .before .before .before .before .tills-held .ensures) (c .before .before .before .before .before .before .before .before .before .before .before .before .if4 .left)) (on _ _ _ (is-yes _ _ (c .before .before .before .before .before .before .before .before .before .before .before .words-held .ensures) (c .before .before .before .before .before .before .before .before .before .before .if5 .left)) (on _ _ _ (is-yes _ _ (c .before .before .before .before .before .before .before .before .before .keys-held .ensures) (c .before .before .before .before .before .before .before .before .if6 .left)) (on _ _ _ (is-yes _ _ (c .before .before .before .before .before .before .before .prices-held .ensures) (c .before .before .before .before .before .before .if7 .left)) (on _ _ _ (is-yes _ _ (c .before .before .before .before .before .seen-held .ensures) (c .before .before .before .before .if8 .left)) (on _ _ _ (is-yes _ _ (c .before .before .before .waiting-held .ensures) (c .before .before .if9 .left)) (off _ _ (is-no _ _ (c .before .rings-held .ensures) (c .if10 .taken)))))))))))
+returns-10 c =
+    let at-rings-held = c .before in
+    let at-if9 = at-rings-held .before in
+    let at-waiting-held = at-if9 .before in
+    let at-if8 = at-waiting-held .before in
+    let at-seen-held = at-if8 .before in
+    let at-if7 = at-seen-held .before in
+    let at-prices-held = at-if7 .before in
+    let at-if6 = at-prices-held .before in
+    let at-keys-held = at-if6 .before in
+    let at-if5 = at-keys-held .before in
+    let at-words-held = at-if5 .before in
+    let at-if4 = at-words-held .before in
+    let at-tills-held = at-if4 .before in
+    let at-if3 = at-tills-held .before in
+    let at-names-held = at-if3 .before in
+    let at-if2 = at-names-held .before in
+    let at-net-held = at-if2 .before in
+    let at-if1 = at-net-held .before in
+    let at-setup-held = at-if1 .before in
+    on _ _ _ (is-yes _ _ (at-setup-held .setup-held .ensures) (at-if1 .if1 .left))
+    (on _ _ _ (is-yes _ _ (at-net-held .net-held .ensures) (at-if2 .if2 .left))
+    (on _ _ _ (is-yes _ _ (at-names-held .names-held .ensures) (at-if3 .if3 .left))
+    (on _ _ _ (is-yes _ _ (at-tills-held .tills-held .ensures) (at-if4 .if4 .left))
+    (on _ _ _ (is-yes _ _ (at-words-held .words-held .ensures) (at-if5 .if5 .left))
+    (on _ _ _ (is-yes _ _ (at-keys-held .keys-held .ensures) (at-if6 .if6 .left))
+    (on _ _ _ (is-yes _ _ (at-prices-held .prices-held .ensures) (at-if7 .if7 .left))
+    (on _ _ _ (is-yes _ _ (at-seen-held .seen-held .ensures) (at-if8 .if8 .left))
+    (on _ _ _ (is-yes _ _ (at-waiting-held .waiting-held .ensures) (at-if9 .if9 .left))
+    (off _ _ (is-no _ _ (at-rings-held .rings-held .ensures) (c .if10 .taken)))))))))))
 
 rules-held-requires : tie.Need-rules-held-requires
 rules-held-requires c κs = search needs
 
 returns-11 : tie.Need-returns-11
 unfolding acceptLent
-returns-11 c = on _ _ _ (is-yes _ _ (c .before .before .before .before .before .before .before .before .before .before .before .before .before .before .before .before .before .before .before .before .before .setup-held .ensures) (c .before .before .before .before .before .before .before .before .before .before .before .before .before .before .before .before .before .before .before .before .if1 .left)) (on _ _ _ (is-yes _ _ (c .before .before .before .before .before .before .before .before .before .before .before .before .before .before .before .before .before .before .before .net-held .ensures) (c .before .before .before .before .before .before .before .before .before .before .before .before .before .before .before .before .before .before .if2 .left)) (on _ _ _ (is-yes _ _ (c .before .before .before .before .before .before .before .before .before .before .before .before .before .before .before .before .before .names-held .ensures) (c .before .before .before .before .before .before .before .before .before .before .before .before .before .before .before .before .if3 .left)) (on _ _ _ (is-yes _ _ (c .before .before .before .before .before .before .before .before .before .before .before .before .before .before .before .tills-held .ensures) (c .before .before .before .before .before .before .before .before .before .before .before .before .before .before .if4 .left)) (on _ _ _ (is-yes _ _ (c .before .before .before .before .before .before .before .before .before .before .before .before .before .words-held .ensures) (c .before .before .before .before .before .before .before .before .before .before .before .before .if5 .left)) (on _ _ _ (is-yes _ _ (c .before .before .before .before .before .before .before .before .before .before .before .keys-held .ensures) (c .before .before .before .before .before .before .before .before .before .before .if6 .left)) (on _ _ _ (is-yes _ _ (c .before .before .before .before .before .before .before .before .before .prices-held .ensures) (c .before .before .before .before .before .before .before .before .if7 .left)) (on _ _ _ (is-yes _ _ (c .before .before .before .before .before .before .before .seen-held .ensures) (c .before .before .before .before .before .before .if8 .left)) (on _ _ _ (is-yes _ _ (c .before .before .before .before .before .waiting-held .ensures) (c .before .before .before .before .if9 .left)) (on _ _ _ (is-yes _ _ (c .before .before .before .rings-held .ensures) (c .before .before .if10 .left)) (off _ _ (is-no _ _ (c .before .rules-held .ensures) (c .if11 .taken))))))))))))
+returns-11 c =
+    let at-rules-held = c .before in
+    let at-if10 = at-rules-held .before in
+    let at-rings-held = at-if10 .before in
+    let at-if9 = at-rings-held .before in
+    let at-waiting-held = at-if9 .before in
+    let at-if8 = at-waiting-held .before in
+    let at-seen-held = at-if8 .before in
+    let at-if7 = at-seen-held .before in
+    let at-prices-held = at-if7 .before in
+    let at-if6 = at-prices-held .before in
+    let at-keys-held = at-if6 .before in
+    let at-if5 = at-keys-held .before in
+    let at-words-held = at-if5 .before in
+    let at-if4 = at-words-held .before in
+    let at-tills-held = at-if4 .before in
+    let at-if3 = at-tills-held .before in
+    let at-names-held = at-if3 .before in
+    let at-if2 = at-names-held .before in
+    let at-net-held = at-if2 .before in
+    let at-if1 = at-net-held .before in
+    let at-setup-held = at-if1 .before in
+    on _ _ _ (is-yes _ _ (at-setup-held .setup-held .ensures) (at-if1 .if1 .left))
+    (on _ _ _ (is-yes _ _ (at-net-held .net-held .ensures) (at-if2 .if2 .left))
+    (on _ _ _ (is-yes _ _ (at-names-held .names-held .ensures) (at-if3 .if3 .left))
+    (on _ _ _ (is-yes _ _ (at-tills-held .tills-held .ensures) (at-if4 .if4 .left))
+    (on _ _ _ (is-yes _ _ (at-words-held .words-held .ensures) (at-if5 .if5 .left))
+    (on _ _ _ (is-yes _ _ (at-keys-held .keys-held .ensures) (at-if6 .if6 .left))
+    (on _ _ _ (is-yes _ _ (at-prices-held .prices-held .ensures) (at-if7 .if7 .left))
+    (on _ _ _ (is-yes _ _ (at-seen-held .seen-held .ensures) (at-if8 .if8 .left))
+    (on _ _ _ (is-yes _ _ (at-waiting-held .waiting-held .ensures) (at-if9 .if9 .left))
+    (on _ _ _ (is-yes _ _ (at-rings-held .rings-held .ensures) (at-if10 .if10 .left))
+    (off _ _ (is-no _ _ (at-rules-held .rules-held .ensures) (c .if11 .taken))))))))))))
 
 blocks-held-requires : tie.Need-blocks-held-requires
-blocks-held-requires c κs = ((is-yes _ _ (c .before .before .before .before .before .before .before .before .before .before .before .before .before .before .before .before .before .before .before .before .before .setup-held .ensures) (c .before .before .before .before .before .before .before .before .before .before .before .before .before .before .before .before .before .before .before .before .if1 .left)), (is-yes _ _ (c .before .before .before .before .before .before .before .before .before .before .before .before .before .before .before .before .before .before .before .net-held .ensures) (c .before .before .before .before .before .before .before .before .before .before .before .before .before .before .before .before .before .before .if2 .left)))
+blocks-held-requires c κs =
+    let at-if2 = c .before .before .before .before .before .before .before .before .before .before .before .before .before .before .before .before .before
+    .before in
+    let at-net-held = at-if2 .before in
+    let at-if1 = at-net-held .before in
+    let at-setup-held = at-if1 .before in
+    ((is-yes _ _ (at-setup-held .setup-held .ensures) (at-if1 .if1 .left)), (is-yes _ _ (at-net-held .net-held .ensures) (at-if2 .if2 .left)))
 
 returns-12 : tie.Need-returns-12
 unfolding acceptLent
-returns-12 c = on _ _ _ (is-yes _ _ (c .before .before .before .before .before .before .before .before .before .before .before .before .before .before .before .before .before .before .before .before .before .before .setup-held .ensures) (c .before .before .before .before .before .before .before .before .before .before .before .before .before .before .before .before .before .before .before .before .before .if1 .left)) (on _ _ _ (is-yes _ _ (c .before .before .before .before .before .before .before .before .before .before .before .before .before .before .before .before .before .before .before .before .net-held .ensures) (c .before .before .before .before .before .before .before .before .before .before .before .before .before .before .before .before .before .before .before .if2 .left)) (on _ _ _ (is-yes _ _ (c .before .before .before .before .before .before .before .before .before .before .before .before .before .before .before .before .before .before .names-held .ensures) (c .before .before .before .before .before .before .before .before .before .before .before .before .before .before .before .before .before .if3 .left)) (on _ _ _ (is-yes _ _ (c .before .before .before .before .before .before .before .before .before .before .before .before .before .before .before .before .tills-held .ensures) (c .before .before .before .before .before .before .before .before .before .before .before .before .before .before .before .if4 .left)) (on _ _ _ (is-yes _ _ (c .before .before .before .before .before .before .before .before .before .before .before .before .before .before .words-held .ensures) (c .before .before .before .before .before .before .before .before .before .before .before .before .before .if5 .left)) (on _ _ _ (is-yes _ _ (c .before .before .before .before .before .before .before .before .before .before .before .before .keys-held .ensures) (c .before .before .before .before .before .before .before .before .before .before .before .if6 .left)) (on _ _ _ (is-yes _ _ (c .before .before .before .before .before .before .before .before .before .before .prices-held .ensures) (c .before .before .before .before .before .before .before .before .before .if7 .left)) (on _ _ _ (is-yes _ _ (c .before .before .before .before .before .before .before .before .seen-held .ensures) (c .before .before .before .before .before .before .before .if8 .left)) (on _ _ _ (is-yes _ _ (c .before .before .before .before .before .before .waiting-held .ensures) (c .before .before .before .before .before .if9 .left)) (on _ _ _ (is-yes _ _ (c .before .before .before .before .rings-held .ensures) (c .before .before .before .if10 .left)) (on _ _ _ (is-yes _ _ (c .before .before .rules-held .ensures) (c .before .if11 .left)) (last _ _ (c .blocks-held .ensures))))))))))))
+returns-12 c =
+    let at-if11 = c .before in
+    let at-rules-held = at-if11 .before in
+    let at-if10 = at-rules-held .before in
+    let at-rings-held = at-if10 .before in
+    let at-if9 = at-rings-held .before in
+    let at-waiting-held = at-if9 .before in
+    let at-if8 = at-waiting-held .before in
+    let at-seen-held = at-if8 .before in
+    let at-if7 = at-seen-held .before in
+    let at-prices-held = at-if7 .before in
+    let at-if6 = at-prices-held .before in
+    let at-keys-held = at-if6 .before in
+    let at-if5 = at-keys-held .before in
+    let at-words-held = at-if5 .before in
+    let at-if4 = at-words-held .before in
+    let at-tills-held = at-if4 .before in
+    let at-if3 = at-tills-held .before in
+    let at-names-held = at-if3 .before in
+    let at-if2 = at-names-held .before in
+    let at-net-held = at-if2 .before in
+    let at-if1 = at-net-held .before in
+    let at-setup-held = at-if1 .before in
+    on _ _ _ (is-yes _ _ (at-setup-held .setup-held .ensures) (at-if1 .if1 .left))
+    (on _ _ _ (is-yes _ _ (at-net-held .net-held .ensures) (at-if2 .if2 .left))
+    (on _ _ _ (is-yes _ _ (at-names-held .names-held .ensures) (at-if3 .if3 .left))
+    (on _ _ _ (is-yes _ _ (at-tills-held .tills-held .ensures) (at-if4 .if4 .left))
+    (on _ _ _ (is-yes _ _ (at-words-held .words-held .ensures) (at-if5 .if5 .left))
+    (on _ _ _ (is-yes _ _ (at-keys-held .keys-held .ensures) (at-if6 .if6 .left))
+    (on _ _ _ (is-yes _ _ (at-prices-held .prices-held .ensures) (at-if7 .if7 .left))
+    (on _ _ _ (is-yes _ _ (at-seen-held .seen-held .ensures) (at-if8 .if8 .left))
+    (on _ _ _ (is-yes _ _ (at-waiting-held .waiting-held .ensures) (at-if9 .if9 .left))
+    (on _ _ _ (is-yes _ _ (at-rings-held .rings-held .ensures) (at-if10 .if10 .left))
+    (on _ _ _ (is-yes _ _ (at-rules-held .rules-held .ensures) (at-if11 .if11 .left)) (last _ _ (c .blocks-held .ensures))))))))))))
 
 pub lent-spec : {M : Type 1} → statement M
 lent-spec =

@@ -26,7 +26,12 @@ shared-slice-read-result : tie.Need-shared-slice-read-result
 shared-slice-read-result c = search needs
 
 returns-2 : tie.Need-returns-2
-returns-2 c = let a = c .before .before .before .before .before .before .args in asked-of (selectsAt (a .tills .now) (a .m .scope) (a .m .from) (a .to)) (freshAt (a .words .now) (a .m) (a .to)) _ (sym (c .before .before .selects .ensures) ∙ not-false _ (c .before .if1 .left)) refl
+returns-2 c =
+    let at-if1 = c .before in
+    let at-selects = at-if1 .before in
+    let start = at-selects .before .before .before .before in
+    let a = start .args in asked-of (selectsAt (a .tills .now) (a .m .scope) (a .m .from) (a .to)) (freshAt (a .words .now) (a .m) (a .to)) _
+    (sym (at-selects .selects .ensures) ∙ not-false _ (at-if1 .if1 .left)) refl
 
 pub link-fresh-spec : {M : Type 1} → statement M
 link-fresh-spec =

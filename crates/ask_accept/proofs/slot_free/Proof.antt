@@ -29,8 +29,13 @@ shared-slice-read-if2-2 c = search needs
 
 returns-2 : tie.Need-returns-2
 returns-2 c =
-    let t = c .before .before .before .before .before .before .before .before .args in
-    free-slot (selectsAt (t .tills .now) (t .m .scope) (t .m .from) (t .to)) (found (t .m .id) (idsOf (t .seen .now) (idsStart (sizesAt (t .setup .now)) (t .to)) (cell (t .seen .now) (t .to)))) (cell (t .seen .now) (t .to)) (sizesAt (t .setup .now) .seenSlots) (sym (c .before .before .before .before .selects .ensures) ∙ not-false _ (c .before .before .before .if1 .left)) (c .if2 .taken)
+    let at-if1 = c .before .before .before in
+    let at-selects = at-if1 .before in
+    let start = at-selects .before .before .before .before in
+    let t = start .args in
+    free-slot (selectsAt (t .tills .now) (t .m .scope) (t .m .from) (t .to))
+    (found (t .m .id) (idsOf (t .seen .now) (idsStart (sizesAt (t .setup .now)) (t .to)) (cell (t .seen .now) (t .to)))) (cell (t .seen .now) (t .to))
+    (sizesAt (t .setup .now) .seenSlots) (sym (at-selects .selects .ensures) ∙ not-false _ (at-if1 .if1 .left)) (c .if2 .taken)
 
 marked-requires : tie.Need-marked-requires
 marked-requires c κs = search needs

@@ -9,13 +9,20 @@ shared-slice-read-if1 : tie.Need-shared-slice-read-if1
 shared-slice-read-if1 c = search needs
 
 returns : tie.Need-returns
-returns c = let a = c .before .before .before .before .before .before .before .args in old-fault (a .setup .now) (a .net .now) (a .tills .now) (a .words .now) (a .seen .now) (a .m) (c .if1 .taken)
+returns c =
+    let start = c .before .before .before .before .before .before .before in
+    let a = start .args in old-fault (a .setup .now) (a .net .now) (a .tills .now) (a .words .now) (a .seen .now) (a .m) (c .if1 .taken)
 
 links-fresh-requires : tie.Need-links-fresh-requires
 links-fresh-requires c κs = search needs
 
 returns-2 : tie.Need-returns-2
-returns-2 c = let a = c .before .before .before .before .before .before .before .before .before .args in old-link (a .setup .now) (a .net .now) (a .tills .now) (a .words .now) (a .seen .now) (a .m) (c .before .before .if1 .left) (is-no _ _ (c .before .links-fresh .ensures) (c .if2 .taken))
+returns-2 c =
+    let at-links-fresh = c .before in
+    let at-if1 = at-links-fresh .before in
+    let start = at-if1 .before .before .before .before .before .before .before in
+    let a = start .args in old-link (a .setup .now) (a .net .now) (a .tills .now) (a .words .now) (a .seen .now) (a .m) (at-if1 .if1 .left)
+    (is-no _ _ (at-links-fresh .links-fresh .ensures) (c .if2 .taken))
 
 selected-requires : tie.Need-selected-requires
 selected-requires c κs = search needs

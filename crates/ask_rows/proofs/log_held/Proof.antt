@@ -33,7 +33,13 @@ log-near-requires c κs = let p = setup-says (c .before .before .before .before 
 
 returns-2 : tie.Need-returns-2
 unfolding logHeld
-returns-2 c = let a = c .before .before .before .before .before .before .args in on _ _ _ (eq-eqb _ _ (c .before .before .if1 .left)) (c .log-near .ensures ∙ ap (λ (l : Limits). logNear l (sizesAt (a .setup .now) .logSlots) (a .log .now)) (c .before .limits .ensures) ∙ log-near (sizesAt (a .setup .now)) (sizesAt (a .setup .now) .logSlots) (a .log .now))
+returns-2 c =
+    let at-limits = c .before in
+    let at-if1 = at-limits .before in
+    let start = at-if1 .before .before .before .before in
+    let a = start .args in on _ _ _ (eq-eqb _ _ (at-if1 .if1 .left)) (c .log-near .ensures ∙ ap
+    (λ (l : Limits). logNear l (sizesAt (a .setup .now) .logSlots) (a .log .now)) (at-limits .limits .ensures) ∙ log-near (sizesAt (a .setup .now))
+    (sizesAt (a .setup .now) .logSlots) (a .log .now))
 
 pub log-held-spec : {M : Type 1} → statement M
 log-held-spec =

@@ -21,17 +21,33 @@ lengths-within-requires c κs = let p = setup-says (c .before .before .before .b
 
 returns-2 : tie.Need-returns-2
 unfolding namesHeld
-returns-2 c = on _ _ _ (eq-eqb _ _ (c .before .before .before .if1 .left)) (last _ _ (off _ _ (is-no _ _ (c .before .lengths-within .ensures ∙ names-column (c .before .before .before .before .before .before .args .names .now) (sizesAt (c .before .before .before .before .before .before .args .setup .now) .types)) (c .if2 .taken))))
+returns-2 c =
+    let at-lengths-within = c .before in
+    let at-if1 = at-lengths-within .before .before in
+    let start = at-if1 .before .before .before in
+    on _ _ _ (eq-eqb _ _ (at-if1 .if1 .left)) (last _ _ (off _ _ (is-no _ _
+    (at-lengths-within .lengths-within .ensures ∙ names-column (start .args .names .now) (sizesAt (start .args .setup .now) .types)) (c .if2 .taken))))
 
 shared-slice-read-shards : tie.Need-shared-slice-read-shards
-shared-slice-read-shards c = let p = setup-says (c .before .before .before .before .before .before .before .args .setup .now) (c .before .before .before .before .before .before .before .pre) in omega (arith, p)
+shared-slice-read-shards c =
+    let start = c .before .before .before .before .before .before .before in
+    let p = setup-says (start .args .setup .now) (start .pre) in omega (arith, p)
 
 lengths-within-requires-2 : tie.Need-lengths-within-requires-2
-lengths-within-requires-2 c κs = let p = setup-says (c .before .before .before .before .before .before .before .args .setup .now) (c .before .before .before .before .before .before .before .pre) in (omega arith, omega (arith, p))
+lengths-within-requires-2 c κs =
+    let start = c .before .before .before .before .before .before .before in
+    let p = setup-says (start .args .setup .now) (start .pre) in (omega arith, omega (arith, p))
 
 returns-3 : tie.Need-returns-3
 unfolding namesHeld
-returns-3 c = let a = c .before .before .before .before .before .before .before .before .args in on _ _ _ (eq-eqb _ _ (c .before .before .before .before .before .if1 .left)) (last _ _ (on _ _ _ (is-yes _ _ (c .before .before .before .lengths-within .ensures ∙ names-column (a .names .now) (sizesAt (a .setup .now) .types)) (c .before .before .if2 .left)) (last _ _ (c .lengths-within2 .ensures ∙ keys-column (a .names .now) (sizesAt (a .setup .now) .shards)))))
+returns-3 c =
+    let at-if2 = c .before .before in
+    let at-lengths-within = at-if2 .before in
+    let at-if1 = at-lengths-within .before .before in
+    let start = at-if1 .before .before .before in
+    let a = start .args in on _ _ _ (eq-eqb _ _ (at-if1 .if1 .left)) (last _ _
+    (on _ _ _ (is-yes _ _ (at-lengths-within .lengths-within .ensures ∙ names-column (a .names .now) (sizesAt (a .setup .now) .types)) (at-if2 .if2 .left))
+    (last _ _ (c .lengths-within2 .ensures ∙ keys-column (a .names .now) (sizesAt (a .setup .now) .shards)))))
 
 pub names-held-spec : {M : Type 1} → statement M
 names-held-spec =

@@ -23,13 +23,20 @@ at-least-one-requires : tie.Need-at-least-one-requires
 at-least-one-requires c κs = search needs
 
 shared-slice-read-plan-held : tie.Need-shared-slice-read-plan-held
-shared-slice-read-plan-held c = let p = setup-says (c .before .before .before .before .before .before .before .args .setup .now) (c .before .before .before .before .before .before .before .pre) in omega (arith, p)
+shared-slice-read-plan-held c =
+    let start = c .before .before .before .before .before .before .before in
+    let p = setup-says (start .args .setup .now) (start .pre) in omega (arith, p)
 
 plan-held-requires : tie.Need-plan-held-requires
 plan-held-requires c κs = let p = setup-says (c .before .before .before .before .before .before .before .args .setup .now) (c .before .before .before .before .before .before .before .pre) in (omega (arith, c .before .at-least-one .ensures .1), one-most (settingsAt (c .before .before .before .before .before .before .before .args .setup .now) .plan .regions) (p .sizes .regions) (c .before .at-least-one .ensures .0), p .sizes .tills)
 
 returns-2 : tie.Need-returns-2
-returns-2 c = let a = c .before .before .before .before .before .before .before .before .args in c .plan-held .ensures ∙ ap (λ (k : ℕ). planHeld (a .prices .now) k (sizesAt (a .setup .now) .tills)) (c .before .before .at-least-one .ensures .0) ∙ by-plan (a .setup .now) (a .prices .now) (c .before .before .before .before .if1 .left)
+returns-2 c =
+    let at-at-least-one = c .before .before in
+    let at-if1 = at-at-least-one .before .before in
+    let start = at-if1 .before .before .before .before in
+    let a = start .args in c .plan-held .ensures ∙ ap (λ (k : ℕ). planHeld (a .prices .now) k (sizesAt (a .setup .now) .tills))
+    (at-at-least-one .at-least-one .ensures .0) ∙ by-plan (a .setup .now) (a .prices .now) (at-if1 .if1 .left)
 
 pub prices-held-spec : {M : Type 1} → statement M
 prices-held-spec =

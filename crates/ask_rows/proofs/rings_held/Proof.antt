@@ -34,7 +34,13 @@ rings-near-requires c κs = search needs
 
 returns-2 : tie.Need-returns-2
 unfolding ringsHeld
-returns-2 c = let a = c .before .before .before .before .before .before .args in on _ _ _ (eq-eqb _ _ (c .before .before .if1 .left)) (c .rings-near .ensures ∙ ap (λ (l : Limits). ringsNear l (ringsOf (sizesAt (a .setup .now))) (a .rings .now)) (c .before .limits .ensures) ∙ rings-near (sizesAt (a .setup .now)) (ringsOf (sizesAt (a .setup .now))) (a .rings .now))
+returns-2 c =
+    let at-limits = c .before in
+    let at-if1 = at-limits .before in
+    let start = at-if1 .before .before .before .before in
+    let a = start .args in on _ _ _ (eq-eqb _ _ (at-if1 .if1 .left)) (c .rings-near .ensures ∙ ap
+    (λ (l : Limits). ringsNear l (ringsOf (sizesAt (a .setup .now))) (a .rings .now)) (at-limits .limits .ensures) ∙ rings-near (sizesAt (a .setup .now))
+    (ringsOf (sizesAt (a .setup .now))) (a .rings .now))
 
 pub rings-held-spec : {M : Type 1} → statement M
 rings-held-spec =

@@ -22,17 +22,31 @@ unfolding waitingHeld
 returns c = off _ _ (ne-eqb _ _ (c .if1 .taken))
 
 shared-slice-read-n : tie.Need-shared-slice-read-n
-shared-slice-read-n c = let p = setup-says (c .before .before .before .before .before .before .args .setup .now) (c .before .before .before .before .before .before .pre .0) in let n = net-says (c .before .before .before .before .before .before .args .setup .now) (c .before .before .before .before .before .before .args .net .now) (c .before .before .before .before .before .before .pre .1) in omega (arith, p, n)
+shared-slice-read-n c =
+    let start = c .before .before .before .before .before .before in
+    let a = start .args in
+    let p = setup-says (a .setup .now) (start .pre .0) in let n = net-says (a .setup .now) (a .net .now) (start .pre .1) in omega (arith, p, n)
 
 limits-requires : tie.Need-limits-requires
-limits-requires c κs = c .before .before .before .before .before .before .pre .0
+limits-requires c κs =
+    let at-pre = c .before .before .before .before .before .before in
+    at-pre .pre .0
 
 copies-near-requires : tie.Need-copies-near-requires
-copies-near-requires c κs = let p = setup-says (c .before .before .before .before .before .before .before .args .setup .now) (c .before .before .before .before .before .before .before .pre .0) in let n = net-says (c .before .before .before .before .before .before .before .args .setup .now) (c .before .before .before .before .before .before .before .args .net .now) (c .before .before .before .before .before .before .before .pre .1) in omega (arith, p, n)
+copies-near-requires c κs =
+    let start = c .before .before .before .before .before .before .before in
+    let a = start .args in
+    let p = setup-says (a .setup .now) (start .pre .0) in let n = net-says (a .setup .now) (a .net .now) (start .pre .1) in omega (arith, p, n)
 
 returns-2 : tie.Need-returns-2
 unfolding waitingHeld
-returns-2 c = let a = c .before .before .before .before .before .before .before .before .args in on _ _ _ (eq-eqb _ _ (c .before .before .before .if1 .left)) (last _ _ (c .copies-near .ensures ∙ ap (λ (l : Limits). copiesNear l (a .waiting .now) (cell (a .net .now) waitingAt)) (c .before .limits .ensures) ∙ copies-near (sizesAt (a .setup .now)) (a .waiting .now) (cell (a .net .now) waitingAt)))
+returns-2 c =
+    let at-limits = c .before in
+    let at-if1 = at-limits .before .before in
+    let start = at-if1 .before .before .before .before .before in
+    let a = start .args in on _ _ _ (eq-eqb _ _ (at-if1 .if1 .left)) (last _ _
+    (c .copies-near .ensures ∙ ap (λ (l : Limits). copiesNear l (a .waiting .now) (cell (a .net .now) waitingAt)) (at-limits .limits .ensures) ∙
+    copies-near (sizesAt (a .setup .now)) (a .waiting .now) (cell (a .net .now) waitingAt)))
 
 pub waiting-held-spec : {M : Type 1} → statement M
 waiting-held-spec =

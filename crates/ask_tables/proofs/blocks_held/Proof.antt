@@ -18,10 +18,16 @@ shared-slice-read-all-ends-below : tie.Need-shared-slice-read-all-ends-below
 shared-slice-read-all-ends-below c = let p = setup-says (c .before .before .before .before .before .args .setup .now) (c .before .before .before .before .before .pre .0) in let n = net-says (c .before .before .before .before .before .args .setup .now) (c .before .before .before .before .before .args .net .now) (c .before .before .before .before .before .pre .1) in omega (arith, p, n)
 
 shared-slice-read-all-ends-below-2 : tie.Need-shared-slice-read-all-ends-below-2
-shared-slice-read-all-ends-below-2 c = let p = setup-says (c .before .before .before .before .before .before .args .setup .now) (c .before .before .before .before .before .before .pre .0) in let n = net-says (c .before .before .before .before .before .before .args .setup .now) (c .before .before .before .before .before .before .args .net .now) (c .before .before .before .before .before .before .pre .1) in omega (arith, p, n)
+shared-slice-read-all-ends-below-2 c =
+    let start = c .before .before .before .before .before .before in
+    let a = start .args in
+    let p = setup-says (a .setup .now) (start .pre .0) in let n = net-says (a .setup .now) (a .net .now) (start .pre .1) in omega (arith, p, n)
 
 all-ends-below-requires : tie.Need-all-ends-below-requires
-all-ends-below-requires c κs = let p = setup-says (c .before .before .before .before .before .before .args .setup .now) (c .before .before .before .before .before .before .pre .0) in let n = net-says (c .before .before .before .before .before .before .args .setup .now) (c .before .before .before .before .before .before .args .net .now) (c .before .before .before .before .before .before .pre .1) in omega (arith, p, n)
+all-ends-below-requires c κs =
+    let start = c .before .before .before .before .before .before in
+    let a = start .args in
+    let p = setup-says (a .setup .now) (start .pre .0) in let n = net-says (a .setup .now) (a .net .now) (start .pre .1) in omega (arith, p, n)
 
 returns-2 : tie.Need-returns-2
 unfolding blocksHeld endsBelow

@@ -32,7 +32,13 @@ shared-slice-read-result c = search needs
 
 returns-4 : tie.Need-returns-4
 unfolding netHeld
-returns-4 c = on _ _ _ (eq-eqb _ _ (c .before .before .before .before .before .before .if1 .left)) (on _ _ _ (up-to _ _ _ (c .before .before .before .before .cell .ensures) (c .before .before .before .if2 .left)) (on _ _ _ (le-leb _ _ (c .before .if3 .left)) (last _ _ (refl))))
+returns-4 c =
+    let at-if3 = c .before in
+    let at-if2 = at-if3 .before .before in
+    let at-cell = at-if2 .before in
+    let at-if1 = at-cell .before .before in
+    on _ _ _ (eq-eqb _ _ (at-if1 .if1 .left)) (on _ _ _ (up-to _ _ _ (at-cell .cell .ensures) (at-if2 .if2 .left))
+    (on _ _ _ (le-leb _ _ (at-if3 .if3 .left)) (last _ _ (refl))))
 
 pub net-held-spec : {M : Type 1} → statement M
 net-held-spec =

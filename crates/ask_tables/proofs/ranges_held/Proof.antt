@@ -32,7 +32,15 @@ rate-held-requires c κs = search needs
 
 returns-3 : tie.Need-returns-3
 unfolding rangesHeld
-returns-3 c = on _ _ _ (is-yes _ _ (c .before .before .before .before .before .before .before .latency-held .ensures) (c .before .before .before .before .before .before .if1 .left)) (on _ _ _ (is-yes _ _ (c .before .before .before .before .fraction-held .ensures) (c .before .before .before .if2 .left)) (off _ _ (is-no _ _ (c .before .rate-held .ensures) (c .if3 .taken))))
+returns-3 c =
+    let at-rate-held = c .before in
+    let at-if2 = at-rate-held .before .before in
+    let at-fraction-held = at-if2 .before in
+    let at-if1 = at-fraction-held .before .before in
+    let at-latency-held = at-if1 .before in
+    on _ _ _ (is-yes _ _ (at-latency-held .latency-held .ensures) (at-if1 .if1 .left))
+    (on _ _ _ (is-yes _ _ (at-fraction-held .fraction-held .ensures) (at-if2 .if2 .left))
+    (off _ _ (is-no _ _ (at-rate-held .rate-held .ensures) (c .if3 .taken))))
 
 shared-slice-read-rate-held-2 : tie.Need-shared-slice-read-rate-held-2
 shared-slice-read-rate-held-2 c = search needs
@@ -42,7 +50,17 @@ rate-held-requires-2 c κs = search needs
 
 returns-4 : tie.Need-returns-4
 unfolding rangesHeld
-returns-4 c = on _ _ _ (is-yes _ _ (c .before .before .before .before .before .before .before .before .before .before .latency-held .ensures) (c .before .before .before .before .before .before .before .before .before .if1 .left)) (on _ _ _ (is-yes _ _ (c .before .before .before .before .before .before .before .fraction-held .ensures) (c .before .before .before .before .before .before .if2 .left)) (on _ _ _ (is-yes _ _ (c .before .before .before .before .rate-held .ensures) (c .before .before .before .if3 .left)) (off _ _ (is-no _ _ (c .before .rate-held2 .ensures) (c .if4 .taken)))))
+returns-4 c =
+    let at-rate-held2 = c .before in
+    let at-if3 = at-rate-held2 .before .before in
+    let at-rate-held = at-if3 .before in
+    let at-if2 = at-rate-held .before .before in
+    let at-fraction-held = at-if2 .before in
+    let at-if1 = at-fraction-held .before .before in
+    let at-latency-held = at-if1 .before in
+    on _ _ _ (is-yes _ _ (at-latency-held .latency-held .ensures) (at-if1 .if1 .left))
+    (on _ _ _ (is-yes _ _ (at-fraction-held .fraction-held .ensures) (at-if2 .if2 .left))
+    (on _ _ _ (is-yes _ _ (at-rate-held .rate-held .ensures) (at-if3 .if3 .left)) (off _ _ (is-no _ _ (at-rate-held2 .rate-held2 .ensures) (c .if4 .taken)))))
 
 shared-slice-read-rate-held-3 : tie.Need-shared-slice-read-rate-held-3
 shared-slice-read-rate-held-3 c = search needs
@@ -52,7 +70,21 @@ rate-held-requires-3 c κs = search needs
 
 returns-5 : tie.Need-returns-5
 unfolding rangesHeld
-returns-5 c = on _ _ _ (is-yes _ _ (c .before .before .before .before .before .before .before .before .before .before .before .before .before .latency-held .ensures) (c .before .before .before .before .before .before .before .before .before .before .before .before .if1 .left)) (on _ _ _ (is-yes _ _ (c .before .before .before .before .before .before .before .before .before .before .fraction-held .ensures) (c .before .before .before .before .before .before .before .before .before .if2 .left)) (on _ _ _ (is-yes _ _ (c .before .before .before .before .before .before .before .rate-held .ensures) (c .before .before .before .before .before .before .if3 .left)) (on _ _ _ (is-yes _ _ (c .before .before .before .before .rate-held2 .ensures) (c .before .before .before .if4 .left)) (off _ _ (is-no _ _ (c .before .rate-held3 .ensures) (c .if5 .taken))))))
+returns-5 c =
+    let at-rate-held3 = c .before in
+    let at-if4 = at-rate-held3 .before .before in
+    let at-rate-held2 = at-if4 .before in
+    let at-if3 = at-rate-held2 .before .before in
+    let at-rate-held = at-if3 .before in
+    let at-if2 = at-rate-held .before .before in
+    let at-fraction-held = at-if2 .before in
+    let at-if1 = at-fraction-held .before .before in
+    let at-latency-held = at-if1 .before in
+    on _ _ _ (is-yes _ _ (at-latency-held .latency-held .ensures) (at-if1 .if1 .left))
+    (on _ _ _ (is-yes _ _ (at-fraction-held .fraction-held .ensures) (at-if2 .if2 .left))
+    (on _ _ _ (is-yes _ _ (at-rate-held .rate-held .ensures) (at-if3 .if3 .left))
+    (on _ _ _ (is-yes _ _ (at-rate-held2 .rate-held2 .ensures) (at-if4 .if4 .left))
+    (off _ _ (is-no _ _ (at-rate-held3 .rate-held3 .ensures) (c .if5 .taken))))))
 
 shared-slice-read-rate-held-4 : tie.Need-shared-slice-read-rate-held-4
 shared-slice-read-rate-held-4 c = search needs
@@ -62,7 +94,22 @@ rate-held-requires-4 c κs = search needs
 
 returns-6 : tie.Need-returns-6
 unfolding rangesHeld
-returns-6 c = on _ _ _ (is-yes _ _ (c .before .before .before .before .before .before .before .before .before .before .before .before .before .before .before .latency-held .ensures) (c .before .before .before .before .before .before .before .before .before .before .before .before .before .before .if1 .left)) (on _ _ _ (is-yes _ _ (c .before .before .before .before .before .before .before .before .before .before .before .before .fraction-held .ensures) (c .before .before .before .before .before .before .before .before .before .before .before .if2 .left)) (on _ _ _ (is-yes _ _ (c .before .before .before .before .before .before .before .before .before .rate-held .ensures) (c .before .before .before .before .before .before .before .before .if3 .left)) (on _ _ _ (is-yes _ _ (c .before .before .before .before .before .before .rate-held2 .ensures) (c .before .before .before .before .before .if4 .left)) (on _ _ _ (is-yes _ _ (c .before .before .before .rate-held3 .ensures) (c .before .before .if5 .left)) (last _ _ (c .rate-held4 .ensures))))))
+returns-6 c =
+    let at-if5 = c .before .before in
+    let at-rate-held3 = at-if5 .before in
+    let at-if4 = at-rate-held3 .before .before in
+    let at-rate-held2 = at-if4 .before in
+    let at-if3 = at-rate-held2 .before .before in
+    let at-rate-held = at-if3 .before in
+    let at-if2 = at-rate-held .before .before in
+    let at-fraction-held = at-if2 .before in
+    let at-if1 = at-fraction-held .before .before in
+    let at-latency-held = at-if1 .before in
+    on _ _ _ (is-yes _ _ (at-latency-held .latency-held .ensures) (at-if1 .if1 .left))
+    (on _ _ _ (is-yes _ _ (at-fraction-held .fraction-held .ensures) (at-if2 .if2 .left))
+    (on _ _ _ (is-yes _ _ (at-rate-held .rate-held .ensures) (at-if3 .if3 .left))
+    (on _ _ _ (is-yes _ _ (at-rate-held2 .rate-held2 .ensures) (at-if4 .if4 .left))
+    (on _ _ _ (is-yes _ _ (at-rate-held3 .rate-held3 .ensures) (at-if5 .if5 .left)) (last _ _ (c .rate-held4 .ensures))))))
 
 pub ranges-held-spec : {M : Type 1} → statement M
 ranges-held-spec =

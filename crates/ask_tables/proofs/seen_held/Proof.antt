@@ -32,7 +32,12 @@ column-within-requires c κs = search needs
 
 returns-2 : tie.Need-returns-2
 unfolding seenHeld
-returns-2 c = on _ _ _ (eq-eqb _ _ (c .before .if1 .left)) (last _ _ (c .column-within .ensures ∙ counts-column (c .before .before .before .before .before .before .args .seen .now) (sizesAt (c .before .before .before .before .before .before .args .setup .now) .tills) (sizesAt (c .before .before .before .before .before .before .args .setup .now) .seenSlots)))
+returns-2 c =
+    let at-if1 = c .before in
+    let start = at-if1 .before .before .before .before .before in
+    let a = start .args in
+    on _ _ _ (eq-eqb _ _ (at-if1 .if1 .left)) (last _ _ (c .column-within .ensures ∙ counts-column (a .seen .now) (sizesAt (a .setup .now) .tills)
+    (sizesAt (a .setup .now) .seenSlots)))
 
 pub seen-held-spec : {M : Type 1} → statement M
 seen-held-spec =

@@ -28,17 +28,28 @@ power-requires : tie.Need-power-requires
 power-requires c κs = let p = setup-says (c .before .before .before .before .before .args .setup .now) (c .before .before .before .before .before .pre) in omega (arith, p)
 
 shared-slice-read-power-2 : tie.Need-shared-slice-read-power-2
-shared-slice-read-power-2 c = let p = setup-says (c .before .before .before .before .before .before .before .args .setup .now) (c .before .before .before .before .before .before .before .pre) in omega (arith, p)
+shared-slice-read-power-2 c =
+    let start = c .before .before .before .before .before .before .before in
+    let p = setup-says (start .args .setup .now) (start .pre) in omega (arith, p)
 
 power-requires-2 : tie.Need-power-requires-2
-power-requires-2 c κs = let p = setup-says (c .before .before .before .before .before .before .before .args .setup .now) (c .before .before .before .before .before .before .before .pre) in omega (arith, p)
+power-requires-2 c κs =
+    let start = c .before .before .before .before .before .before .before in
+    let p = setup-says (start .args .setup .now) (start .pre) in omega (arith, p)
 
 all-masks-below-requires : tie.Need-all-masks-below-requires
 all-masks-below-requires c κs = search needs
 
 returns-2 : tie.Need-returns-2
 unfolding tillsHeld masksBelow
-returns-2 c = let a = c .before .before .before .before .before .before .before .before .before .args in on _ _ _ (eq-eqb _ _ (c .before .before .before .before .before .if1 .left)) (last _ _ (c .all-masks-below .ensures ∙ powers (sizesAt (a .setup .now) .types) (sizesAt (a .setup .now) .shards) _ _ (rowsOf tillForm (a .tills .now) (sizesAt (a .setup .now) .tills)) (c .before .before .before .power .ensures) (c .before .power2 .ensures)))
+returns-2 c =
+    let at-power2 = c .before in
+    let at-power = at-power2 .before .before in
+    let at-if1 = at-power .before .before in
+    let start = at-if1 .before .before .before .before in
+    let a = start .args in on _ _ _ (eq-eqb _ _ (at-if1 .if1 .left)) (last _ _
+    (c .all-masks-below .ensures ∙ powers (sizesAt (a .setup .now) .types) (sizesAt (a .setup .now) .shards) _ _
+    (rowsOf tillForm (a .tills .now) (sizesAt (a .setup .now) .tills)) (at-power .power .ensures) (at-power2 .power2 .ensures)))
 
 pub tills-held-spec : {M : Type 1} → statement M
 tills-held-spec =

@@ -14,7 +14,11 @@ same-length : tie.Need-same-length
 same-length c = search needs
 
 returns-2 : tie.Need-returns-2
-returns-2 c = let a = c .before .before .before .before .before .before .before .before .args in c .before .before .unmark .ensures ∙ original-cleared (a .z .tills) (a .z .slots) (a .c) (a .seen .now) (c .before .before .before .before .before .if1 .left)
+returns-2 c =
+    let at-unmark = c .before .before in
+    let at-if1 = at-unmark .before .before .before in
+    let start = at-if1 .before .before .before in
+    let a = start .args in at-unmark .unmark .ensures ∙ original-cleared (a .z .tills) (a .z .slots) (a .c) (a .seen .now) (at-if1 .if1 .left)
 
 pub clear-spec : {M : Type 1} → statement M
 clear-spec = tie.close (tie.spec returns unmark-requires same-length returns-2)

@@ -24,7 +24,12 @@ bit-requires : tie.Need-bit-requires
 bit-requires c κs = search needs
 
 returns : tie.Need-returns
-returns c = let a = c .before .before .before .before .before .before .before .args in shard-taken (a .n) (a .tills .now) (a .c) (c .before .before .before .before .before .before .before .pre .0) _ (c .before .before .bit .ensures ∙ ap lists.bit (c .before .before .before .has .ensures)) (c .if1 .taken)
+returns c =
+    let at-bit = c .before .before in
+    let at-has = at-bit .before in
+    let start = at-has .before .before .before .before in
+    let a = start .args in shard-taken (a .n) (a .tills .now) (a .c) (start .pre .0) _ (at-bit .bit .ensures ∙ ap lists.bit (at-has .has .ensures))
+    (c .if1 .taken)
 
 add-has-2 : tie.Need-add-has-2
 add-has-2 c = search needs
@@ -42,7 +47,14 @@ bit-requires-2 : tie.Need-bit-requires-2
 bit-requires-2 c κs = search needs
 
 returns-2 : tie.Need-returns-2
-returns-2 c = let a = c .before .before .before .before .before .before .before .before .before .before .args in global-taken (a .n) (a .tills .now) (a .c) (c .before .before .before .before .before .before .before .before .before .before .pre .0) _ (c .before .before .before .before .before .bit .ensures ∙ ap lists.bit (c .before .before .before .before .before .before .has .ensures)) _ (c .before .before .before .if1 .left) (c .bit2 .ensures ∙ ap lists.bit (c .before .has2 .ensures))
+returns-2 c =
+    let at-has2 = c .before in
+    let at-if1 = at-has2 .before .before in
+    let at-bit = at-if1 .before .before in
+    let at-has = at-bit .before in
+    let start = at-has .before .before .before .before in
+    let a = start .args in global-taken (a .n) (a .tills .now) (a .c) (start .pre .0) _ (at-bit .bit .ensures ∙ ap lists.bit (at-has .has .ensures)) _
+    (at-if1 .if1 .left) (c .bit2 .ensures ∙ ap lists.bit (at-has2 .has2 .ensures))
 
 pub handlers-of-spec : {M : Type 1} → statement M
 handlers-of-spec =

@@ -37,7 +37,19 @@ same-length-2 : tie.Need-same-length-2
 same-length-2 c = search needs
 
 returns : tie.Need-returns
-returns c = let a = c .before .before .before .before .before .before .before .before .before .before .before .before .before .before .before .before .before .args in record { log = c .before .before .before .before .before .push .ensures; out = c .before .before .before .before .before .before .before .before .before .before .put-row .ensures ∙ ap (λ (k : Taken). putWords (a .out .now) (a .m .rows * rowWidth) (rowWords (rowAs (a .c) k))) (c .before .before .before .before .before .before .before .before .before .before .before .before .before .handlers-of .ensures); counts = landed-made (a .m) (c .before .before .is-handled .result) _ (c .before .before .is-handled .ensures .0 ∙ ap handledBy (c .before .before .before .before .before .before .before .before .before .before .before .before .before .handlers-of .ensures)) }
+returns c =
+    let at-is-handled = c .before .before in
+    let at-push = at-is-handled .before .before .before in
+    let at-put-row = at-push .before .before .before .before .before in
+    let at-handlers-of = at-put-row .before .before .before in
+    let start = at-handlers-of .before .before .before .before in
+    let a = start .args in record {
+      log = at-push .push .ensures;
+      out = at-put-row .put-row .ensures ∙ ap
+          (λ (k : Taken). putWords (a .out .now) (a .m .rows * rowWidth) (rowWords (rowAs (a .c) k))) (at-handlers-of .handlers-of .ensures);
+      counts =
+          landed-made (a .m) (at-is-handled .is-handled .result) _ (at-is-handled .is-handled .ensures .0 ∙ ap handledBy (at-handlers-of .handlers-of .ensures));
+    }
 
 pub land-spec : {M : Type 1} → statement M
 land-spec =

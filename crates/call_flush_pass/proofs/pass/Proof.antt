@@ -12,13 +12,20 @@ abbrev μ-loop : tie.MeasureT-loop
 μ-loop tills blocks waiting seen₀ log₀ out₀ z k m₀ i₀ seen log out m i = k - i
 
 loop-holds : tie.Need-loop-holds Inv-loop μ-loop
-loop-holds c = let a = c .before .before .before .before .before .before .args in begin (a .z) (flushView (a .z) (a .tills .now) (a .blocks .now)) (a .waiting .now) (a .k) (a .seen .now) (a .log .now) (a .out .now) (c .before .before .before .before .before .before .pre .2)
+loop-holds c =
+    let start = c .before .before .before .before .before .before in
+    let a = start .args in begin (a .z) (flushView (a .z) (a .tills .now) (a .blocks .now)) (a .waiting .now) (a .k) (a .seen .now) (a .log .now)
+    (a .out .now) (start .pre .2)
 
 mul-get : tie.Need-mul-get Inv-loop μ-loop
-mul-get c = omega (arith, c .before .before .before .before .before .before .before .before .pre .1 .few)
+mul-get c =
+    let at-pre = c .before .before .before .before .before .before .before .before in
+    omega (arith, at-pre .pre .1 .few)
 
 get-requires : tie.Need-get-requires Inv-loop μ-loop
-get-requires c κs = omega (arith, c .before .before .before .before .before .before .before .before .pre .1 .rows)
+get-requires c κs =
+    let at-pre = c .before .before .before .before .before .before .before .before in
+    omega (arith, at-pre .pre .1 .rows)
 
 turn-requires : tie.Need-turn-requires Inv-loop μ-loop
 turn-requires c κs = let a = c .before .before .before .before .before .before .before .before .before .before .before .before .args in
@@ -27,15 +34,26 @@ turn-requires c κs = let a = c .before .before .before .before .before .before 
     (c .before .before .before .before .before .before .before .before .before .before .before .before .pre .0, m, l .inv .room, record { few = c .before .before .before .before .before .before .before .before .before .before .before .before .pre .3 .few; size = omega (arith, c .before .before .before .before .before .before .before .before .before .before .before .before .pre .3 .size, l .inv .log) }, row-room (a .z) (flushView (a .z) (a .tills .now) (a .blocks .now)) (a .waiting .now) (a .k) (a .seen .now) (a .log .now) (a .out .now) (l .i) _ _ _ (l .m) (c .before .before .before .before .loop-test .taken) (c .before .before .before .before .before .before .before .before .before .before .before .before .pre .1) (l .inv), omega (arith, l .inv .counts .0, c .before .before .before .before .before .before .before .before .before .before .before .before .pre .1 .few), omega (arith, l .inv .counts .1, c .before .before .before .before .before .before .before .before .before .before .before .before .pre .1 .few), omega (arith, l .inv .counts .2, c .before .before .before .before .before .before .before .before .before .before .before .before .pre .1 .few))
 
 add-i : tie.Need-add-i Inv-loop μ-loop
-add-i c = omega (arith, c .before .before .before .before .before .before .before .before .before .before .before .before .before .before .before .before .before .before .before .pre .1 .few)
+add-i c =
+    let at-pre = c .before .before .before .before .before .before .before .before .before .before .before .before .before .before .before .before .before
+    .before .before in
+    omega (arith, at-pre .pre .1 .few)
 
 loop-less : tie.Need-loop-less Inv-loop μ-loop
 loop-less c = omega arith
 
 loop-again : tie.Need-loop-again Inv-loop μ-loop
-loop-again c = let a = c .before .before .before .before .before .before .before .before .before .before .before .before .before .before .before .before .before .before .before .args in
-    let l = c .before .before .before .before .before .before .before .before .before .before .before .before .loop in
-    more (a .z) (flushView (a .z) (a .tills .now) (a .blocks .now)) (a .waiting .now) (a .k) (a .seen .now) (a .log .now) (a .out .now) (l .i) _ _ _ (l .m) (c .before .before .before .before .before .before .before .before .before .before .before .loop-test .taken) (c .before .before .before .before .before .before .before .before .before .before .before .before .before .before .before .before .before .before .before .pre .1) (l .inv) (c .before .before .before .before .before .before .before .before .before .before .get .result) (c .before .before .before .before .before .before .before .before .before .before .get .ensures) _ _ _ _ (c .before .before .before .before .before .before .turn .kept .1 .1 .0) (c .before .before .before .before .before .before .turn .kept .1 .1 .1 .0) (c .before .before .before .before .before .before .turn .kept .1 .1 .1 .1 .0) (c .before .before .before .before .before .before .turn .ensures)
+loop-again c =
+    let at-turn = c .before .before .before .before .before .before in
+    let at-get = at-turn .before .before .before .before in
+    let at-loop-test = at-get .before in
+    let at-loop = at-loop-test .before in
+    let start = at-loop .before .before .before .before .before .before .before in
+    let a = start .args in
+    let l = at-loop .loop in
+    more (a .z) (flushView (a .z) (a .tills .now) (a .blocks .now)) (a .waiting .now) (a .k) (a .seen .now) (a .log .now) (a .out .now) (l .i) _ _ _
+    (l .m) (at-loop-test .loop-test .taken) (start .pre .1) (l .inv) (at-get .get .result) (at-get .get .ensures) _ _ _ _ (at-turn .turn .kept .1 .1 .0)
+    (at-turn .turn .kept .1 .1 .1 .0) (at-turn .turn .kept .1 .1 .1 .1 .0) (at-turn .turn .ensures)
 
 same-length : tie.Need-same-length Inv-loop μ-loop
 same-length c = c .before .loop .inv .seen
@@ -47,7 +65,11 @@ same-length-3 : tie.Need-same-length-3 Inv-loop μ-loop
 same-length-3 c = c .before .loop .inv .out
 
 returns : tie.Need-returns Inv-loop μ-loop
-returns c = let a = c .before .before .before .before .before .before .before .before .args in end (a .z) (flushView (a .z) (a .tills .now) (a .blocks .now)) (a .waiting .now) (a .k) (a .seen .now) (a .log .now) (a .out .now) (c .before .loop .i) _ _ _ (c .before .loop .m) (c .loop-test .left) (c .before .loop .inv)
+returns c =
+    let at-loop = c .before in
+    let start = at-loop .before .before .before .before .before .before .before in
+    let a = start .args in end (a .z) (flushView (a .z) (a .tills .now) (a .blocks .now)) (a .waiting .now) (a .k) (a .seen .now) (a .log .now)
+    (a .out .now) (at-loop .loop .i) _ _ _ (at-loop .loop .m) (c .loop-test .left) (at-loop .loop .inv)
 
 pub pass-spec : {M : Type 1} → statement M
 pass-spec =

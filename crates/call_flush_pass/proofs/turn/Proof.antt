@@ -17,7 +17,13 @@ same-length : tie.Need-same-length
 same-length c = search needs
 
 returns : tie.Need-returns
-returns c = let a = c .before .before .before .before .before .before .before .before .before .before .before .before .args in turn-dropped (a .z) (a .tills .now) (a .blocks .now) (a .c) (a .m) (a .seen .now) _ (a .log .now) (a .out .now) _ (sym (c .before .before .before .before .before .before .is-stopped .ensures) ∙ c .before .before .before .before .before .if1 .taken) (c .before .before .before .clear .ensures) (c .one-dropped .ensures)
+returns c =
+    let at-clear = c .before .before .before in
+    let at-if1 = at-clear .before .before in
+    let at-is-stopped = at-if1 .before in
+    let start = at-is-stopped .before .before .before .before .before .before in
+    let a = start .args in turn-dropped (a .z) (a .tills .now) (a .blocks .now) (a .c) (a .m) (a .seen .now) _ (a .log .now) (a .out .now) _
+    (sym (at-is-stopped .is-stopped .ensures) ∙ at-if1 .if1 .taken) (at-clear .clear .ensures) (c .one-dropped .ensures)
 
 land-requires : tie.Need-land-requires
 land-requires c κs = search needs
@@ -29,7 +35,13 @@ same-length-3 : tie.Need-same-length-3
 same-length-3 c = search needs
 
 returns-2 : tie.Need-returns-2
-returns-2 c = let a = c .before .before .before .before .before .before .before .before .before .before .before .before .before .before .args in turn-landed (a .z) (a .tills .now) (a .blocks .now) (a .c) (a .m) (a .seen .now) (a .log .now) _ (a .out .now) _ _ (sym (c .before .before .before .before .before .before .before .before .is-stopped .ensures) ∙ c .before .before .before .before .before .before .before .if1 .left) (c .before .before .before .before .land .ensures)
+returns-2 c =
+    let at-land = c .before .before .before .before in
+    let at-if1 = at-land .before .before .before in
+    let at-is-stopped = at-if1 .before in
+    let start = at-is-stopped .before .before .before .before .before .before in
+    let a = start .args in turn-landed (a .z) (a .tills .now) (a .blocks .now) (a .c) (a .m) (a .seen .now) (a .log .now) _ (a .out .now) _ _
+    (sym (at-is-stopped .is-stopped .ensures) ∙ at-if1 .if1 .left) (at-land .land .ensures)
 
 pub turn-spec : {M : Type 1} → statement M
 turn-spec =

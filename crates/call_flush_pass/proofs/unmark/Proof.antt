@@ -30,7 +30,11 @@ same-length : tie.Need-same-length
 same-length c = search needs
 
 returns : tie.Need-returns
-returns c = let a = c .before .before .before .before .before .before .before .before .args in unmark-made (a .z .tills) (a .z .slots) (a .seen .now) (c .before .before .before .before .before .before .before .before .pre .1) (a .t) (a .id) (c .before .before .before .before .before .before .before .before .pre .0) _ _ (c .before .before .remove .ensures .1) (c .before .before .remove .ensures .0)
+returns c =
+    let at-remove = c .before .before in
+    let start = at-remove .before .before .before .before .before .before in
+    let a = start .args in unmark-made (a .z .tills) (a .z .slots) (a .seen .now) (start .pre .1) (a .t) (a .id) (start .pre .0) _ _
+    (at-remove .remove .ensures .1) (at-remove .remove .ensures .0)
 
 pub unmark-spec : {M : Type 1} → statement M
 unmark-spec =

@@ -14,7 +14,10 @@ same-length c = search needs
 
 -- src/lib.rt:18:1
 returns : tie.Need-returns
-returns c = let a = c .before .before .before .before .before .before .args in c .before .before .copy-front .ensures ∙ fetched (a .memory .now) (a .table .now) (a .at)
+returns c =
+    let at-copy-front = c .before .before in
+    let start = at-copy-front .before .before .before .before in
+    let a = start .args in at-copy-front .copy-front .ensures ∙ fetched (a .memory .now) (a .table .now) (a .at)
 
 pub fetch-spec : {M : Type 1} → statement M
 fetch-spec = tie.close (tie.spec copy-front-requires same-length returns)

@@ -47,7 +47,20 @@ same-length c = search needs
 
 -- src/lib.rt:27:1
 returns : tie.Need-returns
-returns c = let a = c .before .before .before .before .before .before .before .before .before .before .before .before .before .before .before .before .before .before .before .before .before .before .before .before .before .before .args in (kept-five (a .net .now) (a .tills .now) (a .words .now) (a .seen .now) (a .waiting .now) (a .memory .now) (c .before .before .before .before .before .before .before .before .before .before .before .before .before .before .before .before .before .before .store .last .1 .0) (c .before .before .before .before .before .before .before .before .before .before .before .before .before .before .store2 .last .1 .0) (c .before .before .before .before .before .before .before .before .before .before .store3 .last .1 .0) (c .before .before .before .before .before .before .store4 .last .1 .0) (c .before .before .store5 .last .1 .0) (c .before .before .before .before .before .before .before .before .before .before .before .before .before .before .before .before .before .before .store .ensures) (c .before .before .before .before .before .before .before .before .before .before .before .before .before .before .store2 .ensures) (c .before .before .before .before .before .before .before .before .before .before .store3 .ensures) (c .before .before .before .before .before .before .store4 .ensures) (c .before .before .store5 .ensures), refl)
+returns c =
+    let at-store5 = c .before .before in
+    let at-store4 = at-store5 .before .before .before .before in
+    let at-store3 = at-store4 .before .before .before .before in
+    let at-store2 = at-store3 .before .before .before .before in
+    let at-store = at-store2 .before .before .before .before in
+    let start = at-store .before .before .before .before .before .before .before .before in
+    let a = start .args in (
+      kept-five (a .net .now) (a .tills .now) (a .words .now) (a .seen .now) (a .waiting .now) (a .memory .now)
+          (at-store .store .last .1 .0) (at-store2 .store2 .last .1 .0) (at-store3 .store3 .last .1 .0) (at-store4 .store4 .last .1 .0)
+          (at-store5 .store5 .last .1 .0) (at-store .store .ensures) (at-store2 .store2 .ensures) (at-store3 .store3 .ensures) (at-store4 .store4 .ensures)
+          (at-store5 .store5 .ensures),
+      refl,
+    )
 
 pub keep-first-spec : {M : Type 1} → statement M
 keep-first-spec =

@@ -61,7 +61,13 @@ same-length-5 c = search needs
 
 -- src/lib.rt:52:1
 returns : tie.Need-returns
-returns c = (c .before .before .before .before .before .before .before .before .before .before .before .before .before .before .before .before .before .before .fetch .ensures, (c .before .before .before .before .before .before .before .before .before .before .before .before .before .before .fetch2 .ensures, (c .before .before .before .before .before .before .before .before .before .before .fetch3 .ensures, (c .before .before .before .before .before .before .fetch4 .ensures, c .before .before .fetch5 .ensures))))
+returns c =
+    let at-fetch5 = c .before .before in
+    let at-fetch4 = at-fetch5 .before .before .before .before in
+    let at-fetch3 = at-fetch4 .before .before .before .before in
+    let at-fetch2 = at-fetch3 .before .before .before .before in
+    let at-fetch = at-fetch2 .before .before .before .before in
+    (at-fetch .fetch .ensures, (at-fetch2 .fetch2 .ensures, (at-fetch3 .fetch3 .ensures, (at-fetch4 .fetch4 .ensures, at-fetch5 .fetch5 .ensures))))
 
 pub return-first-spec : {M : Type 1} → statement M
 return-first-spec =

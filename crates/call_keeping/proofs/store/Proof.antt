@@ -30,7 +30,11 @@ same-length c = search needs
 
 -- src/lib.rt:9:1
 returns : tie.Need-returns
-returns c = let a = c .before .before .before .before .before .before .args in part-stored (a .memory .now) (a .table .now) (c .before .before .copy-front .last .1 .1 .1 .0) (a .at) (omega arith) (c .before .before .copy-front .ensures)
+returns c =
+    let at-copy-front = c .before .before in
+    let start = at-copy-front .before .before .before .before in
+    let a = start .args in part-stored (a .memory .now) (a .table .now) (at-copy-front .copy-front .last .1 .1 .1 .0) (a .at) (omega arith)
+    (at-copy-front .copy-front .ensures)
 
 pub store-spec : {M : Type 1} → statement M
 store-spec =

@@ -28,7 +28,13 @@ add-result : tie.Need-add-result
 add-result c = search needs
 
 returns : tie.Need-returns
-returns c = let a = c .before .before .before .before .before .before .args in id-from _ (a .wire .now) (c .before .before .hash-parts .result) (a .n) (c .before .wide .result) (c .wide2 .result) (a .buf .now) (c .before .before .before .front .ensures) (c .before .before .hash-parts .ensures) (c .before .wide .ensures .0) (c .wide2 .ensures .0)
+returns c =
+    let at-wide = c .before in
+    let at-hash-parts = at-wide .before in
+    let at-front = at-hash-parts .before in
+    let start = at-front .before .before .before in
+    let a = start .args in id-from _ (a .wire .now) (at-hash-parts .hash-parts .result) (a .n) (at-wide .wide .result) (c .wide2 .result) (a .buf .now)
+    (at-front .front .ensures) (at-hash-parts .hash-parts .ensures) (at-wide .wide .ensures .0) (c .wide2 .ensures .0)
 
 pub id-after-spec : {M : Type 1} → statement M
 id-after-spec =

@@ -46,10 +46,23 @@ add-result-3 : tie.Need-add-result-3
 add-result-3 c = search needs
 
 same-length-2 : tie.Need-same-length-2
-same-length-2 c = omega (arith, c .before .before .put .kept .0, length-set (c .before .before .before .before .before .before .before .before .args .buf .now) (c .before .before .before .before .before .before .before .before .args .at) 1)
+same-length-2 c =
+    let at-put = c .before .before in
+    let start = at-put .before .before .before .before .before .before in
+    omega (arith, at-put .put .kept .0, length-set (start .args .buf .now) (start .args .at) 1)
 
 returns-2 : tie.Need-returns-2
-returns-2 c = (scope-shard (c .before .before .before .before .before .before .before .before .args .buf .now) (c .before .before .before .before .before .before .before .before .args .names .now) (c .before .before .before .before .before .before .before .before .args .at) (c .before .before .before .before .before .before .before .before .args .scope) (ne-eqb _ _ (c .before .before .before .before .before .if1 .left)) _ _ (c .before .before .before .before .text .ensures) (omega (arith, ap length (c .before .before .before .before .text .ensures), text-short (c .before .before .before .before .before .before .before .before .args .names .now) (shardAt (c .before .before .before .before .before .before .before .before .args .scope)) longestKey (c .before .before .before .before .before .before .before .before .pre .0 .key))) (c .before .before .put .ensures), omega (arith, ap length (c .before .before .before .before .text .ensures), text-short (c .before .before .before .before .before .before .before .before .args .names .now) (shardAt (c .before .before .before .before .before .before .before .before .args .scope)) longestKey (c .before .before .before .before .before .before .before .before .pre .0 .key)))
+returns-2 c =
+    let at-put = c .before .before in
+    let at-text = at-put .before .before in
+    let at-if1 = at-text .before in
+    let start = at-if1 .before .before .before in
+    let a = start .args in (
+      scope-shard (a .buf .now) (a .names .now) (a .at) (a .scope) (ne-eqb _ _ (at-if1 .if1 .left)) _ _ (at-text .text .ensures)
+          (omega (arith, ap length (at-text .text .ensures), text-short (a .names .now) (shardAt (a .scope)) longestKey (start .pre .0 .key)))
+          (at-put .put .ensures),
+      omega (arith, ap length (at-text .text .ensures), text-short (a .names .now) (shardAt (a .scope)) longestKey (start .pre .0 .key)),
+    )
 
 pub put-scope-spec : {M : Type 1} → statement M
 put-scope-spec =

@@ -17,8 +17,10 @@ shared-slice-read-words c = search needs
 returns : tie.Need-returns
 unfolding decideOf
 returns c =
-    let a = c .before .before .before .before .before .before .args in
-    sym (ap (λ (n : ℕ). decideOf (faultKeyOf (settingsAt (a .setup .now) .faultKey)) (a .x) (rulesOf (a .rules .now) n) (cell (a .net .now) faultWordsAt)) (c .if1 .taken))
+    let start = c .before .before .before .before .before .before in
+    let a = start .args in
+    sym (ap (λ (n : ℕ). decideOf (faultKeyOf (settingsAt (a .setup .now) .faultKey)) (a .x) (rulesOf (a .rules .now) n)
+    (cell (a .net .now) faultWordsAt)) (c .if1 .taken))
 
 fault-at-requires : tie.Need-fault-at-requires
 fault-at-requires c κs = search needs
@@ -28,9 +30,12 @@ decide-requires c κs = search needs
 
 returns-2 : tie.Need-returns-2
 returns-2 c =
-    let a = c .before .before .before .before .before .before .before .before .before .args in
-    let f = c .before .before .fault-at .ensures in
-    c .before .decide .ensures .0 ∙ (λ j. decideOf (f .key j) (a .x) (rulesOf (a .rules .now) (cell (a .net .now) rulesAt)) (f .count j))
+    let at-decide = c .before in
+    let at-fault-at = at-decide .before in
+    let start = at-fault-at .before .before .before .before .before .before .before in
+    let a = start .args in
+    let f = at-fault-at .fault-at .ensures in
+    at-decide .decide .ensures .0 ∙ (λ j. decideOf (f .key j) (a .x) (rulesOf (a .rules .now) (cell (a .net .now) rulesAt)) (f .count j))
 
 pub decided-spec : {M : Type 1} → statement M
 decided-spec =

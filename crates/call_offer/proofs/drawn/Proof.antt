@@ -1,4 +1,4 @@
-use Rattle.spec_network.specs.Lending.{tablesOf}
+use Rattle.spec_network.specs.Lending.{lendDraws}
 use Rattle.call_offer.proofs.Considered.{is-loss, is-fault, is-sent}
 use Rattle.call_offer.proofs.Readings.{ring-is, ring-below}
 use Rattle.call_offer.specs.Offering.{asMessage, Draws}
@@ -33,22 +33,37 @@ chance-requires c κs = search needs
 
 returns : tie.Need-returns
 unfolding Draws
-returns c = let a = c .before .before .before .before .before .before .before .before .before .before .before .before .before .args in λ names tills seen waiting blocks log hm hs. is-loss (tablesOf (a .setup .now) (a .net .now) names tills (a .words .now) (a .keys .now) (a .prices .now) seen waiting (a .rings .now) (a .rules .now) blocks log) (asMessage (a .m)) (a .to) hm hs (c .before .before .before .link-at .result) (c .before .before .before .link-at .ensures) (c .before .before .chance .result) (c .before .before .chance .ensures) (c .if1 .taken)
+returns c =
+    let at-chance = c .before .before in
+    let at-link-at = at-chance .before in
+    let start = at-link-at .before .before .before .before .before .before .before .before .before .before in
+    let a = start .args in λ L hm hs. is-loss
+    (lendDraws L (a .setup .now) (a .net .now) (a .words .now) (a .keys .now) (a .prices .now) (a .rings .now) (a .rules .now)) (asMessage (a .m)) (a .to) hm hs (at-link-at .link-at .result) (at-link-at .link-at .ensures) (at-chance .chance .result)
+    (at-chance .chance .ensures) (c .if1 .taken)
 
 delay-requires : tie.Need-delay-requires
 delay-requires c κs = search needs
 
 decided-requires : tie.Need-decided-requires
 decided-requires c κs =
-    let p = c .before .before .before .before .before .before .before .before .before .before .before .before .before .before .before .before .pre in
+    let at-pre = c .before .before .before .before .before .before .before .before .before .before .before .before .before .before .before .before in
+    let p = at-pre .pre in
     (p .priced .size, record { netSize = p .netSize; used = p .rulesUsed; words = p .faultWords; size = p .rulesSize })
 
 returns-2 : tie.Need-returns-2
 unfolding Draws
 returns-2 c =
-    let a = c .before .before .before .before .before .before .before .before .before .before .before .before .before .before .before .before .before .before .args in
-    λ names tills seen waiting blocks log hm hs.
-    is-fault (tablesOf (a .setup .now) (a .net .now) names tills (a .words .now) (a .keys .now) (a .prices .now) seen waiting (a .rings .now) (a .rules .now) blocks log) (asMessage (a .m)) (a .to) hm hs (c .before .before .before .before .before .before .before .before .link-at .result) (c .before .before .before .before .before .before .before .before .link-at .ensures) (c .before .before .before .before .before .before .before .chance .result) (c .before .before .before .before .before .before .before .chance .ensures) (c .before .before .before .before .before .if1 .left) (c .before .before .before .before .delay .result) (c .before .before .before .before .delay .ensures) (c .before .decided .result) (c .before .decided .ensures) (c .if2 .taken)
+    let at-decided = c .before in
+    let at-delay = at-decided .before .before .before in
+    let at-if1 = at-delay .before in
+    let at-chance = at-if1 .before .before in
+    let at-link-at = at-chance .before in
+    let start = at-link-at .before .before .before .before .before .before .before .before .before .before in
+    let a = start .args in
+    λ L hm hs.
+    is-fault (lendDraws L (a .setup .now) (a .net .now) (a .words .now) (a .keys .now) (a .prices .now) (a .rings .now) (a .rules .now)) (asMessage (a .m)) (a .to) hm hs (at-link-at .link-at .result) (at-link-at .link-at .ensures) (at-chance .chance .result)
+    (at-chance .chance .ensures) (at-if1 .if1 .left) (at-delay .delay .result) (at-delay .delay .ensures) (at-decided .decided .result)
+    (at-decided .decided .ensures) (c .if2 .taken)
 
 draw-echoes-requires : tie.Need-draw-echoes-requires
 draw-echoes-requires c κs =
@@ -64,12 +79,23 @@ draw-echoes-requires c κs =
 returns-3 : tie.Need-returns-3
 unfolding Draws
 returns-3 c =
-    let s = c .before .before .before .before .before .before .before .before .before .before .before .before .before .before .before .before .before .before .before in
-    let a = c .before .before .before .before .before .before .before .before .before .before .before .before .before .before .before .before .before .before .before .args in
-    λ names tills seen waiting blocks log hm hs.
-    is-sent (tablesOf (a .setup .now) (a .net .now) names tills (a .words .now) (a .keys .now) (a .prices .now) seen waiting (a .rings .now) (a .rules .now) blocks log) (asMessage (a .m)) (a .to) hm hs (c .before .before .before .before .before .before .before .before .before .link-at .result) (c .before .before .before .before .before .before .before .before .before .link-at .ensures) (c .before .before .before .before .before .before .before .before .chance .result) (c .before .before .before .before .before .before .before .before .chance .ensures) (c .before .before .before .before .before .before .if1 .left) (c .before .before .before .before .before .delay .result) (c .before .before .before .before .before .delay .ensures) (c .before .before .decided .result) (c .before .before .decided .ensures) (c .before .if2 .left)
+    let at-if2 = c .before in
+    let at-decided = at-if2 .before in
+    let at-delay = at-decided .before .before .before in
+    let at-if1 = at-delay .before in
+    let at-chance = at-if1 .before .before in
+    let at-link-at = at-chance .before in
+    let start = at-link-at .before .before .before .before .before .before .before .before .before .before in
+    let s = c .before .before .before .before .before .before .before .before .before .before .before .before .before .before .before .before .before
+    .before .before in
+    let a = start .args in
+    λ L hm hs.
+    is-sent (lendDraws L (a .setup .now) (a .net .now) (a .words .now) (a .keys .now) (a .prices .now) (a .rings .now) (a .rules .now)) (asMessage (a .m)) (a .to) hm hs (at-link-at .link-at .result) (at-link-at .link-at .ensures) (at-chance .chance .result)
+    (at-chance .chance .ensures) (at-if1 .if1 .left) (at-delay .delay .result) (at-delay .delay .ensures) (at-decided .decided .result)
+    (at-decided .decided .ensures) (at-if2 .if2 .left)
     (entries (ringsOf (sizesAt (a .setup .now))) (a .rings .now) (numberOf (a .m .kind) (a .m .scope)))
-    (ring-is (tablesOf (a .setup .now) (a .net .now) names tills (a .words .now) (a .keys .now) (a .prices .now) seen waiting (a .rings .now) (a .rules .now) blocks log) (asMessage (a .m)) (ring-below (sizesAt (a .setup .now)) (a .m .kind) (a .m .scope) (s .pre .ranged .kind) (s .pre .ranged .scope)))
+    (ring-is (lendDraws L (a .setup .now) (a .net .now) (a .words .now) (a .keys .now) (a .prices .now) (a .rings .now) (a .rules .now)) (asMessage (a .m)) (ring-below (sizesAt (a .setup .now)) (a .m .kind) (a .m .scope) (s .pre .ranged .kind)
+    (s .pre .ranged .scope)))
     (c .draw-echoes .result) (c .draw-echoes .ensures)
 
 pub drawn-spec : {M : Type 1} → statement M

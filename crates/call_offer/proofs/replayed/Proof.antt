@@ -20,7 +20,13 @@ no-replay-requires : tie.Need-no-replay-requires
 no-replay-requires c κs = search needs
 
 returns : tie.Need-returns
-returns c = let a = c .before .before .before .before .before .before .before .args in λ prices. missed (settingsAt (a .setup .now)) prices (asMessage (a .m)) (a .to) (ringsOf (sizesAt (a .setup .now))) (a .rings .now) (numberOf (a .m .kind) (a .m .scope)) (a .c) (c .before .before .before .before .chance .result) (c .before .before .before .before .chance .ensures) (not-true _ (c .before .if1 .taken)) (c .no-replay .result) (c .no-replay .ensures .0) (c .no-replay .ensures .1) (c .no-replay .ensures .2)
+returns c =
+    let at-if1 = c .before in
+    let at-chance = at-if1 .before .before .before in
+    let start = at-chance .before .before .before in
+    let a = start .args in λ prices. missed (settingsAt (a .setup .now)) prices (asMessage (a .m)) (a .to) (ringsOf (sizesAt (a .setup .now)))
+    (a .rings .now) (numberOf (a .m .kind) (a .m .scope)) (a .c) (at-chance .chance .result) (at-chance .chance .ensures) (not-true _ (at-if1 .if1 .taken))
+    (c .no-replay .result) (c .no-replay .ensures .0) (c .no-replay .ensures .1) (c .no-replay .ensures .2)
 
 shared-slice-read-many : tie.Need-shared-slice-read-many
 shared-slice-read-many c = search needs
@@ -38,7 +44,16 @@ no-replay-requires-2 : tie.Need-no-replay-requires-2
 no-replay-requires-2 c κs = search needs
 
 returns-2 : tie.Need-returns-2
-returns-2 c = let a = c .before .before .before .before .before .before .before .before .before .before .before .args in λ prices. empty (settingsAt (a .setup .now)) prices (asMessage (a .m)) (a .to) (ringsOf (sizesAt (a .setup .now))) (a .rings .now) (numberOf (a .m .kind) (a .m .scope)) (a .c) (c .before .before .before .before .before .before .before .before .chance .result) (c .before .before .before .before .before .before .before .before .chance .ensures) (c .before .before .count .result) (c .before .before .before .number .result) (c .before .before .before .number .ensures .0) (c .before .before .count .ensures) (c .before .if2 .taken) (c .no-replay2 .result) (c .no-replay2 .ensures .0) (c .no-replay2 .ensures .1) (c .no-replay2 .ensures .2)
+returns-2 c =
+    let at-if2 = c .before in
+    let at-count = at-if2 .before in
+    let at-number = at-count .before in
+    let at-chance = at-number .before .before .before .before .before in
+    let start = at-chance .before .before .before in
+    let a = start .args in λ prices. empty (settingsAt (a .setup .now)) prices (asMessage (a .m)) (a .to) (ringsOf (sizesAt (a .setup .now)))
+    (a .rings .now) (numberOf (a .m .kind) (a .m .scope)) (a .c) (at-chance .chance .result) (at-chance .chance .ensures) (at-count .count .result)
+    (at-number .number .result) (at-number .number .ensures .0) (at-count .count .ensures) (at-if2 .if2 .taken) (c .no-replay2 .result)
+    (c .no-replay2 .ensures .0) (c .no-replay2 .ensures .1) (c .no-replay2 .ensures .2)
 
 cast-index : tie.Need-cast-index
 cast-index c = omega (arith, c .before .count .ensures, ap (countOf (c .before .before .before .before .before .before .before .before .before .before .args .rings .now)) (c .before .before .number .ensures .0), c .before .before .before .before .before .before .before .before .before .before .pre .1 .heads (numberOf (c .before .before .before .before .before .before .before .before .before .before .args .m .kind) (c .before .before .before .before .before .before .before .before .before .before .args .m .scope)) (ring-below (sizesAt (c .before .before .before .before .before .before .before .before .before .before .args .setup .now)) (c .before .before .before .before .before .before .before .before .before .before .args .m .kind) (c .before .before .before .before .before .before .before .before .before .before .args .m .scope) (c .before .before .before .before .before .before .before .before .before .before .pre .2 .kind) (c .before .before .before .before .before .before .before .before .before .before .pre .2 .scope)) .counted)

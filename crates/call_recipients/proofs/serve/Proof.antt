@@ -16,10 +16,27 @@ abbrev μ-loop : tie.MeasureT-loop
 μ-loop setup net₀ tills words₀ keys prices seen₀ waiting₀ rings₀ rules₀ blocks m n c₀ to₀ net words seen waiting rings rules c to = n - to
 
 shared-slice-read-n : tie.Need-shared-slice-read-n Inv-loop μ-loop
-shared-slice-read-n c = omega (arith, c .before .before .before .before .before .before .before .before .before .before .before .before .pre .0 .priced .size)
+shared-slice-read-n c =
+    let at-pre = c .before .before .before .before .before .before .before .before .before .before .before .before in
+    omega (arith, at-pre .pre .0 .priced .size)
 
 loop-holds : tie.Need-loop-holds Inv-loop μ-loop
-loop-holds c = let a = c .before .before .before .before .before .before .before .before .before .before .before .before .args in (omega arith, omega arith, refl, refl, refl, refl, refl, refl, c .before .before .before .before .before .before .before .before .before .before .before .before .pre .3, done-none (a .setup .now) (a .tills .now) (a .keys .now) (a .prices .now) (a .blocks .now) (a .net .now) (a .words .now) (a .seen .now) (a .waiting .now) (a .rings .now) (a .rules .now) (a .m) _ refl)
+loop-holds c =
+    let start = c .before .before .before .before .before .before .before .before .before .before .before .before in
+    let a = start .args in (
+      omega arith,
+      omega arith,
+      refl,
+      refl,
+      refl,
+      refl,
+      refl,
+      refl,
+      start .pre .3,
+      done-none (a .setup .now) (a .tills .now)
+          (a .keys .now) (a .prices .now) (a .blocks .now) (a .net .now) (a .words .now) (a .seen .now) (a .waiting .now) (a .rings .now) (a .rules .now) (a .m)
+          _ refl,
+    )
 
 turn-requires : tie.Need-turn-requires Inv-loop μ-loop
 turn-requires c κs = (c .before .before .before .before .before .before .before .before .before .before .before .before .before .before .before .before .before .before .before .before .pre .0, c .before .before .before .before .before .before .before .before .before .before .before .before .before .before .before .before .before .before .before .before .pre .1, c .before .before .before .before .before .before .before .loop .inv .8, omega (arith, c .before .before .before .before .before .before .loop-test .taken), c .before .before .before .before .before .before .before .loop .inv .1)
@@ -28,7 +45,10 @@ add-to : tie.Need-add-to Inv-loop μ-loop
 add-to c = omega (arith, c .before .before .before .before .before .before .before .before .before .before .before .before .before .before .before .before .before .before .before .loop-test .taken, c .before .before .before .before .before .before .before .before .before .before .before .before .before .before .before .before .before .before .before .before .before .before .before .before .before .before .before .before .before .before .before .before .before .pre .0 .priced .tills)
 
 loop-less : tie.Need-loop-less Inv-loop μ-loop
-loop-less c = omega (arith, c .before .before .before .before .before .before .before .before .before .before .before .before .before .before .before .before .before .before .before .loop-test .taken)
+loop-less c =
+    let at-loop-test = c .before .before .before .before .before .before .before .before .before .before .before .before .before .before .before .before
+    .before .before .before in
+    omega (arith, at-loop-test .loop-test .taken)
 
 loop-again : tie.Need-loop-again Inv-loop μ-loop
 loop-again c = let a = c .before .before .before .before .before .before .before .before .before .before .before .before .before .before .before .before .before .before .before .before .before .before .before .before .before .before .before .before .before .before .before .before .before .args in let l = c .before .before .before .before .before .before .before .before .before .before .before .before .before .before .before .before .before .before .before .before .loop in (omega (arith, c .before .before .before .before .before .before .before .before .before .before .before .before .before .before .before .before .before .before .before .loop-test .taken), total-more (a .setup .now) (a .tills .now) (a .keys .now) (a .prices .now) (a .blocks .now) (a .net .now) (a .words .now) (a .seen .now) (a .waiting .now) (a .rings .now) (a .rules .now) (a .m) (l .net) (l .words) (l .seen) (l .waiting) (l .rings) (l .rules) _ _ _ _ _ _ (l .c) _ (l .to) (c .before .before .before .before .before .before .before .before .before .before .before .before .before .before .before .before .before .before .before .before .before .before .before .before .before .before .before .before .before .before .before .before .before .pre .0) (c .before .before .before .before .before .before .before .before .before .before .before .before .before .before .before .before .before .before .before .before .before .before .before .before .before .before .before .before .before .before .before .before .before .pre .1) (c .before .before .before .before .before .before .before .before .before .before .before .before .before .before .before .before .before .before .before .before .before .before .before .before .before .before .before .before .before .before .before .before .before .pre .2) (l .inv .8) (omega (arith, c .before .before .before .before .before .before .before .before .before .before .before .before .before .before .before .before .before .before .before .loop-test .taken)) (c .before .before .before .before .before .before .before .before .before .before .before .before .turn .ensures) (l .inv .1), c .before .before .before .before .before .before .before .before .before .before .before .before .turn .kept .1 .0 ∙ l .inv .2, c .before .before .before .before .before .before .before .before .before .before .before .before .turn .kept .1 .1 .1 .0 ∙ l .inv .3, c .before .before .before .before .before .before .before .before .before .before .before .before .turn .kept .1 .1 .1 .1 .1 .1 .0 ∙ l .inv .4, c .before .before .before .before .before .before .before .before .before .before .before .before .turn .kept .1 .1 .1 .1 .1 .1 .1 .0 ∙ l .inv .5, c .before .before .before .before .before .before .before .before .before .before .before .before .turn .kept .1 .1 .1 .1 .1 .1 .1 .1 .0 ∙ l .inv .6, c .before .before .before .before .before .before .before .before .before .before .before .before .turn .kept .1 .1 .1 .1 .1 .1 .1 .1 .1 .0 ∙ l .inv .7, going-more (a .setup .now) (a .tills .now) (a .keys .now) (a .prices .now) (a .blocks .now) (a .net .now) (a .words .now) (a .seen .now) (a .waiting .now) (a .rings .now) (a .rules .now) (a .m) (l .net) (l .words) (l .seen) (l .waiting) (l .rings) (l .rules) _ _ _ _ _ _ (l .c) _ (l .to) (c .before .before .before .before .before .before .before .before .before .before .before .before .before .before .before .before .before .before .before .before .before .before .before .before .before .before .before .before .before .before .before .before .before .pre .0) (c .before .before .before .before .before .before .before .before .before .before .before .before .before .before .before .before .before .before .before .before .before .before .before .before .before .before .before .before .before .before .before .before .before .pre .1) (c .before .before .before .before .before .before .before .before .before .before .before .before .before .before .before .before .before .before .before .before .before .before .before .before .before .before .before .before .before .before .before .before .before .pre .2) (l .inv .8) (omega (arith, c .before .before .before .before .before .before .before .before .before .before .before .before .before .before .before .before .before .before .before .loop-test .taken)) (c .before .before .before .before .before .before .before .before .before .before .before .before .turn .ensures), done-more (a .setup .now) (a .tills .now) (a .keys .now) (a .prices .now) (a .blocks .now) (a .net .now) (a .words .now) (a .seen .now) (a .waiting .now) (a .rings .now) (a .rules .now) (a .m) (l .net) (l .words) (l .seen) (l .waiting) (l .rings) (l .rules) _ _ _ _ _ _ (l .c) _ (l .to) (c .before .before .before .before .before .before .before .before .before .before .before .before .before .before .before .before .before .before .before .before .before .before .before .before .before .before .before .before .before .before .before .before .before .pre .0) (c .before .before .before .before .before .before .before .before .before .before .before .before .before .before .before .before .before .before .before .before .before .before .before .before .before .before .before .before .before .before .before .before .before .pre .1) (c .before .before .before .before .before .before .before .before .before .before .before .before .before .before .before .before .before .before .before .before .before .before .before .before .before .before .before .before .before .before .before .before .before .pre .2) (l .inv .8) (omega (arith, c .before .before .before .before .before .before .before .before .before .before .before .before .before .before .before .before .before .before .before .loop-test .taken)) (c .before .before .before .before .before .before .before .before .before .before .before .before .turn .ensures) (l .inv .9))

@@ -10,16 +10,31 @@ selects-requires : tie.Need-selects-requires
 selects-requires c κs = search needs
 
 returns : tie.Need-returns
-returns c = let a = c .before .before .before .before .before .before .before .before .before .before .before .before .before .args in passed-by (a .setup .now) (a .tills .now) (a .keys .now) (a .prices .now) (a .blocks .now) (a .net .now) (a .words .now) (a .seen .now) (a .waiting .now) (a .rings .now) (a .rules .now) (a .m) (a .to) (a .c) (sym (c .before .selects .ensures) ∙ not-true _ (c .if1 .taken))
+returns c =
+    let at-selects = c .before in
+    let start = at-selects .before .before .before .before .before .before .before .before .before .before .before .before in
+    let a = start .args in passed-by (a .setup .now) (a .tills .now) (a .keys .now) (a .prices .now) (a .blocks .now) (a .net .now) (a .words .now)
+    (a .seen .now) (a .waiting .now) (a .rings .now) (a .rules .now) (a .m) (a .to) (a .c) (sym (at-selects .selects .ensures) ∙ not-true _ (c .if1 .taken))
 
 consider-requires : tie.Need-consider-requires
 consider-requires c κs = (c .before .before .before .before .before .before .before .before .before .before .before .before .before .before .before .before .before .before .pre .0, c .before .before .before .before .before .before .before .before .before .before .before .before .before .before .before .before .before .before .pre .2 .state, c .before .before .before .before .before .before .before .before .before .before .before .before .before .before .before .before .before .before .pre .1, c .before .before .before .before .before .before .before .before .before .before .before .before .before .before .before .before .before .before .pre .3, c .before .before .before .before .before .before .before .before .before .before .before .before .before .before .before .before .before .before .pre .2 .fresh (c .before .before .before .before .before .before .before .before .before .before .before .before .before .before .before .before .before .before .args .to) (omega arith) (c .before .before .before .before .before .before .before .before .before .before .before .before .before .before .before .before .before .before .pre .3) (sym (c .before .before .before .before .before .before .selects .ensures) ∙ not-false _ (c .before .before .before .before .before .if1 .left)))
 
 apply-requires : tie.Need-apply-requires
-apply-requires c κs = let a = c .before .before .before .before .before .before .before .before .before .before .before .before .before .before .before .before .before .before .before .before .before .before .before .before .before .args in can-apply (a .setup .now) (a .tills .now) (a .keys .now) (a .prices .now) (a .blocks .now) (a .net .now) (a .words .now) (a .seen .now) (a .waiting .now) (a .rings .now) (a .rules .now) (a .m) (a .to) (c .before .before .before .before .before .before .before .before .before .before .before .before .before .before .before .before .before .before .before .before .before .before .before .before .before .pre .0) (c .before .before .before .before .before .before .before .before .before .before .before .before .before .before .before .before .before .before .before .before .before .before .before .before .before .pre .1) (c .before .before .before .before .before .before .before .before .before .before .before .before .before .before .before .before .before .before .before .before .before .before .before .before .before .pre .2) (c .before .before .before .before .before .before .before .before .before .before .before .before .before .before .before .before .before .before .before .before .before .before .before .before .before .pre .3) (sym (c .before .before .before .before .before .before .before .before .before .before .before .before .before .selects .ensures) ∙ not-false _ (c .before .before .before .before .before .before .before .before .before .before .before .before .if1 .left)) (c .before .before .before .before .before .before .consider .result) (c .before .before .before .before .before .before .consider .ensures)
+apply-requires c κs =
+    let at-consider = c .before .before .before .before .before .before in
+    let at-if1 = at-consider .before .before .before .before .before .before in
+    let at-selects = at-if1 .before in
+    let start = at-selects .before .before .before .before .before .before .before .before .before .before .before .before in
+    let a = start .args in can-apply (a .setup .now) (a .tills .now) (a .keys .now) (a .prices .now) (a .blocks .now) (a .net .now) (a .words .now)
+    (a .seen .now) (a .waiting .now) (a .rings .now) (a .rules .now) (a .m) (a .to) (start .pre .0) (start .pre .1) (start .pre .2) (start .pre .3)
+    (sym (at-selects .selects .ensures) ∙ not-false _ (at-if1 .if1 .left)) (at-consider .consider .result) (at-consider .consider .ensures)
 
 count-requires : tie.Need-count-requires
-count-requires c κs = omega (arith, c .before .before .before .before .before .before .before .before .before .before .before .before .before .before .before .before .before .before .before .before .before .before .before .before .before .before .before .before .before .before .before .before .before .before .before .before .before .before .pre .4, c .before .before .before .before .before .before .before .before .before .before .before .before .before .before .before .before .before .before .before .before .before .before .before .before .before .before .before .before .before .before .before .before .before .before .before .before .before .before .pre .3, c .before .before .before .before .before .before .before .before .before .before .before .before .before .before .before .before .before .before .before .before .before .before .before .before .before .before .before .before .before .before .before .before .before .before .before .before .before .before .pre .0 .priced .tills)
+count-requires c κs =
+    let at-pre = c .before .before .before .before .before .before .before .before .before .before .before .before .before .before .before .before .before
+    .before .before .before .before .before .before .before .before .before .before .before .before .before .before .before .before .before .before .before
+    .before .before in
+    omega (arith, at-pre .pre .4, at-pre .pre .3, at-pre .pre .0 .priced .tills)
 
 same-length : tie.Need-same-length
 same-length c = search needs
@@ -40,7 +55,15 @@ same-length-6 : tie.Need-same-length-6
 same-length-6 c = search needs
 
 returns-2 : tie.Need-returns-2
-returns-2 c = let a = c .before .before .before .before .before .before .before .before .before .before .before .before .before .before .before .before .before .before .before .before .before .before .before .before .before .before .before .before .before .before .before .before .before .before .before .before .before .before .before .args in taken-up (a .setup .now) (a .tills .now) (a .keys .now) (a .prices .now) (a .blocks .now) (a .net .now) (a .words .now) (a .seen .now) (a .waiting .now) (a .rings .now) (a .rules .now) (a .m) (a .to) _ _ _ _ _ _ (a .c) _ (c .before .before .before .before .before .before .before .before .before .before .before .before .before .before .before .before .before .before .before .before .consider .result) (sym (c .before .before .before .before .before .before .before .before .before .before .before .before .before .before .before .before .before .before .before .before .before .before .before .before .before .before .before .selects .ensures) ∙ not-false _ (c .before .before .before .before .before .before .before .before .before .before .before .before .before .before .before .before .before .before .before .before .before .before .before .before .before .before .if1 .left)) (c .before .before .before .before .before .before .before .before .before .before .before .before .before .before .before .before .before .before .before .before .consider .ensures) (c .before .before .before .before .before .before .before .before .before .before .before .before .before .apply .ensures) (c .count .ensures)
+returns-2 c =
+    let at-apply = c .before .before .before .before .before .before .before .before .before .before .before .before .before in
+    let at-consider = at-apply .before .before .before .before .before .before .before in
+    let at-if1 = at-consider .before .before .before .before .before .before in
+    let at-selects = at-if1 .before in
+    let start = at-selects .before .before .before .before .before .before .before .before .before .before .before .before in
+    let a = start .args in taken-up (a .setup .now) (a .tills .now) (a .keys .now) (a .prices .now) (a .blocks .now) (a .net .now) (a .words .now)
+    (a .seen .now) (a .waiting .now) (a .rings .now) (a .rules .now) (a .m) (a .to) _ _ _ _ _ _ (a .c) _ (at-consider .consider .result)
+    (sym (at-selects .selects .ensures) ∙ not-false _ (at-if1 .if1 .left)) (at-consider .consider .ensures) (at-apply .apply .ensures) (c .count .ensures)
 
 pub turn-spec : {M : Type 1} → statement M
 turn-spec =

@@ -26,10 +26,16 @@ add-start : tie.Need-add-start
 add-start c = omega (arith, marks-in (c .before .before .before .before .before .args .to) (sizesAt (c .before .before .before .before .before .args .setup .now) .tills) (sizesAt (c .before .before .before .before .before .args .setup .now) .seenSlots) (c .before .before .before .before .before .pre .2), c .before .before .before .before .before .pre .1 .size)
 
 insert-requires : tie.Need-insert-requires
-insert-requires c κs = omega (arith, marks-in (c .before .before .before .before .before .before .args .to) (sizesAt (c .before .before .before .before .before .before .args .setup .now) .tills) (sizesAt (c .before .before .before .before .before .before .args .setup .now) .seenSlots) (c .before .before .before .before .before .before .pre .2), c .before .before .before .before .before .before .pre .1 .size, c .before .before .before .before .before .before .pre .3)
+insert-requires c κs =
+    let start = c .before .before .before .before .before .before in
+    let a = start .args in
+    omega (arith, marks-in (a .to) (sizesAt (a .setup .now) .tills) (sizesAt (a .setup .now) .seenSlots) (start .pre .2), start .pre .1 .size, start .pre .3)
 
 add-seen : tie.Need-add-seen
-add-seen c = omega (arith, marks-in (c .before .before .before .before .before .before .before .before .before .args .to) (sizesAt (c .before .before .before .before .before .before .before .before .before .args .setup .now) .tills) (sizesAt (c .before .before .before .before .before .before .before .before .before .args .setup .now) .seenSlots) (c .before .before .before .before .before .before .before .before .before .pre .2), c .before .before .before .before .before .before .before .before .before .pre .1 .size, c .before .before .before .before .before .before .before .before .before .pre .3)
+add-seen c =
+    let start = c .before .before .before .before .before .before .before .before .before in
+    let a = start .args in
+    omega (arith, marks-in (a .to) (sizesAt (a .setup .now) .tills) (sizesAt (a .setup .now) .seenSlots) (start .pre .2), start .pre .1 .size, start .pre .3)
 
 mul-seen : tie.Need-mul-seen
 mul-seen c = search needs

@@ -35,7 +35,11 @@ same-length-2 : tie.Need-same-length-2
 same-length-2 c = search needs
 
 returns-2 : tie.Need-returns-2
-returns-2 c = let a = c .before .before .before .before .before .before .before .before .before .before .args in pushed-made (a .net .now) (a .waiting .now) (a .c) (a .hit) (not-false _ (c .before .before .before .before .before .before .before .if1 .left)) _ (c .before .before .insert .ensures)
+returns-2 c =
+    let at-insert = c .before .before in
+    let at-if1 = at-insert .before .before .before .before .before in
+    let start = at-if1 .before .before .before in
+    let a = start .args in pushed-made (a .net .now) (a .waiting .now) (a .c) (a .hit) (not-false _ (at-if1 .if1 .left)) _ (at-insert .insert .ensures)
 
 pub push-if-spec : {M : Type 1} → statement M
 push-if-spec =

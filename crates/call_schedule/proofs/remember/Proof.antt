@@ -28,7 +28,14 @@ same-length : tie.Need-same-length
 same-length c = search needs
 
 returns-2 : tie.Need-returns-2
-returns-2 c = let a = c .before .before .before .before .before .before .before .before .before .before .args in ring-took (settingsAt (a .setup .now)) (a .rings .now) (asMessage (a .m)) (is-yes _ _ (c .before .before .before .before .before .before .before .echoing .ensures) (c .before .before .before .before .before .before .if1 .left)) (c .before .before .before .before .number .result) _ (c .before .before .before .before .number .ensures .0) (c .before .before .push .ensures)
+returns-2 c =
+    let at-push = c .before .before in
+    let at-number = at-push .before .before in
+    let at-if1 = at-number .before .before in
+    let at-echoing = at-if1 .before in
+    let start = at-echoing .before .before .before in
+    let a = start .args in ring-took (settingsAt (a .setup .now)) (a .rings .now) (asMessage (a .m))
+    (is-yes _ _ (at-echoing .echoing .ensures) (at-if1 .if1 .left)) (at-number .number .result) _ (at-number .number .ensures .0) (at-push .push .ensures)
 
 pub remember-spec : {M : Type 1} → statement M
 remember-spec =

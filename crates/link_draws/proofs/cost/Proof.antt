@@ -27,10 +27,28 @@ shared-slice-read-cost-between-2 : tie.Need-shared-slice-read-cost-between-2
 shared-slice-read-cost-between-2 c = search needs
 
 cost-between-requires : tie.Need-cost-between-requires
-cost-between-requires c κs = let a = c .before .before .before .before .before .before .before .before .args in (region-small (a .setup .now) (a .prices .now) (a .from) (a .to) (a .bytes) (c .before .before .before .before .before .before .before .before .pre) (a .from) _ (c .before .before .before .before .before .before .before .before .pre .sender) (c .before .before .before .before .before .region .ensures), region-small (a .setup .now) (a .prices .now) (a .from) (a .to) (a .bytes) (c .before .before .before .before .before .before .before .before .pre) (a .to) _ (c .before .before .before .before .before .before .before .before .pre .receiver) (c .before .before .before .before .region2 .ensures), c .before .before .before .before .before .before .before .before .pre .priced .regions, c .before .before .before .before .before .before .before .before .pre .short)
+cost-between-requires c κs =
+    let at-region2 = c .before .before .before .before in
+    let at-region = at-region2 .before in
+    let start = at-region .before .before .before in
+    let a = start .args in (
+      region-small (a .setup .now) (a .prices .now) (a .from) (a .to) (a .bytes) (start .pre) (a .from) _ (start .pre .sender)
+          (at-region .region .ensures),
+      region-small (a .setup .now) (a .prices .now) (a .from) (a .to) (a .bytes) (start .pre) (a .to) _ (start .pre .receiver)
+          (at-region2 .region2 .ensures),
+      start .pre .priced .regions,
+      start .pre .short,
+    )
 
 returns : tie.Need-returns
-returns c = let a = c .before .before .before .before .before .before .before .before .before .args in c .cost-between .ensures ∙ (λ j. costOf (not (eqb (settingsAt (a .setup .now) .plan .planned) 0)) (a .prices .now) (settingsAt (a .setup .now) .plan .regions) (c .before .before .before .before .before .before .region .ensures j) (c .before .before .before .before .before .region2 .ensures j) (c .before .before .before .from-nanos .ensures j) (a .bytes))
+returns c =
+    let at-from-nanos = c .before .before .before in
+    let at-region2 = at-from-nanos .before .before in
+    let at-region = at-region2 .before in
+    let start = at-region .before .before .before in
+    let a = start .args in c .cost-between .ensures ∙ (λ j. costOf (not (eqb (settingsAt (a .setup .now) .plan .planned) 0)) (a .prices .now)
+    (settingsAt (a .setup .now) .plan .regions) (at-region .region .ensures j) (at-region2 .region2 .ensures j) (at-from-nanos .from-nanos .ensures j)
+    (a .bytes))
 
 pub cost-spec : {M : Type 1} → statement M
 cost-spec =

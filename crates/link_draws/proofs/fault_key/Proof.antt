@@ -96,7 +96,17 @@ low-requires-8 : tie.Need-low-requires-8
 low-requires-8 c κs = search needs
 
 returns : tie.Need-returns
-returns c = (λ j. c .before .before .before .before .before .before .before .before .before .before .before .before .before .before .low .ensures j ∷ c .before .before .before .before .before .before .before .before .before .before .before .before .low2 .ensures j ∷ c .before .before .before .before .before .before .before .before .before .before .low3 .ensures j ∷ c .before .before .before .before .before .before .before .before .low4 .ensures j ∷ c .before .before .before .before .before .before .low5 .ensures j ∷ c .before .before .before .before .low6 .ensures j ∷ c .before .before .low7 .ensures j ∷ c .low8 .ensures j ∷ []) ∙ fault-cells (c .before .before .before .before .before .before .before .before .before .before .before .before .before .before .before .before .before .args .setup .now)
+returns c =
+    let at-low7 = c .before .before in
+    let at-low6 = at-low7 .before .before in
+    let at-low5 = at-low6 .before .before in
+    let at-low4 = at-low5 .before .before in
+    let at-low3 = at-low4 .before .before in
+    let at-low2 = at-low3 .before .before in
+    let at-low = at-low2 .before .before in
+    let start = at-low .before .before .before in
+    (λ j. at-low .low .ensures j ∷ at-low2 .low2 .ensures j ∷ at-low3 .low3 .ensures j ∷ at-low4 .low4 .ensures j ∷ at-low5 .low5 .ensures j ∷ at-low6
+    .low6 .ensures j ∷ at-low7 .low7 .ensures j ∷ c .low8 .ensures j ∷ []) ∙ fault-cells (start .args .setup .now)
 
 pub fault-key-spec : {M : Type 1} → statement M
 fault-key-spec =

@@ -73,7 +73,9 @@ shared-slice-read-t33 : tie.Need-shared-slice-read-t33
 shared-slice-read-t33 c = search needs
 
 returns : tie.Need-returns
-returns c = cells-at (c .before .before .before .before .before .before .before .before .args .keys .now) (c .before .before .before .before .before .before .before .before .args .b) 7 (c .before .before .before .before .before .before .before .before .pre)
+returns c =
+    let start = c .before .before .before .before .before .before .before .before in
+    cells-at (start .args .keys .now) (start .args .b) 7 (start .pre)
 
 pub key-at-spec : {M : Type 1} → statement M
 key-at-spec =

@@ -27,7 +27,11 @@ shared-slice-read-result : tie.Need-shared-slice-read-result
 shared-slice-read-result c = search needs
 
 returns : tie.Need-returns
-returns c = region-in (settingsAt (c .before .before .before .before .before .before .args .setup .now) .plan) (c .before .before .before .before .before .before .args .prices .now) (c .before .before .before .before .before .before .args .t) (c .before .before .at-least-one .result) (c .before .before .at-least-one .ensures .0)
+returns c =
+    let at-at-least-one = c .before .before in
+    let start = at-at-least-one .before .before .before .before in
+    let a = start .args in
+    region-in (settingsAt (a .setup .now) .plan) (a .prices .now) (a .t) (at-at-least-one .at-least-one .result) (at-at-least-one .at-least-one .ensures .0)
 
 returns-2 : tie.Need-returns-2
 returns-2 c = region-out (settingsAt (c .before .before .before .before .before .args .setup .now) .plan) (c .before .before .before .before .before .args .prices .now) (c .before .before .before .before .before .args .t) (c .before .at-least-one .result) (c .before .at-least-one .ensures .0) (omega (arith, c .if1 .left))

@@ -20,7 +20,14 @@ same-length : tie.Need-same-length
 same-length c = search needs
 
 returns : tie.Need-returns
-returns c = let a = c .before .before .before .before .before .before .before .before .args in plan-made (a .seed) (a .regions) (c .before .before .before .before .before .before .at-least-one .result) (a .prices .now) (c .before .before .before .before .at .result) (c .before .before .before .before .before .before .at-least-one .ensures .0) (c .before .before .before .before .before .links-digest .ensures) (c .before .before .before .before .at .ensures .0) (c .before .before .price-rows .ensures)
+returns c =
+    let at-price-rows = c .before .before in
+    let at-at = at-price-rows .before .before in
+    let at-links-digest = at-at .before in
+    let at-at-least-one = at-links-digest .before in
+    let start = at-at-least-one .before .before in
+    let a = start .args in plan-made (a .seed) (a .regions) (at-at-least-one .at-least-one .result) (a .prices .now) (at-at .at .result)
+    (at-at-least-one .at-least-one .ensures .0) (at-links-digest .links-digest .ensures) (at-at .at .ensures .0) (at-price-rows .price-rows .ensures)
 
 pub price-links-spec : {M : Type 1} → statement M
 price-links-spec =

@@ -36,7 +36,13 @@ loop-less : tie.Need-loop-less Inv-loop μ-loop
 loop-less c = search needs
 
 loop-again : tie.Need-loop-again Inv-loop μ-loop
-loop-again c = let i = c .before .before .before .before .before .before .before .loop .inv in
+loop-again c =
+    let at-put-pair = c .before .before in
+    let at-price = at-put-pair .before .before .before in
+    let at-loop = at-price .before .before in
+    let start = at-loop .before .before in
+    let a = start .args in
+    let i = at-loop .loop .inv in
     let s = i .1 .1 .1 .1 in (
       omega arith,
       (
@@ -44,8 +50,11 @@ loop-again c = let i = c .before .before .before .before .before .before .before
         (
           search needs,
           (
-            row-writes (c .before .before .before .before .before .before .before .before .before .args .c .key) (c .before .before .before .before .before .before .before .before .before .args .regions) (c .before .before .before .before .before .before .before .before .before .args .a) (c .before .before .before .before .before .before .before .loop .b) (i .0) (c .before .before .before .before .before .before .before .loop .prices) (c .before .before .before .before .before .before .before .before .before .args .prices .now) _ (c .before .before .before .before .before .before .before .before .before .args .c .count) (c .before .before .before .before .before .before .before .loop .d) (c .before .before .before .before .before .price .result .link) (c .before .before .before .before .before .before .before .before .before .pre .2) s (c .before .before .before .before .before .price .ensures .0) (i .1 .1 .1 .0) (c .before .before .put-pair .ensures),
-            row-moves (c .before .before .before .before .before .before .before .before .before .args .c .key) (c .before .before .before .before .before .before .before .before .before .args .regions) (c .before .before .before .before .before .before .before .before .before .args .a) (c .before .before .before .before .before .before .before .loop .b) (i .0) (c .before .before .before .before .before .before .before .before .before .args .c .count) (c .before .before .before .before .before .before .before .loop .d) (c .before .before .before .before .before .price .result .next) s (c .before .before .before .before .before .price .ensures .1),
+            row-writes (a .c .key) (a .regions) (a .a) (at-loop .loop .b) (i .0) (at-loop .loop .prices) (a .prices .now) _ (a .c .count)
+                (at-loop .loop .d) (at-price .price .result .link) (start .pre .2) s (at-price .price .ensures .0) (i .1 .1 .1 .0)
+                (at-put-pair .put-pair .ensures),
+            row-moves (a .c .key) (a .regions) (a .a) (at-loop .loop .b) (i .0) (a .c .count) (at-loop .loop .d) (at-price .price .result .next) s
+                (at-price .price .ensures .1),
           ),
         ),
       ),

@@ -28,9 +28,24 @@ loop-less : tie.Need-loop-less Inv-loop μ-loop
 loop-less c = search needs
 
 loop-again : tie.Need-loop-again Inv-loop μ-loop
-loop-again c = let i = c .before .before .before .before .before .loop .inv in
-    let s = i .1 .1 .1 in
-    (omega arith, (search needs, (all-writes (c .before .before .before .before .before .before .before .args .c .key) (c .before .before .before .before .before .before .before .args .regions) (c .before .before .before .before .before .loop .a) (c .before .before .before .before .before .loop .prices) (c .before .before .before .before .before .before .before .args .prices .now) _ (c .before .before .before .before .before .loop .d) s (i .1 .1 .0) (c .before .before .price-row .ensures .0), all-moves (c .before .before .before .before .before .before .before .args .c .key) (c .before .before .before .before .before .before .before .args .regions) (c .before .before .before .before .before .loop .a) (c .before .before .before .before .before .loop .d) (c .before .before .price-row .result) s (c .before .before .price-row .ensures .1))))
+loop-again c =
+    let at-price-row = c .before .before in
+    let at-loop = at-price-row .before .before .before in
+    let start = at-loop .before .before in
+    let a = start .args in
+    let i = at-loop .loop .inv in
+    let s = i .1 .1 .1 in (
+      omega arith,
+      (
+        search needs,
+        (
+          all-writes (a .c .key) (a .regions) (at-loop .loop .a) (at-loop .loop .prices) (a .prices .now) _ (at-loop .loop .d) s
+              (i .1 .1 .0) (at-price-row .price-row .ensures .0),
+          all-moves (a .c .key) (a .regions) (at-loop .loop .a) (at-loop .loop .d)
+              (at-price-row .price-row .result) s (at-price-row .price-row .ensures .1),
+        ),
+      ),
+    )
 
 same-length : tie.Need-same-length Inv-loop μ-loop
 same-length c = search needs

@@ -19,7 +19,11 @@ same-length : tie.Need-same-length
 same-length c = search needs
 
 returns : tie.Need-returns
-returns c = linked _ (c .before .before .before .before .before .before .before .before .before .before .args .i) (c .before .before .before .before .before .before .before .before .before .before .args .l) (c .before .before .before .before .before .before .put .ensures) (c .before .before .put2 .ensures)
+returns c =
+    let at-put2 = c .before .before in
+    let at-put = at-put2 .before .before .before .before in
+    let start = at-put .before .before .before .before in
+    linked _ (start .args .i) (start .args .l) (at-put .put .ensures) (at-put2 .put2 .ensures)
 
 pub put-link-spec : {M : Type 1} → statement M
 put-link-spec = tie.close (tie.spec mul-at put-requires add-put put-requires-2 same-length returns)

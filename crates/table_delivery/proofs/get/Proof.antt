@@ -73,7 +73,9 @@ shared-slice-read-t33 : tie.Need-shared-slice-read-t33
 shared-slice-read-t33 c = search needs
 
 returns : tie.Need-returns
-returns c = read-at (c .before .before .before .before .before .before .before .before .args .ws .now) (c .before .before .before .before .before .before .before .before .args .b)
+returns c =
+    let start = c .before .before .before .before .before .before .before .before in
+    read-at (start .args .ws .now) (start .args .b)
 
 pub get-spec : {M : Type 1} → statement M
 get-spec =

@@ -54,7 +54,11 @@ same-length : tie.Need-same-length
 same-length c = search needs
 
 returns-2 : tie.Need-returns-2
-returns-2 c = let a = c .before .before .before .before .before .before .args in tally-made (a .log .now) (a .class) (a .wire) _ _ (omega arith) (omega arith) (c .before .before .wrapping-add-u64 .ensures) (c .wrapping-add-u642 .ensures)
+returns-2 c =
+    let at-wrapping-add-u64 = c .before .before in
+    let start = at-wrapping-add-u64 .before .before .before .before in
+    let a = start .args in tally-made (a .log .now) (a .class) (a .wire) _ _ (omega arith) (omega arith) (at-wrapping-add-u64 .wrapping-add-u64 .ensures)
+    (c .wrapping-add-u642 .ensures)
 
 pub add-tally-spec : {M : Type 1} → statement M
 add-tally-spec =

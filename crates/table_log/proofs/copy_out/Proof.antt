@@ -25,10 +25,16 @@ oldest-requires : tie.Need-oldest-requires Inv-loop μ-loop
 oldest-requires c κs = (c .before .before .before .before .before .pre .0, c .before .before .before .before .before .pre .1, c .before .before .before .before .before .pre .3, omega arith)
 
 mul-put : tie.Need-mul-put Inv-loop μ-loop
-mul-put c = let n = c .before .before .before .before .before .before .before .pre .3 .counted in let p = c .before .before .before .before .before .before .before .pre .2 in let l = c .before .before .before .loop .inv .2 in omega arith
+mul-put c =
+    let at-loop = c .before .before .before in
+    let at-pre = at-loop .before .before .before .before in
+    let n = at-pre .pre .3 .counted in let p = at-pre .pre .2 in let l = at-loop .loop .inv .2 in omega arith
 
 put-requires : tie.Need-put-requires Inv-loop μ-loop
-put-requires c κs = let n = c .before .before .before .before .before .before .before .pre .3 .counted in let p = c .before .before .before .before .before .before .before .pre .2 in let l = c .before .before .before .loop .inv .2 in omega arith
+put-requires c κs =
+    let at-loop = c .before .before .before in
+    let at-pre = at-loop .before .before .before .before in
+    let n = at-pre .pre .3 .counted in let p = at-pre .pre .2 in let l = at-loop .loop .inv .2 in omega arith
 
 add-i : tie.Need-add-i Inv-loop μ-loop
 add-i c = omega arith
@@ -37,14 +43,20 @@ loop-less : tie.Need-loop-less Inv-loop μ-loop
 loop-less c = omega arith
 
 loop-again : tie.Need-loop-again Inv-loop μ-loop
-loop-again c = let a = c .before .before .before .before .before .before .before .before .before .before .args in
-    let at = c .before .before .before .before .before .before .loop in
-    let n = c .before .before .before .before .before .before .before .before .before .before .pre .3 .counted in
-    let p = c .before .before .before .before .before .before .before .before .before .before .pre .2 in (
+loop-again c =
+    let at-put = c .before .before in
+    let at-oldest = at-put .before .before in
+    let at-loop = at-oldest .before .before in
+    let start = at-loop .before .before .before .before in
+    let a = start .args in
+    let at = at-loop .loop in
+    let n = start .pre .3 .counted in
+    let p = start .pre .2 in (
       at .inv .0,
       omega arith,
-      c .before .before .put .kept .0 ∙ at .inv .2,
-      c .before .before .put .ensures ∙ copied-more (a .capacity) (a .log .now) (a .out .now) (at .i) (c .before .before .before .before .oldest .result) (at .out) (omega arith) (c .before .before .before .before .oldest .ensures) (at .inv .3),
+      at-put .put .kept .0 ∙ at .inv .2,
+      at-put .put .ensures ∙ copied-more (a .capacity) (a .log .now) (a .out .now) (at .i) (at-oldest .oldest .result) (at .out) (omega arith)
+          (at-oldest .oldest .ensures) (at .inv .3),
     )
 
 same-length : tie.Need-same-length Inv-loop μ-loop

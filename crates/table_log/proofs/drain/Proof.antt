@@ -27,7 +27,17 @@ slice-read-many : tie.Need-slice-read-many
 slice-read-many c = search needs
 
 copy-out-requires : tie.Need-copy-out-requires
-copy-out-requires c κs = let a = c .before .before .before .before .before .before .before .before .args in (c .before .before .before .before .before .before .before .before .pre .0, c .before .before .before .before .before .before .before .before .pre .1, c .before .before .before .before .before .before .before .before .pre .2, sound-log (a .capacity) (a .log .now) (sym (c .before .before .before .before .is-sound .ensures) ∙ not-false _ (c .before .before .before .if1 .left)))
+copy-out-requires c κs =
+    let at-if1 = c .before .before .before in
+    let at-is-sound = at-if1 .before in
+    let start = at-is-sound .before .before .before .before in
+    let a = start .args in (
+      start .pre .0,
+      start .pre .1,
+      start .pre .2,
+      sound-log (a .capacity) (a .log .now)
+          (sym (at-is-sound .is-sound .ensures) ∙ not-false _ (at-if1 .if1 .left)),
+    )
 
 clear-requires : tie.Need-clear-requires
 clear-requires c κs = search needs
@@ -39,13 +49,19 @@ same-length-3 : tie.Need-same-length-3
 same-length-3 c = search needs
 
 returns-2 : tie.Need-returns-2
-returns-2 c = let a = c .before .before .before .before .before .before .before .before .before .before .before .before .before .before .before .args in
-    let yes : soundLog (a .capacity) (a .log .now) ≡ true = sym (c .before .before .before .before .before .before .before .before .before .before .before .is-sound .ensures) ∙ not-false _ (c .before .before .before .before .before .before .before .before .before .before .if1 .left) in
+returns-2 c =
+    let at-clear = c .before .before in
+    let at-copy-out = at-clear .before .before .before .before in
+    let at-if1 = at-copy-out .before .before .before .before in
+    let at-is-sound = at-if1 .before in
+    let start = at-is-sound .before .before .before .before in
+    let a = start .args in
+    let yes : soundLog (a .capacity) (a .log .now) ≡ true = sym (at-is-sound .is-sound .ensures) ∙ not-false _ (at-if1 .if1 .left) in
     let w = a .log .now in (
       by-head (a .capacity) w true (countAt 0 w) 0 yes,
       (
-        c .before .before .before .before .before .before .copy-out .ensures ∙ by-head (a .capacity) w true (over delivery.form (recordsOf (a .capacity) w) (a .out .now)) (a .out .now) yes,
-        c .before .before .clear .ensures ∙ by-head (a .capacity) w true (clearedAt w) w yes,
+        at-copy-out .copy-out .ensures ∙ by-head (a .capacity) w true (over delivery.form (recordsOf (a .capacity) w) (a .out .now)) (a .out .now) yes,
+        at-clear .clear .ensures ∙ by-head (a .capacity) w true (clearedAt w) w yes,
       ),
     )
 

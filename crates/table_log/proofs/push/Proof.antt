@@ -23,11 +23,21 @@ note-forced-requires : tie.Need-note-forced-requires
 note-forced-requires c κs = search needs
 
 next-requires : tie.Need-next-requires
-next-requires c κs = let a = c .before .before .before .before .before .before .before .before .before .before .before .before .before .args in
-    let s = true-sound (a .capacity) 0 (a .log .now) (sym (c .before .before .before .before .before .before .before .before .before .before .is-sound .ensures) ∙ not-false _ (c .before .before .before .before .before .before .before .before .before .if1 .left)) in
-    let l = c .before .before .before .before .before .before .before .add-tally .kept .0 in
-    let k = c .before .before .before .note-forced .kept .0 in
-    (omega arith, c .before .before .before .before .before .before .before .before .before .before .before .before .before .pre .0, ready (a .capacity) (a .log .now) (a .d) (c .before .before .before .before .before .before .before .before .before .before .before .before .before .pre .1) s (c .before .before .before .before .before .before .before .add-tally .last .0) (c .before .before .before .note-forced .last .0) (c .before .before .before .before .before .before .before .add-tally .ensures) (c .before .before .before .note-forced .ensures))
+next-requires c κs =
+    let at-note-forced = c .before .before .before in
+    let at-add-tally = at-note-forced .before .before .before .before in
+    let at-if1 = at-add-tally .before .before in
+    let at-is-sound = at-if1 .before in
+    let start = at-is-sound .before .before .before in
+    let a = start .args in
+    let s = true-sound (a .capacity) 0 (a .log .now) (sym (at-is-sound .is-sound .ensures) ∙ not-false _ (at-if1 .if1 .left)) in
+    let l = at-add-tally .add-tally .kept .0 in
+    let k = at-note-forced .note-forced .kept .0 in (
+      omega arith,
+      start .pre .0,
+      ready (a .capacity) (a .log .now) (a .d) (start .pre .1) s (at-add-tally .add-tally .last .0)
+          (at-note-forced .note-forced .last .0) (at-add-tally .add-tally .ensures) (at-note-forced .note-forced .ensures),
+    )
 
 mul-put : tie.Need-mul-put
 mul-put c = search needs
@@ -45,8 +55,19 @@ same-length-2 : tie.Need-same-length-2
 same-length-2 c = search needs
 
 returns-2 : tie.Need-returns-2
-returns-2 c = let a = c .before .before .before .before .before .before .before .before .before .before .before .before .before .before .before .before .before .before .before .before .before .before .before .args in
-    wrote (a .capacity) (a .log .now) (a .d) (c .before .before .before .before .before .before .before .before .before .before .before .before .before .before .before .before .before .add-tally .last .0) (c .before .before .before .before .before .before .before .before .before .before .before .before .before .note-forced .last .0) (c .before .before .before .before .before .before .put .last .0) _ (c .before .before .before .before .before .before .before .before .before .next .result) (sym (c .before .before .before .before .before .before .before .before .before .before .before .before .before .before .before .before .before .before .before .before .is-sound .ensures) ∙ not-false _ (c .before .before .before .before .before .before .before .before .before .before .before .before .before .before .before .before .before .before .before .if1 .left)) (c .before .before .before .before .before .before .before .before .before .before .before .before .before .before .before .before .before .add-tally .ensures) (c .before .before .before .before .before .before .before .before .before .before .before .before .before .note-forced .ensures) (c .before .before .before .before .before .before .before .before .before .next .ensures .0) (c .before .before .before .before .before .before .put .ensures) (c .before .before .set-head .ensures)
+returns-2 c =
+    let at-set-head = c .before .before in
+    let at-put = at-set-head .before .before .before .before in
+    let at-next = at-put .before .before .before in
+    let at-note-forced = at-next .before .before .before .before in
+    let at-add-tally = at-note-forced .before .before .before .before in
+    let at-if1 = at-add-tally .before .before in
+    let at-is-sound = at-if1 .before in
+    let start = at-is-sound .before .before .before in
+    let a = start .args in
+    wrote (a .capacity) (a .log .now) (a .d) (at-add-tally .add-tally .last .0) (at-note-forced .note-forced .last .0) (at-put .put .last .0) _
+    (at-next .next .result) (sym (at-is-sound .is-sound .ensures) ∙ not-false _ (at-if1 .if1 .left)) (at-add-tally .add-tally .ensures)
+    (at-note-forced .note-forced .ensures) (at-next .next .ensures .0) (at-put .put .ensures) (at-set-head .set-head .ensures)
 
 pub push-spec : {M : Type 1} → statement M
 push-spec =

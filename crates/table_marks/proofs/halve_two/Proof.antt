@@ -81,7 +81,11 @@ pick-requires-3 c κs = search needs
 
 returns-2 : tie.Need-returns-2
 returns-2 c =
-    let t = c .before .before .before .before .before .before .before .before .args in
+    let at-pick2 = c .before .before in
+    let at-pick = at-pick2 .before .before in
+    let at-if1 = at-pick .before .before in
+    let start-2 = at-if1 .before .before in
+    let t = start-2 .args in
     let w = t .seen .now in
     let lo = t .s .lo in
     let n = t .s .n in
@@ -91,10 +95,11 @@ returns-2 c =
     let x = ltb (getD w (t .start + mid) 0) (t .id) in
     let y = ltb (getD w (t .start + high) 0) (t .id) in
     let z = ltb (getD w (t .start + low) 0) (t .id) in
-    let some = c .before .before .before .before .before .before .if1 .left in
+    let some = at-if1 .if1 .left in
     let is : c .pick3 .result ≡ cond x (cond y (high + 1) (mid + 1)) (cond z (low + 1) lo)
-    = c .pick3 .ensures ∙ ap₂ (λ (r l : ℕ). cond x r l) (c .before .before .pick2 .ensures) (c .before .before .before .before .pick .ensures) in (
-      two-lead (drop (t .start) w) (t .id) (t .s) mid low high (getD w (t .start + mid) 0) (getD w (t .start + low) 0) (getD w (t .start + high) 0) some refl refl refl (sym (getD-drop (t .start) w mid 0)) (sym (getD-drop (t .start) w low 0)) (sym (getD-drop (t .start) w high 0)) (c .pick3 .result) is,
+    = c .pick3 .ensures ∙ ap₂ (λ (r l : ℕ). cond x r l) (at-pick2 .pick2 .ensures) (at-pick .pick .ensures) in (
+      two-lead (drop (t .start) w) (t .id) (t .s) mid low high (getD w (t .start + mid) 0) (getD w (t .start + low) 0) (getD w (t .start + high) 0) some
+          refl refl refl (sym (getD-drop (t .start) w mid 0)) (sym (getD-drop (t .start) w low 0)) (sym (getD-drop (t .start) w high 0)) (c .pick3 .result) is,
       let q = two-in x y z lo n some in omega (arith, q, is),
     )
 

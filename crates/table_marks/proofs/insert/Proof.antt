@@ -23,16 +23,24 @@ same-length c = search needs
 
 returns : tie.Need-returns
 returns c =
-    let a = c .before .before .before .before .before .before .before .before .before .before .args in
-    more-merged (a .seen .now) (a .start) (a .count) (a .id) (c .before .before .before .before .before .before .before .before .before .before .pre) (c .before .before .before .before .before .before .before .insert-in .last .0) (c .before .before .settle-at .last .0) (c .before .before .before .before .if1 .taken) (c .before .before .before .before .before .before .before .insert-in .ensures) (c .before .before .settle-at .ensures)
+    let at-settle-at = c .before .before in
+    let at-if1 = at-settle-at .before .before in
+    let at-insert-in = at-if1 .before .before .before in
+    let start-2 = at-insert-in .before .before .before in
+    let a = start-2 .args in
+    more-merged (a .seen .now) (a .start) (a .count) (a .id) (start-2 .pre) (at-insert-in .insert-in .last .0) (at-settle-at .settle-at .last .0)
+    (at-if1 .if1 .taken) (at-insert-in .insert-in .ensures) (at-settle-at .settle-at .ensures)
 
 same-length-2 : tie.Need-same-length-2
 same-length-2 c = search needs
 
 returns-2 : tie.Need-returns-2
 returns-2 c =
-    let a = c .before .before .before .before .before .before .args in
-    more-apart (a .seen .now) (a .start) (a .count) (a .id) (c .before .before .before .before .before .before .pre) (c .before .before .before .insert-in .last .0) (c .if1 .left) (c .before .before .before .insert-in .ensures)
+    let at-insert-in = c .before .before .before in
+    let start-2 = at-insert-in .before .before .before in
+    let a = start-2 .args in
+    more-apart (a .seen .now) (a .start) (a .count) (a .id) (start-2 .pre) (at-insert-in .insert-in .last .0) (c .if1 .left)
+    (at-insert-in .insert-in .ensures)
 
 pub insert-spec : {M : Type 1} → statement M
 insert-spec =

@@ -16,7 +16,12 @@ same-length : tie.Need-same-length
 same-length c = search needs
 
 returns : tie.Need-returns
-returns c = let a = c .before .before .before .before .before .before .before .args in c .before .before .insert-at .ensures ∙ ap (λ (k : ℕ). putWords (a .seen .now) (a .start) (placedAt k (a .id) (idsOf (a .seen .now) (a .start) (a .count)))) (c .before .before .before .before .find .ensures .0)
+returns c =
+    let at-insert-at = c .before .before in
+    let at-find = at-insert-at .before .before in
+    let start-2 = at-find .before .before .before in
+    let a = start-2 .args in at-insert-at .insert-at .ensures ∙ ap (λ (k : ℕ). putWords (a .seen .now) (a .start)
+    (placedAt k (a .id) (idsOf (a .seen .now) (a .start) (a .count)))) (at-find .find .ensures .0)
 
 pub insert-in-spec : {M : Type 1} → statement M
 insert-in-spec = tie.close (tie.spec find-requires insert-at-requires same-length returns)

@@ -36,8 +36,13 @@ same-length c = search needs
 
 returns-2 : tie.Need-returns-2
 returns-2 c =
-    let a = c .before .before .before .before .before .before .before .before .before .before .before .args in
-    filled-some (a .seen .now) (a .start) (a .left) (a .n) (c .before .before .before .before .before .before .before .before .before .before .before .pre) _ (c .before .before .before .before .before .before .insert-in .last .0) (c .before .before .move-down .last .0) (c .before .before .before .before .before .before .before .before .before .if1 .left) refl (c .before .before .before .before .before .before .insert-in .ensures) (c .before .before .move-down .ensures)
+    let at-move-down = c .before .before in
+    let at-insert-in = at-move-down .before .before .before .before in
+    let at-if1 = at-insert-in .before .before .before in
+    let start-2 = at-if1 .before .before in
+    let a = start-2 .args in
+    filled-some (a .seen .now) (a .start) (a .left) (a .n) (start-2 .pre) _ (at-insert-in .insert-in .last .0) (at-move-down .move-down .last .0)
+    (at-if1 .if1 .left) refl (at-insert-in .insert-in .ensures) (at-move-down .move-down .ensures)
 
 pub refill-spec : {M : Type 1} → statement M
 refill-spec =

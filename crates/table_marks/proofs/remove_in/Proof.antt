@@ -28,9 +28,13 @@ same-length-2 : tie.Need-same-length-2
 same-length-2 c = search needs
 
 returns-2 : tie.Need-returns-2
-returns-2 c = let a = c .before .before .before .before .before .before .args in
-    let p = c .before .before .before .find .result in
-    kept (a .seen .now) (a .start) (a .count) (a .id) (c .before .before .before .before .before .before .pre) p (c .before .before .before .find .ensures .0) (sym (ne-eqb _ _ (c .if2 .taken)) ∙ stands (a .seen .now) (a .start) (a .count) (a .id) (c .before .before .before .before .before .before .pre) p (c .before .before .before .find .ensures .0) (omega arith))
+returns-2 c =
+    let at-find = c .before .before .before in
+    let start-2 = at-find .before .before .before in
+    let a = start-2 .args in
+    let p = at-find .find .result in
+    kept (a .seen .now) (a .start) (a .count) (a .id) (start-2 .pre) p (at-find .find .ensures .0)
+    (sym (ne-eqb _ _ (c .if2 .taken)) ∙ stands (a .seen .now) (a .start) (a .count) (a .id) (start-2 .pre) p (at-find .find .ensures .0) (omega arith))
 
 add-move-down : tie.Need-add-move-down
 add-move-down c = search needs
@@ -48,9 +52,16 @@ same-length-3 : tie.Need-same-length-3
 same-length-3 c = search needs
 
 returns-3 : tie.Need-returns-3
-returns-3 c = let a = c .before .before .before .before .before .before .before .before .before .before .args in
-    let p = c .before .before .before .before .before .before .before .find .result in
-    gone (a .seen .now) (a .start) (a .count) (a .id) (c .before .before .before .before .before .before .before .before .before .before .pre) p (c .before .before .before .before .before .before .before .find .ensures .0) (omega arith) (sym (eq-eqb _ _ (c .before .before .before .before .if2 .left)) ∙ stands (a .seen .now) (a .start) (a .count) (a .id) (c .before .before .before .before .before .before .before .before .before .before .pre) p (c .before .before .before .before .before .before .before .find .ensures .0) (omega arith)) (c .before .before .move-down .last .0) (c .before .before .move-down .ensures)
+returns-3 c =
+    let at-move-down = c .before .before in
+    let at-if2 = at-move-down .before .before in
+    let at-find = at-if2 .before .before .before in
+    let start-2 = at-find .before .before .before in
+    let a = start-2 .args in
+    let p = at-find .find .result in
+    gone (a .seen .now) (a .start) (a .count) (a .id) (start-2 .pre) p (at-find .find .ensures .0) (omega arith)
+    (sym (eq-eqb _ _ (at-if2 .if2 .left)) ∙ stands (a .seen .now) (a .start) (a .count) (a .id) (start-2 .pre) p (at-find .find .ensures .0)
+    (omega arith)) (at-move-down .move-down .last .0) (at-move-down .move-down .ensures)
 
 pub remove-in-spec : {M : Type 1} → statement M
 remove-in-spec =

@@ -20,9 +20,12 @@ same-length c = search needs
 
 returns : tie.Need-returns
 returns c =
+    let at-merge = c .before .before in
+    let at-lift = at-merge .before .before .before .before .before in
+    let at-copied = at-lift .before .before in
     let s = c .before .before .before .before .before .before .before .before .before .before .before .before in
-    settled (s .args .ws .now) (s .args .k) (s .args .n) (s .pre .1) (c .before .before .before .before .before .before .before .before .before .copied .result) (c .before .before .before .before .before .before .before .lift .last .0) (c .before .before .merge .last .0)
-    (c .before .before .before .before .before .before .before .before .before .copied .ensures .1) (c .before .before .before .before .before .before .before .lift .ensures) (c .before .before .merge .ensures)
+    settled (s .args .ws .now) (s .args .k) (s .args .n) (s .pre .1) (at-copied .copied .result) (at-lift .lift .last .0) (at-merge .merge .last .0)
+    (at-copied .copied .ensures .1) (at-lift .lift .ensures) (at-merge .merge .ensures)
 
 pub settle-spec : {M : Type 1} → statement M
 settle-spec =

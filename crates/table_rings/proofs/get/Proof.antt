@@ -33,17 +33,32 @@ no-entry-requires : tie.Need-no-entry-requires
 no-entry-requires c κs = search needs
 
 returns : tie.Need-returns
-returns c = let a = c .before .before .before .before .before .before .args in c .no-entry .ensures ∙ got-out (a .rings) (a .ws .now) (a .r) (a .k) (sym (c .before .before .is-sound .ensures) ∙ not-true _ (c .before .if1 .taken))
+returns c =
+    let at-if1 = c .before in
+    let at-is-sound = at-if1 .before in
+    let start = at-is-sound .before .before .before .before in
+    let a = start .args in c .no-entry .ensures ∙ got-out (a .rings) (a .ws .now) (a .r) (a .k)
+    (sym (at-is-sound .is-sound .ensures) ∙ not-true _ (at-if1 .if1 .taken))
 
 no-entry-requires-2 : tie.Need-no-entry-requires-2
 no-entry-requires-2 c κs = search needs
 
 returns-2 : tie.Need-returns-2
-returns-2 c = let a = c .before .before .before .before .before .before .before .args in c .no-entry2 .ensures ∙ got-none (a .rings) (a .ws .now) (a .r) (a .k) (sym (c .before .before .before .is-sound .ensures) ∙ not-false _ (c .before .before .if1 .left)) (c .before .if2 .taken)
+returns-2 c =
+    let at-if2 = c .before in
+    let at-if1 = at-if2 .before in
+    let at-is-sound = at-if1 .before in
+    let start = at-is-sound .before .before .before .before in
+    let a = start .args in c .no-entry2 .ensures ∙ got-none (a .rings) (a .ws .now) (a .r) (a .k)
+    (sym (at-is-sound .is-sound .ensures) ∙ not-false _ (at-if1 .if1 .left)) (at-if2 .if2 .taken)
 
 slot-requires : tie.Need-slot-requires
-slot-requires c κs = let a = c .before .before .before .before .before .before .args in
-    let s = true-sound slots (headOf (a .r)) (a .ws .now) (sym (c .before .before .is-sound .ensures) ∙ not-false _ (c .before .if1 .left)) in
+slot-requires c κs =
+    let at-if1 = c .before in
+    let at-is-sound = at-if1 .before in
+    let start = at-is-sound .before .before .before .before in
+    let a = start .args in
+    let s = true-sound slots (headOf (a .r)) (a .ws .now) (sym (at-is-sound .is-sound .ensures) ∙ not-false _ (at-if1 .if1 .left)) in
     (s .begun, let n = s .counted in omega arith, omega arith)
 
 mul-read-entry : tie.Need-mul-read-entry
@@ -65,8 +80,14 @@ read-entry-requires : tie.Need-read-entry-requires
 read-entry-requires c κs = search needs
 
 returns-3 : tie.Need-returns-3
-returns-3 c = let a = c .before .before .before .before .before .before .before .before .args in
-    got (a .rings) (a .ws .now) (a .r) (a .k) (c .read-entry .result) (c .before .slot .result) (sym (c .before .before .before .before .is-sound .ensures) ∙ not-false _ (c .before .before .before .if1 .left)) (omega arith) (c .before .slot .ensures .0) (c .read-entry .ensures)
+returns-3 c =
+    let at-slot = c .before in
+    let at-if1 = at-slot .before .before in
+    let at-is-sound = at-if1 .before in
+    let start = at-is-sound .before .before .before .before in
+    let a = start .args in
+    got (a .rings) (a .ws .now) (a .r) (a .k) (c .read-entry .result) (at-slot .slot .result)
+    (sym (at-is-sound .is-sound .ensures) ∙ not-false _ (at-if1 .if1 .left)) (omega arith) (at-slot .slot .ensures .0) (c .read-entry .ensures)
 
 pub get-spec : {M : Type 1} → statement M
 get-spec =

@@ -48,8 +48,17 @@ same-length-2 : tie.Need-same-length-2
 same-length-2 c = search needs
 
 returns-2 : tie.Need-returns-2
-returns-2 c = let a = c .before .before .before .before .before .before .before .before .before .before .before .before .before .before .before .args in
-    wrote (a .rings) (a .ws .now) (a .r) (a .e) (c .before .before .before .before .before .before .before .before .before .next .result) (c .before .before .before .before .before .before .put .last .0) _ (sym (c .before .before .before .before .before .before .before .before .before .before .before .before .is-sound .ensures) ∙ not-false _ (c .before .before .before .before .before .before .before .before .before .before .before .if1 .left)) (c .before .before .before .before .before .before .before .before .before .next .ensures .0) (c .before .before .before .before .before .before .put .ensures) (c .before .before .set-head .ensures)
+returns-2 c =
+    let at-set-head = c .before .before in
+    let at-put = at-set-head .before .before .before .before in
+    let at-next = at-put .before .before .before in
+    let at-if1 = at-next .before .before in
+    let at-is-sound = at-if1 .before in
+    let start = at-is-sound .before .before .before in
+    let a = start .args in
+    wrote (a .rings) (a .ws .now) (a .r) (a .e) (at-next .next .result) (at-put .put .last .0) _
+    (sym (at-is-sound .is-sound .ensures) ∙ not-false _ (at-if1 .if1 .left)) (at-next .next .ensures .0) (at-put .put .ensures)
+    (at-set-head .set-head .ensures)
 
 pub push-spec : {M : Type 1} → statement M
 push-spec =

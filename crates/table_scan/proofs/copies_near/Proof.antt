@@ -32,11 +32,18 @@ is-near-requires c κs = tt
 
 returns : tie.Need-returns Inv-loop μ-loop
 unfolding copiesNear
-returns c = let a = c .before .before .before .before .before .before .args in
+returns c =
+    let at-is-near = c .before in
+    let at-get = at-is-near .before in
+    let at-loop = at-get .before .before in
+    let start = at-loop .before .before in
+    let a = start .args in
     let w = a .ws .now in
-    let i = c .before .before .before .before .loop .i in
+    let i = at-loop .loop .i in
     let row = waiting.read (drop (i * waiting.width) w) in
-    stops (λ (x : Copy). near (a .l) (x .delivery)) (waiting.copies w (a .n)) (a .n) (copies-long w (a .n)) i row (c .before .is-near .result) (omega arith) (copy-row w (a .n) i row (omega arith) refl) (c .before .is-near .ensures ∙ ap (near (a .l)) (c .before .before .get .ensures)) (not-true _ (c .if1 .taken))
+    stops (λ (x : Copy). near (a .l) (x .delivery)) (waiting.copies w (a .n)) (a .n) (copies-long w (a .n)) i row (at-is-near .is-near .result)
+    (omega arith) (copy-row w (a .n) i row (omega arith) refl) (at-is-near .is-near .ensures ∙ ap (near (a .l)) (at-get .get .ensures))
+    (not-true _ (c .if1 .taken))
 
 add-i : tie.Need-add-i Inv-loop μ-loop
 add-i c = omega arith
@@ -45,12 +52,19 @@ loop-less : tie.Need-loop-less Inv-loop μ-loop
 loop-less c = omega arith
 
 loop-again : tie.Need-loop-again Inv-loop μ-loop
-loop-again c = let a = c .before .before .before .before .before .before .args in
+loop-again c =
+    let at-is-near = c .before in
+    let at-get = at-is-near .before in
+    let at-loop = at-get .before .before in
+    let start = at-loop .before .before in
+    let a = start .args in
     let w = a .ws .now in
-    let i = c .before .before .before .before .loop .i in
+    let i = at-loop .loop .i in
     let row = waiting.read (drop (i * waiting.width) w) in (
       omega arith,
-      goes-on (λ (x : Copy). near (a .l) (x .delivery)) (waiting.copies w (a .n)) (a .n) (copies-long w (a .n)) i row (c .before .is-near .result) (omega arith) (copy-row w (a .n) i row (omega arith) refl) (c .before .is-near .ensures ∙ ap (near (a .l)) (c .before .before .get .ensures)) (not-false _ (c .if1 .left)) (c .before .before .before .before .loop .inv .1),
+      goes-on (λ (x : Copy). near (a .l) (x .delivery)) (waiting.copies w (a .n)) (a .n) (copies-long w (a .n)) i row (at-is-near .is-near .result)
+          (omega arith) (copy-row w (a .n) i row (omega arith) refl) (at-is-near .is-near .ensures ∙ ap (near (a .l)) (at-get .get .ensures))
+          (not-false _ (c .if1 .left)) (at-loop .loop .inv .1),
     )
 
 returns-2 : tie.Need-returns-2 Inv-loop μ-loop

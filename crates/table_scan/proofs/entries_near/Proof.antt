@@ -31,9 +31,16 @@ is-near-entry-requires : tie.Need-is-near-entry-requires Inv-loop μ-loop
 is-near-entry-requires c κs = tt
 
 returns : tie.Need-returns Inv-loop μ-loop
-returns c = let a = c .before .before .before .before .before .before .before .args in
+returns c =
+    let at-is-near-entry = c .before in
+    let at-get = at-is-near-entry .before in
+    let at-loop = at-get .before .before in
+    let start = at-loop .before .before .before in
+    let a = start .args in
     let w = a .ws .now in
-    stops (nearEntry (a .l)) (entries (a .rings) w (a .r)) (countOf w (a .r)) (entries-long (a .rings) w (a .r)) (c .before .before .before .before .loop .k) (c .before .before .get .result) (c .before .is-near-entry .result) (omega arith) (entry-row (a .rings) w (a .r) (c .before .before .before .before .loop .k) (c .before .before .get .result) (c .before .before .before .before .before .before .before .pre .1) (omega arith) (c .before .before .get .ensures)) (c .before .is-near-entry .ensures) (not-true _ (c .if1 .taken))
+    stops (nearEntry (a .l)) (entries (a .rings) w (a .r)) (countOf w (a .r)) (entries-long (a .rings) w (a .r)) (at-loop .loop .k) (at-get .get .result)
+    (at-is-near-entry .is-near-entry .result) (omega arith) (entry-row (a .rings) w (a .r) (at-loop .loop .k) (at-get .get .result) (start .pre .1)
+    (omega arith) (at-get .get .ensures)) (at-is-near-entry .is-near-entry .ensures) (not-true _ (c .if1 .taken))
 
 add-k : tie.Need-add-k Inv-loop μ-loop
 add-k c = omega arith
@@ -42,11 +49,19 @@ loop-less : tie.Need-loop-less Inv-loop μ-loop
 loop-less c = omega arith
 
 loop-again : tie.Need-loop-again Inv-loop μ-loop
-loop-again c = let a = c .before .before .before .before .before .before .before .args in
+loop-again c =
+    let at-is-near-entry = c .before in
+    let at-get = at-is-near-entry .before in
+    let at-loop = at-get .before .before in
+    let start = at-loop .before .before .before in
+    let a = start .args in
     let w = a .ws .now in (
-      c .before .before .before .before .loop .inv .0,
+      at-loop .loop .inv .0,
       omega arith,
-      goes-on (nearEntry (a .l)) (entries (a .rings) w (a .r)) (countOf w (a .r)) (entries-long (a .rings) w (a .r)) (c .before .before .before .before .loop .k) (c .before .before .get .result) (c .before .is-near-entry .result) (omega arith) (entry-row (a .rings) w (a .r) (c .before .before .before .before .loop .k) (c .before .before .get .result) (c .before .before .before .before .before .before .before .pre .1) (omega arith) (c .before .before .get .ensures)) (c .before .is-near-entry .ensures) (not-false _ (c .if1 .left)) (c .before .before .before .before .loop .inv .2),
+      goes-on (nearEntry (a .l)) (entries (a .rings) w (a .r)) (countOf w (a .r)) (entries-long (a .rings) w (a .r)) (at-loop .loop .k)
+          (at-get .get .result) (at-is-near-entry .is-near-entry .result) (omega arith)
+          (entry-row (a .rings) w (a .r) (at-loop .loop .k) (at-get .get .result) (start .pre .1) (omega arith) (at-get .get .ensures))
+          (at-is-near-entry .is-near-entry .ensures) (not-false _ (c .if1 .left)) (at-loop .loop .inv .2),
     )
 
 returns-2 : tie.Need-returns-2 Inv-loop μ-loop

@@ -31,7 +31,10 @@ run-near-requires : tie.Need-run-near-requires
 run-near-requires c κs = search needs
 
 returns-2 : tie.Need-returns-2
-returns-2 c = in-one (near (c .before .before .before .before .before .before .args .l)) (c .before .before .before .before .before .before .args .capacity) (c .before .before .before .before .before .before .args .ws .now) (c .run-near .result) (omega (arith, c .before .before .before .before .before .before .pre .2 .begun (omega arith))) (c .run-near .ensures)
+returns-2 c =
+    let start = c .before .before .before .before .before .before in
+    let a = start .args in
+    in-one (near (a .l)) (a .capacity) (a .ws .now) (c .run-near .result) (omega (arith, start .pre .2 .begun (omega arith))) (c .run-near .ensures)
 
 run-near-requires-2 : tie.Need-run-near-requires-2
 run-near-requires-2 c κs = omega (arith, c .before .before .before .before .before .pre .2 .begun (omega arith))

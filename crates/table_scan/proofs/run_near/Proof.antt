@@ -35,10 +35,17 @@ is-near-requires : tie.Need-is-near-requires Inv-loop μ-loop
 is-near-requires c κs = tt
 
 returns : tie.Need-returns Inv-loop μ-loop
-returns c = let a = c .before .before .before .before .before .before .args in
+returns c =
+    let at-is-near = c .before in
+    let at-get = at-is-near .before in
+    let at-loop = at-get .before .before in
+    let start = at-loop .before .before in
+    let a = start .args in
     let w = a .ws .now in
-    let i = c .before .before .before .before .loop .i in
-    stops (near (a .l)) (rowsOf delivery.form (drop (a .at) w) (a .n)) (a .n) (run-long w (a .at) (a .n)) i (c .before .before .get .result) (c .before .is-near .result) (omega arith) (run-row w (a .at) (a .n) i (c .before .before .get .result) (omega arith) (c .before .before .get .ensures)) (c .before .is-near .ensures) (not-true _ (c .if1 .taken))
+    let i = at-loop .loop .i in
+    stops (near (a .l)) (rowsOf delivery.form (drop (a .at) w) (a .n)) (a .n) (run-long w (a .at) (a .n)) i (at-get .get .result)
+    (at-is-near .is-near .result) (omega arith) (run-row w (a .at) (a .n) i (at-get .get .result) (omega arith) (at-get .get .ensures))
+    (at-is-near .is-near .ensures) (not-true _ (c .if1 .taken))
 
 add-i : tie.Need-add-i Inv-loop μ-loop
 add-i c = omega arith
@@ -47,11 +54,18 @@ loop-less : tie.Need-loop-less Inv-loop μ-loop
 loop-less c = omega arith
 
 loop-again : tie.Need-loop-again Inv-loop μ-loop
-loop-again c = let a = c .before .before .before .before .before .before .args in
+loop-again c =
+    let at-is-near = c .before in
+    let at-get = at-is-near .before in
+    let at-loop = at-get .before .before in
+    let start = at-loop .before .before in
+    let a = start .args in
     let w = a .ws .now in
-    let i = c .before .before .before .before .loop .i in (
+    let i = at-loop .loop .i in (
       omega arith,
-      goes-on (near (a .l)) (rowsOf delivery.form (drop (a .at) w) (a .n)) (a .n) (run-long w (a .at) (a .n)) i (c .before .before .get .result) (c .before .is-near .result) (omega arith) (run-row w (a .at) (a .n) i (c .before .before .get .result) (omega arith) (c .before .before .get .ensures)) (c .before .is-near .ensures) (not-false _ (c .if1 .left)) (c .before .before .before .before .loop .inv .1),
+      goes-on (near (a .l)) (rowsOf delivery.form (drop (a .at) w) (a .n)) (a .n) (run-long w (a .at) (a .n)) i (at-get .get .result)
+          (at-is-near .is-near .result) (omega arith) (run-row w (a .at) (a .n) i (at-get .get .result) (omega arith) (at-get .get .ensures))
+          (at-is-near .is-near .ensures) (not-false _ (c .if1 .left)) (at-loop .loop .inv .1),
     )
 
 returns-2 : tie.Need-returns-2 Inv-loop μ-loop

@@ -44,7 +44,10 @@ shared-slice-read-t19 : tie.Need-shared-slice-read-t19
 shared-slice-read-t19 c = search needs
 
 returns : tie.Need-returns
-returns c = read-at (c .before .before .before .before .before .before .args .ws .now) (c .before .before .before .before .before .before .args .b) (c .before .before .before .before .get .result) (c .before .before .before .before .get .ensures)
+returns c =
+    let at-get = c .before .before .before .before in
+    let start = at-get .before .before in
+    read-at (start .args .ws .now) (start .args .b) (at-get .get .result) (at-get .get .ensures)
 
 pub get-spec : {M : Type 1} → statement M
 get-spec =

@@ -27,10 +27,14 @@ same-length c = search needs
 
 returns : tie.Need-returns
 returns c =
-    let a = c .before .before .before .before .before .before .before .before .before .before .before .args in
-    let p = c .before .before .before .before .before .before .before .before .place in
-    let m = c .before .before .before .before .before .before .raise in
-    c .before .before .put .ensures ∙ inserted (a .ws .now) (a .n) (a .c) (p .result) (m .last .0) (c .before .before .before .before .before .before .before .before .before .before .before .pre) (p .ensures .0) (m .ensures)
+    let at-put = c .before .before in
+    let at-raise = at-put .before .before .before .before in
+    let at-place = at-raise .before .before in
+    let start = at-place .before .before .before in
+    let a = start .args in
+    let p = at-place .place in
+    let m = at-raise .raise in
+    at-put .put .ensures ∙ inserted (a .ws .now) (a .n) (a .c) (p .result) (m .last .0) (start .pre) (p .ensures .0) (m .ensures)
 
 pub insert-spec : {M : Type 1} → statement M
 insert-spec =

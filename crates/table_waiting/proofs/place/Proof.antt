@@ -32,9 +32,14 @@ is-before-requires c κs = tt
 
 returns : tie.Need-returns Inv-loop μ-loop
 returns c =
-    let a = c .before .before .before .before .before .before .args in
-    let at = c .before .before .before .before .loop in
-    let no : before (a .c) (read (drop ((at .i - 1) * width) (a .ws .now))) ≡ false = ap (before (a .c)) (sym (c .before .before .get .ensures)) ∙ sym (c .before .is-before .ensures) ∙ not-true _ (c .if1 .taken) in
+    let at-is-before = c .before in
+    let at-get = at-is-before .before in
+    let at-loop = at-get .before .before in
+    let start = at-loop .before .before in
+    let a = start .args in
+    let at = at-loop .loop in
+    let no : before (a .c) (read (drop ((at .i - 1) * width) (a .ws .now))) ≡ false = ap (before (a .c)) (sym (at-get .get .ensures)) ∙ sym
+    (at-is-before .is-before .ensures) ∙ not-true _ (c .if1 .taken) in
     (here (a .c) (a .ws .now) (a .n) (at .i) (omega arith) (omega arith) (at .inv .1) no, at .inv .0)
 
 sub-i : tie.Need-sub-i Inv-loop μ-loop
@@ -45,9 +50,14 @@ loop-less c = omega arith
 
 loop-again : tie.Need-loop-again Inv-loop μ-loop
 loop-again c =
-    let a = c .before .before .before .before .before .before .args in
-    let at = c .before .before .before .before .loop in
-    let yes : before (a .c) (read (drop ((at .i - 1) * width) (a .ws .now))) ≡ true = ap (before (a .c)) (sym (c .before .before .get .ensures)) ∙ sym (c .before .is-before .ensures) ∙ not-false _ (c .if1 .left) in
+    let at-is-before = c .before in
+    let at-get = at-is-before .before in
+    let at-loop = at-get .before .before in
+    let start = at-loop .before .before in
+    let a = start .args in
+    let at = at-loop .loop in
+    let yes : before (a .c) (read (drop ((at .i - 1) * width) (a .ws .now))) ≡ true = ap (before (a .c)) (sym (at-get .get .ensures)) ∙ sym
+    (at-is-before .is-before .ensures) ∙ not-false _ (c .if1 .left) in
     (omega arith, passed (a .c) (a .ws .now) (a .n) (at .i) (omega arith) (omega arith) (at .inv .1) yes)
 
 returns-2 : tie.Need-returns-2 Inv-loop μ-loop

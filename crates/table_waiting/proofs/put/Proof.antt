@@ -49,7 +49,10 @@ same-length : tie.Need-same-length
 same-length c = search needs
 
 returns : tie.Need-returns
-returns c = let a = c .before .before .before .before .before .before .args in put-made (a .ws .now) (a .b) (a .c) _ (c .before .before .before .before .before .before .pre) (c .before .before .put .ensures)
+returns c =
+    let at-put = c .before .before in
+    let start = at-put .before .before .before .before in
+    let a = start .args in put-made (a .ws .now) (a .b) (a .c) _ (start .pre) (at-put .put .ensures)
 
 pub put-spec : {M : Type 1} → statement M
 put-spec =

@@ -89,9 +89,13 @@ add-t27 c =
 
 returns-2 : tie.Need-returns-2
 returns-2 c =
-    made (c .before .before .before .before .before .before .before .args .sizes) (c .before .before .before .before .before .before .before .args .plan) _
-    (sym (c .before .before .before .before .before .before .sizes-admitted .ensures) ∙ not-false _ (c .before .before .before .before .before .if1 .left))
-    (c .before .before .before .before .prices-length .ensures)
+    let at-prices-length = c .before .before .before .before in
+    let at-if1 = at-prices-length .before in
+    let at-sizes-admitted = at-if1 .before in
+    let start = at-sizes-admitted .before in
+    made (start .args .sizes) (start .args .plan) _
+    (sym (at-sizes-admitted .sizes-admitted .ensures) ∙ not-false _ (at-if1 .if1 .left))
+    (at-prices-length .prices-length .ensures)
 
 pub table-sizes-spec : {M : Type 1} → statement M
 table-sizes-spec =

@@ -29,28 +29,46 @@ wide-requires-2 : tie.Need-wide-requires-2 Inv-loop μ-loop
 wide-requires-2 c κs = search needs
 
 returns : tie.Need-returns Inv-loop μ-loop
-returns c = let a = c .before .before .before .before .before .before .args in sym (same-lengths (textAt (a .names .now) (a .i)) (textAt (a .names .now) (a .j)) (λ e. c .if1 .taken (c .before .wide2 .ensures .0 ∙ sym (text-length (a .names .now) (a .j) (c .before .before .before .before .before .before .pre .1)) ∙ sym e ∙ text-length (a .names .now) (a .i) (c .before .before .before .before .before .before .pre .0) ∙ sym (c .before .before .before .wide .ensures .0))))
+returns c =
+    let at-wide2 = c .before in
+    let at-wide = at-wide2 .before .before in
+    let start = at-wide .before .before .before in
+    let a = start .args in sym (same-lengths (textAt (a .names .now) (a .i)) (textAt (a .names .now) (a .j))
+    (λ e. c .if1 .taken (at-wide2 .wide2 .ensures .0 ∙ sym (text-length (a .names .now) (a .j) (start .pre .1)) ∙ sym e ∙ text-length (a .names .now)
+    (a .i) (start .pre .0) ∙ sym (at-wide .wide .ensures .0))))
 
 loop-holds : tie.Need-loop-holds Inv-loop μ-loop
 loop-holds c = (omega arith, c .before .before .before .wide .ensures .0, sym (c .if1 .left) ∙ c .before .wide2 .ensures .0, refl)
 
 add-if2 : tie.Need-add-if2 Inv-loop μ-loop
-add-if2 c = omega (arith, c .before .before .before .before .before .before .before .before .pre .0 .inside)
+add-if2 c =
+    let at-pre = c .before .before .before .before .before .before .before .before in
+    omega (arith, at-pre .pre .0 .inside)
 
 add-if2-2 : tie.Need-add-if2-2 Inv-loop μ-loop
-add-if2-2 c = omega (arith, c .before .before .before .before .before .before .before .before .pre .0 .inside)
+add-if2-2 c =
+    let at-pre = c .before .before .before .before .before .before .before .before in
+    omega (arith, at-pre .pre .0 .inside)
 
 shared-slice-read-if2 : tie.Need-shared-slice-read-if2 Inv-loop μ-loop
-shared-slice-read-if2 c = omega (arith, c .before .before .before .before .before .before .before .before .before .pre .0 .inside)
+shared-slice-read-if2 c =
+    let at-pre = c .before .before .before .before .before .before .before .before .before in
+    omega (arith, at-pre .pre .0 .inside)
 
 add-if2-3 : tie.Need-add-if2-3 Inv-loop μ-loop
-add-if2-3 c = omega (arith, c .before .before .before .before .before .before .before .before .before .pre .1 .inside)
+add-if2-3 c =
+    let at-pre = c .before .before .before .before .before .before .before .before .before in
+    omega (arith, at-pre .pre .1 .inside)
 
 add-if2-4 : tie.Need-add-if2-4 Inv-loop μ-loop
-add-if2-4 c = omega (arith, c .before .before .before .before .before .before .before .before .before .pre .1 .inside)
+add-if2-4 c =
+    let at-pre = c .before .before .before .before .before .before .before .before .before in
+    omega (arith, at-pre .pre .1 .inside)
 
 shared-slice-read-if2-2 : tie.Need-shared-slice-read-if2-2 Inv-loop μ-loop
-shared-slice-read-if2-2 c = omega (arith, c .before .before .before .before .before .before .before .before .before .before .pre .1 .inside)
+shared-slice-read-if2-2 c =
+    let at-pre = c .before .before .before .before .before .before .before .before .before .before in
+    omega (arith, at-pre .pre .1 .inside)
 
 returns-2 : tie.Need-returns-2 Inv-loop μ-loop
 returns-2 c = let a = c .before .before .before .before .before .before .before .before .before .before .before .args in text-stop (a .names .now) (a .i) (a .j) (c .before .before .before .before .before .before .before .before .before .before .before .pre .0) (c .before .before .before .before .before .before .before .before .before .before .before .pre .1) (c .before .before .before .before .loop .k) (omega arith) (omega arith) (c .if2 .taken) (c .before .before .before .before .loop .inv .3)

@@ -20,16 +20,23 @@ same-length-2 c = search needs
 returns : tie.Need-returns
 unfolding drainOf
 returns c =
-    refused _ _ _ _ _ (c .before .before .drain-fits .ensures) (c .before .if1 .taken)
+    let at-if1 = c .before in
+    let at-drain-fits = at-if1 .before in
+    let start = at-drain-fits .before .before .before .before .before in
+    refused _ _ _ _ _ (at-drain-fits .drain-fits .ensures) (at-if1 .if1 .taken)
     (as-found _
-    (c .before .before .before .before .before .before .before .args .log .now ∷ c .before .before .before .before .before .before .before .args .out .now ∷ [])
+    (start .args .log .now ∷ start .args .out .now ∷ [])
     (c .unfit .ensures))
 
 drain-requires : tie.Need-drain-requires
 drain-requires c κs =
-    drain-room (c .before .before .before .before .before .before .before .before .args .log .now)
-    (c .before .before .before .before .before .before .before .before .args .capacity) _
-    (c .before .before .before .before .before .before .before .before .args .out .now) (c .before .before .before .drain-fits .ensures) (c .before .before .if1 .left)
+    let at-if1 = c .before .before in
+    let at-drain-fits = at-if1 .before in
+    let start = at-drain-fits .before .before .before .before .before in
+    let a = start .args in
+    drain-room (a .log .now)
+    (a .capacity) _
+    (a .out .now) (at-drain-fits .drain-fits .ensures) (at-if1 .if1 .left)
 
 valued-requires : tie.Need-valued-requires
 valued-requires c κs = search needs
@@ -42,13 +49,18 @@ same-length-4 c = search needs
 
 returns-2 : tie.Need-returns-2
 returns-2 c =
-    drained (c .before .before .before .before .before .before .before .before .before .before .before .before .before .before .args .log .now)
-    (c .before .before .before .before .before .before .before .before .before .before .before .before .before .before .args .capacity) _
-    (c .before .before .before .before .before .before .before .before .before .before .before .before .before .before .args .out .now)
-    (c .before .before .before .before .before .before .before .before .before .drain-fits .ensures)
-    (c .before .before .before .before .before .before .before .before .if1 .left) _ _ _ _ (c .valued .ensures)
-    (c .before .before .before .before .before .drain .ensures .0) (c .before .before .before .before .before .drain .ensures .1 .0)
-    (c .before .before .before .before .before .drain .ensures .1 .1)
+    let at-drain = c .before .before .before .before .before in
+    let at-if1 = at-drain .before .before .before in
+    let at-drain-fits = at-if1 .before in
+    let start = at-drain-fits .before .before .before .before .before in
+    let a = start .args in
+    drained (a .log .now)
+    (a .capacity) _
+    (a .out .now)
+    (at-drain-fits .drain-fits .ensures)
+    (at-if1 .if1 .left) _ _ _ _ (c .valued .ensures)
+    (at-drain .drain .ensures .0) (at-drain .drain .ensures .1 .0)
+    (at-drain .drain .ensures .1 .1)
 
 pub tables-log-drain-spec : {M : Type 1} → statement M
 tables-log-drain-spec = tie.close (tie.spec drain-fits-requires unfit-requires same-length same-length-2 returns drain-requires valued-requires same-length-3 same-length-4 returns-2)

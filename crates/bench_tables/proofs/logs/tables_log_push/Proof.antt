@@ -16,7 +16,11 @@ same-length c = search needs
 
 returns : tie.Need-returns
 unfolding pushOf
-returns c = refused _ _ _ _ _ (c .before .before .push-fits .ensures) (c .before .if1 .taken) (as-found _ (c .before .before .before .before .before .before .args .log .now ∷ []) (c .unfit .ensures))
+returns c =
+    let at-if1 = c .before in
+    let at-push-fits = at-if1 .before in
+    let start = at-push-fits .before .before .before .before in
+    refused _ _ _ _ _ (at-push-fits .push-fits .ensures) (at-if1 .if1 .taken) (as-found _ (start .args .log .now ∷ []) (c .unfit .ensures))
 
 get-requires : tie.Need-get-requires
 get-requires c κs =
@@ -25,8 +29,12 @@ get-requires c κs =
 
 push-requires : tie.Need-push-requires
 push-requires c κs =
-    push-room (c .before .before .before .before .before .before .before .args .log .now) (c .before .before .before .before .before .before .before .args .capacity) _
-    (c .before .before .before .before .before .before .before .args .row .now) (c .before .before .before .push-fits .ensures) (c .before .before .if1 .left) .1
+    let at-if1 = c .before .before in
+    let at-push-fits = at-if1 .before in
+    let start = at-push-fits .before .before .before .before in
+    let a = start .args in
+    push-room (a .log .now) (a .capacity) _
+    (a .row .now) (at-push-fits .push-fits .ensures) (at-if1 .if1 .left) .1
 
 valued-requires : tie.Need-valued-requires
 valued-requires c κs = search needs
@@ -37,12 +45,18 @@ same-length-2 c = search needs
 returns-2 : tie.Need-returns-2
 unfolding pushOf
 returns-2 c =
-    made _ _ _ _ _ (c .before .before .before .before .before .before .before .push-fits .ensures) (c .before .before .before .before .before .before .if1 .left)
+    let at-push = c .before .before .before in
+    let at-get = at-push .before .before in
+    let at-if1 = at-get .before in
+    let at-push-fits = at-if1 .before in
+    let start = at-push-fits .before .before .before .before in
+    let a = start .args in
+    made _ _ _ _ _ (at-push-fits .push-fits .ensures) (at-if1 .if1 .left)
     (one-left _ _ _ _ (c .valued .ensures)
-    (pushed (c .before .before .before .before .before .before .before .before .before .before .before .args .log .now)
-    (c .before .before .before .before .before .before .before .before .before .before .before .args .capacity)
-    (c .before .before .before .before .before .before .before .before .before .before .before .args .row .now) _ _
-    (c .before .before .before .before .before .get .ensures) (c .before .before .before .push .ensures)))
+    (pushed (a .log .now)
+    (a .capacity)
+    (a .row .now) _ _
+    (at-get .get .ensures) (at-push .push .ensures)))
 
 pub tables-log-push-spec : {M : Type 1} → statement M
 tables-log-push-spec = tie.close (tie.spec push-fits-requires unfit-requires same-length returns get-requires push-requires valued-requires same-length-2 returns-2)

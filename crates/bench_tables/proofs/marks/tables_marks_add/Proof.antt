@@ -45,9 +45,13 @@ same-length-2 c = search needs
 returns-3 : tie.Need-returns-3
 unfolding addOf
 returns-3 c =
-    yes _ _ _ _ (lt-ltb _ _ (c .before .before .before .before .before .before .before .before .if1 .left))
-    (no _ _ _ _ (sym (c .before .before .before .before .before .before .has .ensures) ∙ c .before .before .before .before .before .if2 .left)
-    (one-left _ _ _ _ (c .valued2 .ensures) (c .before .before .before .insert .ensures)))
+    let at-insert = c .before .before .before in
+    let at-if2 = at-insert .before .before in
+    let at-has = at-if2 .before in
+    let at-if1 = at-has .before .before in
+    yes _ _ _ _ (lt-ltb _ _ (at-if1 .if1 .left))
+    (no _ _ _ _ (sym (at-has .has .ensures) ∙ at-if2 .if2 .left)
+    (one-left _ _ _ _ (c .valued2 .ensures) (at-insert .insert .ensures)))
 
 pub tables-marks-add-spec : {M : Type 1} → statement M
 tables-marks-add-spec = tie.close (tie.spec unfit-requires returns has-requires valued-requires same-length returns-2 insert-requires add-valued valued-requires-2 same-length-2 returns-3)

@@ -27,8 +27,12 @@ get-requires c κs =
 
 push-requires : tie.Need-push-requires
 push-requires c κs =
-    ring-room (c .before .before .before .before .before .before .before .args .ws .now) (c .before .before .before .before .before .before .before .args .rings) _
-    (c .before .before .before .before .before .before .before .args .r) (c .before .before .before .before .ring-fits .ensures) (c .before .before .before .if1 .left)
+    let at-if1 = c .before .before .before in
+    let at-ring-fits = at-if1 .before in
+    let start = at-ring-fits .before .before .before in
+    let a = start .args in
+    ring-room (a .ws .now) (a .rings) _
+    (a .r) (at-ring-fits .ring-fits .ensures) (at-if1 .if1 .left)
 
 valued-requires : tie.Need-valued-requires
 valued-requires c κs = search needs
@@ -39,10 +43,14 @@ same-length-2 c = search needs
 returns-2 : tie.Need-returns-2
 unfolding turnOf
 returns-2 c =
-    made _ _ _ _ _ (c .before .before .before .before .before .before .before .before .ring-fits .ensures)
-    (c .before .before .before .before .before .before .before .if1 .left)
-    (one-left _ _ _ _ (c .valued .ensures ∙ ap (λ (e : Entry). valued (e .tag)) (c .before .before .before .before .before .get .ensures))
-    (c .before .before .before .push .ensures))
+    let at-push = c .before .before .before in
+    let at-get = at-push .before .before in
+    let at-if1 = at-get .before .before in
+    let at-ring-fits = at-if1 .before in
+    made _ _ _ _ _ (at-ring-fits .ring-fits .ensures)
+    (at-if1 .if1 .left)
+    (one-left _ _ _ _ (c .valued .ensures ∙ ap (λ (e : Entry). valued (e .tag)) (at-get .get .ensures))
+    (at-push .push .ensures))
 
 pub tables-ring-turn-spec : {M : Type 1} → statement M
 tables-ring-turn-spec = tie.close (tie.spec ring-fits-requires unfit-requires same-length returns get-requires push-requires valued-requires same-length-2 returns-2)

@@ -32,8 +32,11 @@ same-length-2 c = search needs
 returns-2 : tie.Need-returns-2
 unfolding dropOf
 returns-2 c =
-    made _ _ _ _ _ (c .before .before .before .before .before .before .drop-fits .ensures) (c .before .before .before .before .before .if1 .left)
-    (one-left _ _ _ _ (c .valued .ensures) (c .before .before .before .drop-front .ensures))
+    let at-drop-front = c .before .before .before in
+    let at-if1 = at-drop-front .before .before in
+    let at-drop-fits = at-if1 .before in
+    made _ _ _ _ _ (at-drop-fits .drop-fits .ensures) (at-if1 .if1 .left)
+    (one-left _ _ _ _ (c .valued .ensures) (at-drop-front .drop-front .ensures))
 
 pub tables-waiting-drop-spec : {M : Type 1} → statement M
 tables-waiting-drop-spec = tie.close (tie.spec drop-fits-requires unfit-requires same-length returns drop-front-requires valued-requires same-length-2 returns-2)

@@ -22,7 +22,11 @@ same-length : tie.Need-same-length
 same-length c = search needs
 
 returns : tie.Need-returns
-returns c = let a = c .before .before .before .before .before .before .before .before .before .args in pairs-priced (a .seed) (a .regions) (a .n) (a .prices .now) _ _ (c .before .before .before .before .before .before .clear .ensures) (c .before .before .price-links .ensures)
+returns c =
+    let at-price-links = c .before .before in
+    let at-clear = at-price-links .before .before .before .before in
+    let start = at-clear .before .before .before in
+    let a = start .args in pairs-priced (a .seed) (a .regions) (a .n) (a .prices .now) _ _ (at-clear .clear .ensures) (at-price-links .price-links .ensures)
 
 pub price-pairs-spec : {M : Type 1} → statement M
 price-pairs-spec =

@@ -21,7 +21,13 @@ same-length : tie.Need-same-length
 same-length c = search needs
 
 returns-2 : tie.Need-returns-2
-returns-2 c = let a = c .before .before .before .before .before .before .before .before .before .before .before .args in priced (a .plan) (a .tills) (a .prices .now) _ _ _ (c .before .before .before .before .before .before .before .before .if1 .left) refl (c .before .before .before .before .before .before .before .before .before .before .before .pre .2) (c .before .before .before .before .before .before .price-pairs .ensures) (c .before .before .write-regions .ensures)
+returns-2 c =
+    let at-write-regions = c .before .before in
+    let at-price-pairs = at-write-regions .before .before .before .before in
+    let at-if1 = at-price-pairs .before .before in
+    let start = at-if1 .before .before .before in
+    let a = start .args in priced (a .plan) (a .tills) (a .prices .now) _ _ _ (at-if1 .if1 .left) refl (start .pre .2)
+    (at-price-pairs .price-pairs .ensures) (at-write-regions .write-regions .ensures)
 
 pub write-prices-spec : {M : Type 1} → statement M
 write-prices-spec =

@@ -44,7 +44,28 @@ key-word-requires-8 : tie.Need-key-word-requires-8
 key-word-requires-8 c κs = search needs
 
 returns : tie.Need-returns
-returns c = let a = c .before .before .before .before .before .before .before .before .before .before .before .before .before .before .args in (setup-made (a .config) (a .sizes) (a .plan) (a .seed) (a .key .now) (c .before .before .before .before .before .before .before .before .before .before .before .before .before .before .pre .1) _ _ _ _ _ _ _ _ _ _ _ _ _ (c .before .before .before .before .before .before .before .before .before .before .before .before .rate-bits .ensures) (c .before .before .before .before .before .before .before .before .before .before .before .rate-bits2 .ensures) (c .before .before .before .before .before .before .before .before .before .before .rate-bits3 .ensures) (c .before .before .before .before .before .before .before .before .before .rate-bits4 .ensures) (c .before .before .before .before .before .before .before .before .rate-bits5 .ensures) (c .before .before .before .before .before .before .before .key-word .ensures) (c .before .before .before .before .before .before .key-word2 .ensures) (c .before .before .before .before .before .key-word3 .ensures) (c .before .before .before .before .key-word4 .ensures) (c .before .before .before .key-word5 .ensures) (c .before .before .key-word6 .ensures) (c .before .key-word7 .ensures) (c .key-word8 .ensures), refl)
+returns c =
+    let at-key-word7 = c .before in
+    let at-key-word6 = at-key-word7 .before in
+    let at-key-word5 = at-key-word6 .before in
+    let at-key-word4 = at-key-word5 .before in
+    let at-key-word3 = at-key-word4 .before in
+    let at-key-word2 = at-key-word3 .before in
+    let at-key-word = at-key-word2 .before in
+    let at-rate-bits5 = at-key-word .before in
+    let at-rate-bits4 = at-rate-bits5 .before in
+    let at-rate-bits3 = at-rate-bits4 .before in
+    let at-rate-bits2 = at-rate-bits3 .before in
+    let at-rate-bits = at-rate-bits2 .before in
+    let start = at-rate-bits .before .before in
+    let a = start .args in (
+      setup-made (a .config) (a .sizes) (a .plan) (a .seed) (a .key .now) (start .pre .1) _ _ _ _ _ _ _ _ _ _ _ _ _
+          (at-rate-bits .rate-bits .ensures) (at-rate-bits2 .rate-bits2 .ensures) (at-rate-bits3 .rate-bits3 .ensures) (at-rate-bits4 .rate-bits4 .ensures)
+          (at-rate-bits5 .rate-bits5 .ensures) (at-key-word .key-word .ensures) (at-key-word2 .key-word2 .ensures) (at-key-word3 .key-word3 .ensures)
+          (at-key-word4 .key-word4 .ensures) (at-key-word5 .key-word5 .ensures) (at-key-word6 .key-word6 .ensures) (at-key-word7 .key-word7 .ensures)
+          (c .key-word8 .ensures),
+      refl,
+    )
 
 pub cells-spec : {M : Type 1} → statement M
 cells-spec =
