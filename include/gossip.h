@@ -67,7 +67,8 @@ extern "C" {
 #define GOSSIP_ROW 14
 #define GOSSIP_RECORD 8
 
-/* latency in nanoseconds; jitter fraction and four rates */
+/* latency in nanoseconds; jitter fraction and four rates. Without a spike a copy's latency before transmission lies less than
+ * 1 ns from the greater of 1 ms and latency + latency * jitter * (2k - 2^52) / 2^52, k being the top 52 bits of its draw. */
 struct GossipNetworkConfig { uint64_t latency; double jitter, loss, duplicate, replay, spike; };
 /* sizes of an opening; seen slots a till, waiting slots, log capacity */
 struct GossipNetworkSizes { uint64_t tills, types, classes, shards, seen, waiting, log; };

@@ -1,0 +1,4 @@
+mod Bits
+mod Scale
+pub mod True
+pub mod Corners
