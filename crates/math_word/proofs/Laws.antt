@@ -23,12 +23,20 @@ column₁ a b = a / 2 ^ 32 * (b % 2 ^ 32) + a % 2 ^ 32 * (b % 2 ^ 32) / 2 ^ 32
 abbrev column₂ : ℕ → ℕ → ℕ
 column₂ a b = column₁ a b % 2 ^ 32 + a % 2 ^ 32 * (b / 2 ^ 32)
 
-pub high-half : (a b : ℕ) → a / 2 ^ 32 * (b / 2 ^ 32) + column₁ a b / 2 ^ 32 + column₂ a b / 2 ^ 32 ≡ a * b / 2 ^ 64
+high-half : (a b : ℕ) → a / 2 ^ 32 * (b / 2 ^ 32) + column₁ a b / 2 ^ 32 + column₂ a b / 2 ^ 32 ≡ a * b / 2 ^ 64
 unfolding next middle
 high-half a b =
     sym (ap (λ x. x / 2 ^ 64) (halves a b) ∙ upper-digits (2 ^ 32) (a % 2 ^ 32) (a / 2 ^ 32) (b % 2 ^ 32) (b / 2 ^ 32) (pow-pos 32))
 
-pub low-half : (a b : ℕ) → column₂ a b % 2 ^ 32 * 2 ^ 32 + a % 2 ^ 32 * (b % 2 ^ 32) % 2 ^ 32 ≡ a * b % 2 ^ 64
+low-half : (a b : ℕ) → column₂ a b % 2 ^ 32 * 2 ^ 32 + a % 2 ^ 32 * (b % 2 ^ 32) % 2 ^ 32 ≡ a * b % 2 ^ 64
 unfolding next middle
 low-half a b =
     sym (ap (λ x. x % 2 ^ 64) (halves a b) ∙ lower-digits (2 ^ 32) (a % 2 ^ 32) (a / 2 ^ 32) (b % 2 ^ 32) (b / 2 ^ 32) (pow-pos 32))
+
+-- the same, where the low halves of factors and columns have names
+module _ (a b u v t : ℕ) (p : u ≡ a % 2 ^ 32) (q : v ≡ b % 2 ^ 32) (r : t ≡ (a / 2 ^ 32 * v + u * v / 2 ^ 32) % 2 ^ 32) where
+  pub high-made : a / 2 ^ 32 * (b / 2 ^ 32) + (a / 2 ^ 32 * v + u * v / 2 ^ 32) / 2 ^ 32 + (t + u * (b / 2 ^ 32)) / 2 ^ 32 ≡ a * b / 2 ^ 64
+  high-made = cc (high-half a b)
+
+  pub low-made : (x y : ℕ) → x ≡ (t + u * (b / 2 ^ 32)) % 2 ^ 32 → y ≡ u * v % 2 ^ 32 → x * 2 ^ 32 + y ≡ a * b % 2 ^ 64
+  low-made x y e f = cc (low-half a b)

@@ -51,6 +51,13 @@ pub fn le_word(s: &[u8], i: usize) -> u32
     a + 256 * b + 65536 * c + 16777216 * d
 }
 
+// The low 32 bits of a number, by a mask.
+pub fn low_half(x: u64) -> u64
+    ensures { λ r. ⌜ (r ≡ x % 2 ^ 32) × (r < 2 ^ 32) ⌝ }
+{
+    x & 4294967295
+}
+
 // A number of 128 bits.
 pub struct Halves {
     pub high: u64,
@@ -62,14 +69,14 @@ pub struct Halves {
 pub fn product(u: u64, v: u64) -> Halves
     ensures { λ r. ⌜ (r .high ≡ u * v / 2 ^ 64) × (r .low ≡ u * v % 2 ^ 64) ⌝ }
 {
-    let u0 = u % 4294967296;
-    let u1 = u / 4294967296;
-    let v0 = v % 4294967296;
-    let v1 = v / 4294967296;
+    let u0 = low_half(u);
+    let u1 = u >> 32;
+    let v0 = low_half(v);
+    let v1 = v >> 32;
     let w0 = u0 * v0;
-    let t = u1 * v0 + w0 / 4294967296;
-    let w1 = t % 4294967296 + u0 * v1;
-    let high = u1 * v1 + t / 4294967296 + w1 / 4294967296;
-    let low = w1 % 4294967296 * 4294967296 + w0 % 4294967296;
+    let t = u1 * v0 + (w0 >> 32);
+    let w1 = low_half(t) + u0 * v1;
+    let high = u1 * v1 + (t >> 32) + (w1 >> 32);
+    let low = low_half(w1) * 4294967296 + low_half(w0);
     Halves { high, low }
 }

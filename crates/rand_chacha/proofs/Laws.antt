@@ -49,7 +49,7 @@ pub block-made : (key : List ℕ) (n : ℕ) (x y : List ℕ) {z : List ℕ} → 
 unfolding blockOf
 block-made key n x y p q r = r ∙ ap₂ sums (q ∙ ap (doubleRounds 4) p) p
 
--- the word at a count, out of its block
-pub word-of : (key : List ℕ) (count : ℕ) {b : List ℕ} → b ≡ blockOf key (count / 16) → getD b (count % 16) 0 ≡ wordAt key count
+-- the word at a count, out of its block n at its place i
+pub word-of : (key : List ℕ) (count n i : ℕ) {b : List ℕ} → n ≡ count / 16 → i ≡ count % 16 → b ≡ blockOf key n → getD b i 0 ≡ wordAt key count
 unfolding wordAt
-word-of key count p = ap (λ b. getD b (count % 16) 0) p
+word-of key count n i q r p = ap₂ (λ b j. getD b j 0) (p ∙ ap (blockOf key) q) r

@@ -1,10 +1,11 @@
 // ChaCha with eight rounds: a stream's block of 16 words. The state is words by name, and the double round is called in
 // one place, so that LLVM inlines it and keeps the state in registers.
 use math_word::add;
+use math_word::low_half;
 use math_word::rotl;
 use math_word::xor;
 ghost use mathlib.Core.Path.{_≡_};
-ghost use Prim.Native.Nat.{_<_};
+ghost use Prim.Native.Nat.{_/_, _%_, _<_};
 ghost use Rattle.rand_chacha.specs.Chacha.{halfOf, quarterOf, columns, diagonals, doubleRounds, initial, sums, blockOf, wordAt};
 ghost use Rattle.rand_chacha.specs.Words.{listOf};
 
@@ -104,8 +105,8 @@ fn rounds(v: Words) -> Words
 fn start(key: [u32; 8], n: u64) -> Words
     ensures { λ r. ⌜ listOf r ≡ initial key n ⌝ }
 {
-    let low = (n % 4294967296) as u32;
-    let high = (n / 4294967296) as u32;
+    let low = low_half(n) as u32;
+    let high = (n >> 32) as u32;
     Words {
         w0: 0x61707865,
         w1: 0x3320646e,
@@ -158,11 +159,27 @@ pub fn block(key: [u32; 8], n: u64) -> [u32; 16]
     sum_words(rounds(x), x)
 }
 
+// Where a count falls: the number of its block, and its place there.
+pub struct Spot {
+    pub block: u64,
+    pub place: usize,
+}
+
+// The block and the place of a count, for every count of 64 bits: a block has 16 words.
+pub fn split(count: u64) -> Spot
+    ensures { λ r. ⌜ (r .block ≡ count / 16) × (r .place ≡ count % 16) ⌝ }
+{
+    let block = count >> 4;
+    let place = (count & 15) as usize;
+    Spot { block, place }
+}
+
 // The stream's word at a count.
 pub fn word(key: [u32; 8], count: u64) -> u32
     ensures { λ r. ⌜ r ≡ wordAt key count ⌝ }
 {
-    let words = block(key, count / 16);
-    let i = (count % 16) as usize;
+    let spot = split(count);
+    let words = block(key, spot.block);
+    let i = spot.place;
     words[i]
 }

@@ -113,8 +113,8 @@ product32 a n p q =
     let m : a * n ≤ 4294967295 * 4294967295 = mul-le-mul h k in
     (omega arith, omega arith)
 
-pub sum32 : (x b : ℕ) → b < 2 ^ 32 → x % 2 ^ 32 + b < 2 ^ 64
-sum32 x b h = omega arith
+pub sum32 : (a b : ℕ) → a < 2 ^ 32 → b < 2 ^ 32 → a + b < 2 ^ 64
+sum32 a b h k = omega arith
 
 pub room32 : (a n : ℕ) → n < 2 ^ 32 → a < n → a < 2 ^ 32
 room32 a n p h = omega arith

@@ -1,4 +1,5 @@
 // The draw rules over a stream's cursor: fraction, real range, hit against a rate, whole range of n values.
+use math_word::low_half;
 use math_word::product;
 use rand_streams::Cursor;
 use rand_streams::Drawn32;
@@ -113,8 +114,8 @@ pub fn whole32(c: Cursor, n: u32) -> Drawn32
 {
     let first = draw32(c);
     let p = (first.value as u64) * (n as u64);
-    let high = (p / 4294967296) as u32;
-    let low = p % 4294967296;
+    let high = (p >> 32) as u32;
+    let low = low_half(p);
     let middle = first.next;
     if low <= 4294967296 - n as u64 {
         return Drawn32 {
@@ -123,7 +124,7 @@ pub fn whole32(c: Cursor, n: u32) -> Drawn32
         };
     }
     let second = draw32(middle);
-    let more = (second.value as u64) * (n as u64) / 4294967296;
+    let more = ((second.value as u64) * (n as u64)) >> 32;
     let next = second.next;
     if low + more < 4294967296 {
         return Drawn32 { value: high, next };

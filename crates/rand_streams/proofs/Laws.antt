@@ -20,15 +20,15 @@ pub holds-count : (c : Cursor) → Holds c → c .held ≡ c .count / 16 + 1 →
 unfolding Holds keepsBlock
 holds-count c h p = (p, h (c .count / 16) p)
 
--- the block of the count is read
-pub holds-read : (c : Cursor) → c .held ≡ c .count / 16 + 1 → c .block ≡ blockOf (c .key) (c .count / 16) → keepsBlock c
+-- the block of the count, n, is read
+pub holds-read : (c : Cursor) (n : ℕ) → n ≡ c .count / 16 → c .held ≡ n + 1 → c .block ≡ blockOf (c .key) n → keepsBlock c
 unfolding keepsBlock
-holds-read c p q = (p, q)
+holds-read c n e p q = (p ∙ ap (λ m. m + 1) e, q ∙ ap (blockOf (c .key)) e)
 
--- a word is taken out of the block
-pub taken-word : (c : Cursor) {v : ℕ} → keepsBlock c → v ≡ getD (c .block) (c .count % 16) 0 → v ≡ wordAt (c .key) (c .count)
+-- a word is taken out of the block, at the count's place i
+pub taken-word : (c : Cursor) (i : ℕ) {v : ℕ} → keepsBlock c → i ≡ c .count % 16 → v ≡ getD (c .block) i 0 → v ≡ wordAt (c .key) (c .count)
 unfolding keepsBlock wordAt
-taken-word c h p = p ∙ ap (λ b. getD b (c .count % 16) 0) (h .1)
+taken-word c i h e p = p ∙ ap₂ (λ b j. getD b j 0) (h .1) e
 
 pub taken-moved : (c c′ : Cursor) → keepsBlock c → c′ .key ≡ c .key → c′ .count ≡ c .count + 1 → c′ .held ≡ c .held → c′ .block ≡ c .block → Moved c 1 c′
 unfolding keepsBlock Holds
@@ -42,13 +42,13 @@ taken-moved c c′ h k n e b =
     }
 
 -- two words are taken out of it
-pub both-words : (c : Cursor) {v : ℕ} → keepsBlock c → c .count % 16 < 15 → v ≡ getD (c .block) (c .count % 16) 0 + 2 ^ 32 * getD (c .block) (c .count % 16 + 1) 0
+pub both-words : (c : Cursor) (i : ℕ) {v : ℕ} → keepsBlock c → i ≡ c .count % 16 → c .count % 16 < 15 → v ≡ getD (c .block) i 0 + 2 ^ 32 * getD (c .block) (i + 1) 0
     → v ≡ wordPair (c .key) (c .count)
 unfolding keepsBlock wordAt wordPair
-both-words c h l p =
+both-words c i h e l p =
     let m : c .count % 16 + 1 ≡ (c .count + 1) % 16 = omega arith in
     let d : c .count / 16 ≡ (c .count + 1) / 16 = omega arith in
-    p ∙ ap (λ b. getD b (c .count % 16) 0 + 2 ^ 32 * getD b (c .count % 16 + 1) 0) (h .1)
+    p ∙ ap₂ (λ b j. getD b j 0 + 2 ^ 32 * getD b (j + 1) 0) (h .1) e
     ∙ ap₂ (λ j k. getD (blockOf (c .key) (c .count / 16)) (c .count % 16) 0 + 2 ^ 32 * getD (blockOf (c .key) j) k 0) d m
 
 pub both-moved : (c c′ : Cursor) → keepsBlock c → c′ .key ≡ c .key → c′ .count ≡ c .count + 2 → c′ .held ≡ c .held → c′ .block ≡ c .block → Moved c 2 c′

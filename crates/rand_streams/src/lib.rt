@@ -2,6 +2,7 @@
 mod link;
 
 pub use link::link_key;
+use rand_chacha::split;
 ghost use mathlib.Core.Path.{_≡_};
 ghost use mathlib.Core.Bool.{true};
 ghost use Prim.Native.Nat.{_+_, _*_, _/_, _%_, _<_, _^_};
@@ -45,7 +46,8 @@ pub fn at(key: [u32; 8], count: u64) -> Cursor
 fn is_loaded(c: Cursor) -> bool
     ensures { λ r. ⌜ (r ≡ true → c .held ≡ c .count / 16 + 1) ⌝ }
 {
-    c.held == c.count / 16 + 1
+    let spot = split(c.count);
+    c.held == spot.block + 1
 }
 
 // The same cursor with the block of its count read. It stands by itself, so that LLVM inlines the draws around it.
@@ -53,7 +55,8 @@ fn loaded(c: Cursor) -> Cursor
     ensures { λ r. ⌜ (r .key ≡ c .key) × (r .count ≡ c .count) × keepsBlock r ⌝ }
 {
     let count = c.count;
-    let n = count / 16;
+    let spot = split(count);
+    let n = spot.block;
     let key = c.key;
     let block = rand_chacha::block(key, n);
     Cursor {
@@ -72,7 +75,8 @@ fn taken(c: Cursor) -> Drawn32
     let key = c.key;
     let count = c.count;
     let block = c.block;
-    let i = (count % 16) as usize;
+    let spot = split(count);
+    let i = spot.place;
     let value = block[i];
     let next = Cursor {
         key,
@@ -108,7 +112,8 @@ fn both_taken(c: Cursor) -> Drawn64
     let key = c.key;
     let count = c.count;
     let block = c.block;
-    let i = (count % 16) as usize;
+    let spot = split(count);
+    let i = spot.place;
     let value = joined(block[i], block[i + 1]);
     let next = Cursor {
         key,
@@ -137,7 +142,8 @@ pub fn draw64(c: Cursor) -> Drawn64
     requires { ⌜ (c .count + 1 < 2 ^ 63) × Holds c ⌝ }
     ensures { λ r. ⌜ (r .value ≡ wordPair (c .key) (c .count)) × Moved c 2 (r .next) ⌝ }
 {
-    if c.count % 16 == 15 {
+    let spot = split(c.count);
+    if spot.place == 15 {
         return draw_twice(c);
     }
     if is_loaded(c) {

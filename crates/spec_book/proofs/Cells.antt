@@ -46,32 +46,19 @@ use Rattle.spec_book.proofs.Formed.{Wrote}
 use Rattle.spec_book.proofs.Simulation.{effect-wrote, ids-few}
 use Rattle.spec_book.proofs.Fit.{cell-fits, rows-fit, fit-put, fit-closed, fit-over, fit-kept, fit-logged, fit-cleared}
 use Rattle.spec_book.proofs.Bounds.{DrawsFit}
-use Rattle.spec_book.proofs.CellsAccept.{CopyFit, MessageFits, drawn-words, effect-cells, set-most, cells-tills, cells-rules, cells-blocks, cells-log, cells-waiting, cell-net, copy-reads, waiting-fits, marks-cells, ids-fit, removed-fit, ruled-cells}
+use Rattle.spec_book.proofs.Words.{drawn-words, effect-words, effect-fault}
+use Rattle.spec_book.proofs.CellsAccept.{CopyFit, MessageFits, effect-cells, cells-tills, cells-rules, cells-blocks, cells-log, cells-waiting, cell-net, copy-reads, waiting-fits, marks-cells, ids-fit, removed-fit, ruled-cells}
 
 -- ---- Accept
 
 module _ (o : Opening) (lim : Limited (o .sizes)) (g : DrawsFit o) (m : Message) (k : NearMessage (o .sizes) m) (q : MessageFits m) where
-  -- what an effect does to sequence, words and fault words
+  -- what an effect does to the sequence
   effect-sequence : (c : Fate) (s : Live) (d : Drawn) (t : ℕ) → length (d .echoes .all) ≤ 2 → effect o m c s d t .queue .sequence ≤ s .queue .sequence + 3
   effect-sequence deduplicated s d t h = omega arith
   effect-sequence partition s d t h = omega arith
   effect-sequence loss s d t h = omega arith
   effect-sequence fault s d t h = omega arith
   effect-sequence sent s d t h = omega (arith, few-copies o m s d t h)
-
-  effect-words : (c : Fate) (s : Live) (d : Drawn) (t i B : ℕ) → getD (s .words) i 0 ≤ B → d .loss .words ≤ B → d .latency .words ≤ B → d .echoes .words ≤ B → getD (effect o m c s d t .words) i 0 ≤ B
-  effect-words deduplicated s d t i B h a b e = h
-  effect-words partition s d t i B h a b e = h
-  effect-words loss s d t i B h a b e = set-most (s .words) (link (m .from) t) (d .loss .words) i B h a
-  effect-words fault s d t i B h a b e = set-most (s .words) (link (m .from) t) (d .latency .words) i B h b
-  effect-words sent s d t i B h a b e = set-most (s .words) (link (m .from) t) (d .echoes .words) i B h e
-
-  effect-fault : (c : Fate) (s : Live) (d : Drawn) (t B : ℕ) → s .engine .words ≤ B → d .verdict .words ≤ B → effect o m c s d t .engine .words ≤ B
-  effect-fault deduplicated s d t B h v = h
-  effect-fault partition s d t B h v = h
-  effect-fault loss s d t B h v = h
-  effect-fault fault s d t B h v = v
-  effect-fault sent s d t B h v = v
 
   accept-cells : (ts : List ℕ) (T : Tables) (s : Live) → Wrote (o .sizes) T s → Fits (o .sizes) s → Below (o .sizes .tills) ts → Each (Ready o m s) ts → length (s .queue .waiting) + 3 * length ts ≤ o .sizes .waitSlots
       → CellsFit T → s .queue .sequence + 3 * length ts ≤ lastNumber → (W : ℕ) → Each (λ (t : ℕ). getD (s .words) (link (m .from) t) 0 ≤ W) ts → W + 26 * length ts ≤ 2 ^ 41 → s .engine .words + 128 * length ts ≤ 2 ^ 41
@@ -98,15 +85,15 @@ module _ (o : Opening) (lim : Limited (o .sizes)) (g : DrawsFit o) (m : Message)
       let few = ids-few o z T t (w .formed) (b .0) in
       let next = effect-cells o lim g m k q t (b .0) (fateOf o m (live z T) t) T s (w .holds) f cells
       (omega (arith, many, lim .waiting)) (omega (arith, given)) (omega (arith, counted)) (omega (arith, verdict′)) (omega (arith, few, lim .seen)) in
-      let dw = drawn-words o lim g m k q t (b .0) s in
+      let dw = drawn-words o g m t s in
       let at : (u : ℕ) → getD (s .words) (link (m .from) u) 0 ≤ W → getD (effect o m c s d t .words) (link (m .from) u) 0 ≤ W + 26 =
-      λ u h. effect-words c s d t (link (m .from) u) (W + 26) (omega (arith, h)) (omega (arith, dw .loss, ws .0)) (omega (arith, dw .latency, ws .0)) (omega (arith, dw .echoes, ws .0)) in
+      λ u h. effect-words o m c s d t (link (m .from) u) (W + 26) (omega (arith, h)) (omega (arith, dw .loss, ws .0)) (omega (arith, dw .latency, ws .0)) (omega (arith, dw .echoes, ws .0)) in
       accept-cells ts (offeredT o m T t) (effect o m c s d t) y
       (effect-fits o m k s d t f gd c free (b .0) (r .0) (omega arith)) (b .1)
       (each-map (Ready o m s) (Ready o m (offered o m s t)) ts (λ u. effect-ready o m k s d t f gd c free (b .0) u) (r .1)) (omega (arith, effect-length o m k s d t f gd c))
       next (omega (arith, effect-sequence c s d t (gd .few))) (W + 26)
       (each-map (λ (u : ℕ). getD (s .words) (link (m .from) u) 0 ≤ W) (λ (u : ℕ). getD (effect o m c s d t .words) (link (m .from) u) 0 ≤ W + 26) ts at (ws .1))
-      (omega arith) (omega (arith, effect-fault c s d t (s .engine .words + 128) (omega arith) verdict))
+      (omega arith) (omega (arith, effect-fault o m c s d t (s .engine .words + 128) (omega arith) verdict))
 
 -- ---- Flush
 
@@ -241,7 +228,7 @@ remove-cells z T id f =
 
 -- ---- Every call
 
-selected-few : (o : Opening) (s : Live) (scope from : ℕ) → length (selected o s scope from) ≤ o .sizes .tills
+pub selected-few : (o : Opening) (s : Live) (scope from : ℕ) → length (selected o s scope from) ≤ o .sizes .tills
 selected-few o s scope from = omega (arith, length-keep (λ t. receives s scope t && not (eqb t from)) (below (o .sizes .tills)), length-upTo (o .sizes .tills) (λ (i : ℕ). i))
 
 free-block : {z : Sizes} (T : Tables) (s : Live) → Wrote z T s → ltb (length (s .engine .blocks)) blockSlots ≡ true → cell (T .net) blocksAt < blockSlots

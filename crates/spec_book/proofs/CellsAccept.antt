@@ -3,7 +3,7 @@ use mathlib.Core.Path.{_≡_, refl, sym, ap, _∙_, subst}
 use Prim.Native.Nat.{ℕ, zero, suc, _+_, _*_, _^_, _≤_, _<_}
 use native.Mathlib.Omega.{arith}
 use native.Mathlib.Nat.{mod-lt}
-use mathlib.Core.Bool.{Bool, true, false, cond, not, _&&_}
+use mathlib.Core.Bool.{Bool, true, false, cond}
 use mathlib.Core.List.{List, [], _∷_}
 use lib.Dec.{leb, ltb}
 use lib.Pow.{pow-pos}
@@ -24,17 +24,18 @@ use Rattle.table_marks.specs.Marks.{idsOf, placed, removed}
 use Rattle.table_rings.specs.Rings as rings
 use Rattle.fault_rules.specs.Rules.{ruleWidth, firedWord, fireTable}
 use Rattle.fault_decide.specs.Decide.{Decision}
-use Rattle.spec_network.specs.Opening.{Draw, Sizes, Opening, link, latestNow, longestWire}
+use Rattle.spec_network.specs.Opening.{Sizes, Opening, link, latestNow, longestWire}
 use Rattle.spec_network.specs.Live.{Carried, Live, idsAt, ringsOf}
-use Rattle.spec_network.specs.Accept.{Message, Echoed, Timed, Echoes, Drawn, drawn, context, carriedOf, ringFor, isEmpty, timed, replayed, echoed, echoesOf, original, echo, echoCopies, Fate, deduplicated, partition, loss, fault, sent, copies}
+use Rattle.spec_network.specs.Accept.{Message, Echoed, Timed, drawn, context, carriedOf, ringFor, original, echo, echoCopies, Fate, deduplicated, partition, loss, fault, sent, copies}
 use Rattle.spec_network.specs.Tables.{cell, Tables, live, idsStart, sequenceAt, waitingAt, faultWordsAt}
 use Rattle.spec_network.specs.Writes.{setNet, setTills, setWords, setSeen, setWaiting, setRings, setRules, setBlocks, setLog, netT, wordsT, marksT, waitingT, ruledT, pushT, rememberT, effectT}
 use Rattle.spec_book.specs.Cells.{Fit, CellsFit}
 use Rattle.spec_book.proofs.Each.{both, each-set, each-at, each-upTo}
-use Rattle.spec_book.proofs.Echoing.{drawn-each, drawn-few, echoed-few}
+use Rattle.spec_book.proofs.Echoing.{drawn-each, drawn-few}
 use Rattle.spec_book.proofs.Fitting.{Limited, Fits, NearMessage, NearRing, few-copies}
 use Rattle.spec_book.proofs.Fit.{each-take, cell-fits, fit-put, rows-fit, fit-over, fit-pushed}
 use Rattle.spec_book.proofs.Bounds.{DrawsFit}
+use Rattle.spec_book.proofs.Words.{set-most, drawn-words}
 
 abbrev In : ℕ → Type 0
 In v = v < 2 ^ 64
@@ -98,14 +99,6 @@ placed-fit i ids h e = each-placed (λ (v : ℕ). v < 2 ^ 64) i ids h e
 
 pub removed-fit : (i : ℕ) (ids : List ℕ) → Fit 64 ids → Fit 64 (removed i ids)
 removed-fit i ids e = each-removed (λ (v : ℕ). v < 2 ^ 64) i ids e
-
--- a cell anew stays at or below what old and new are
-pub set-most : (l : List ℕ) (i v j B : ℕ) → getD l j 0 ≤ B → v ≤ B → getD (set l i v) j 0 ≤ B
-set-most [] i v j B h k = h
-set-most (x ∷ l) zero v zero B h k = k
-set-most (x ∷ l) zero v (suc j) B h k = h
-set-most (x ∷ l) (suc i) v zero B h k = h
-set-most (x ∷ l) (suc i) v (suc j) B h k = set-most l i v j B h k
 
 pub push-cells : (z : Sizes) (cs : List Copy) (T : Tables) (B : ℕ) → CellsFit T → Each CopyFit cs → cell (T .net) waitingAt ≤ B → cell (T .net) sequenceAt ≤ B → B + length cs < 2 ^ 64 → CellsFit (pushT z T cs)
 push-cells z [] T B f e w s h = f
@@ -205,54 +198,6 @@ module _ (o : Opening) (lim : Limited (o .sizes)) (g : DrawsFit o) (m : Message)
   own-good : Good (carriedOf m)
   own-good = (wire-small, (class-small, (omega (arith, wire-small), (q .tag, tt))))
 
-  -- ---- Word counts
-
-  timed-words : (es : List Echoed) (w : ℕ) → timed o m t w es .words ≤ w + 6 * length es
-  timed-words [] w = omega arith
-  timed-words (e ∷ es) w =
-      let n : ℕ = o .draws .latency (m .from) t (e .carried .wire) w .words in
-      omega (arith, timed-words es n, g .latency-words (m .from) t (e .carried .wire) w)
-
-  replayed-words : (ring : List Carried) (w : ℕ) → replayed o m t ring w .words ≤ w + 4
-  replayed-words ring w =
-      let hit = o .draws .replay (m .from) t w in
-      let at = o .draws .index (m .from) t (length ring) (hit .words) in
-      go (hit .value && not (isEmpty ring)) _ (at .words) (hit .words) (omega (arith, g .index (m .from) t (length ring) (hit .words), g .replay (m .from) t w)) (omega (arith, g .replay (m .from) t w))
-    where
-      go : (x : Bool) (l : List Echoed) (u v : ℕ) → u ≤ w + 4 → v ≤ w + 4 → cond {A = Draw (List Echoed)} x (record { value = l; words = u }) (record { value = []; words = v }) .words ≤ w + 4
-      go true l u v h r = h
-      go false l u v h r = r
-
-  echoed-words : (ring : List Carried) (w : ℕ) → echoed o m t ring w .words ≤ w + 6
-  echoed-words ring w = let d = o .draws .duplicate (m .from) t w in omega (arith, g .duplicate (m .from) t w, replayed-words ring (d .words))
-
-  echoes-words : (ring : List Carried) (w : ℕ) → echoesOf o m t ring w .words ≤ w + 18
-  echoes-words ring w =
-      let e = echoed o m t ring w in
-      go (o .draws .echoing) (timed o m t (e .words) (e .value)) (omega (arith, timed-words (e .value) (e .words), echoed-words ring w, echoed-few o m t ring w))
-    where
-      go : (x : Bool) (y : Echoes) → y .words ≤ w + 18 → cond x y (record { all = []; words = w }) .words ≤ w + 18
-      go true y h = h
-      go false y h = omega arith
-
-  -- the words that a recipient's draws leave its link at
-  pub record WordsOf (w : ℕ) (d : Drawn) : Type 0 where
-    pub loss : d .loss .words ≤ w + 26
-    pub latency : d .latency .words ≤ w + 26
-    pub echoes : d .echoes .words ≤ w + 26
-
-  pub drawn-words : (s : Live) → WordsOf (getD (s .words) (link (m .from) t) 0) (drawn o m t s)
-  unfolding drawn
-  drawn-words s =
-      let w : ℕ = getD (s .words) (link (m .from) t) 0 in
-      let l = o .draws .loss (m .from) t w in
-      let d = o .draws .latency (m .from) t (m .wire) (l .words) in
-      record {
-        loss = omega (arith, g .loss (m .from) t w);
-        latency = omega (arith, g .loss (m .from) t w, g .latency-words (m .from) t (m .wire) (l .words));
-        echoes = omega (arith, g .loss (m .from) t w, g .latency-words (m .from) t (m .wire) (l .words), echoes-words (ringFor s m) (d .words));
-      }
-
   ring-good : (z : Sizes) (T : Tables) → z ≡ o .sizes → CellsFit T → (s : Live) → live z T ≡ s → Fits (o .sizes) s → Each Good (ringFor s m)
   ring-good z T e f s h fits =
       let at : ℕ = rings.numberOf (m .kind) (m .scope) in
@@ -271,11 +216,11 @@ module _ (o : Opening) (lim : Limited (o .sizes)) (g : DrawsFit o) (m : Message)
   effect-cells deduplicated T s h fits f w n l v i = f
   effect-cells partition T s h fits f w n l v i = f
   effect-cells loss T s h fits f w n l v i =
-      let x = drawn-words (live (o .sizes) T) in
+      let x = drawn-words o g m t (live (o .sizes) T) in
       let d = drawn o m t (live (o .sizes) T) in
       cells-words T f (set (T .words) (link (m .from) t) (d .loss .words)) (each-set In (T .words) (link (m .from) t) (d .loss .words) (f .words) (omega (arith, x .loss)))
   effect-cells fault T s h fits f w n l v i =
-      let x = drawn-words (live (o .sizes) T) in
+      let x = drawn-words o g m t (live (o .sizes) T) in
       let d = drawn o m t (live (o .sizes) T) in
       ruled-cells (wordsT T (link (m .from) t) (d .latency .words)) (d .verdict)
       (cells-words T f (set (T .words) (link (m .from) t) (d .latency .words)) (each-set In (T .words) (link (m .from) t) (d .latency .words) (f .words) (omega (arith, x .latency)))) (omega arith)
@@ -283,7 +228,7 @@ module _ (o : Opening) (lim : Limited (o .sizes)) (g : DrawsFit o) (m : Message)
       let z = o .sizes in
       let q₀ = live z T in
       let d = drawn o m t q₀ in
-      let x = drawn-words q₀ in
+      let x = drawn-words o g m t q₀ in
       let T₁ = ruledT (wordsT T (link (m .from) t) (d .echoes .words)) (d .verdict) in
       let f₁ = ruled-cells (wordsT T (link (m .from) t) (d .echoes .words)) (d .verdict) (cells-words T f (set (T .words) (link (m .from) t) (d .echoes .words)) (each-set In (T .words) (link (m .from) t) (d .echoes .words) (f .words) (omega (arith, x .echoes)))) (omega arith) in
       let ids = placed (m .id) (idsAt q₀ t) in

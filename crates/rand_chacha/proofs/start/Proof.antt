@@ -1,9 +1,11 @@
 use Rattle.rand_chacha.specs.Chacha.{initial}
 use Rattle.rand_chacha.specs.Words.{listOf}
-use mathlib.Core.Path.{refl}
 use borrow.Author.Needs.{needs}
 use Rattle.rand_chacha.proofs.start.Statement.{statement}
 use Rattle.rand_chacha.proofs.start.Tie as tie
+
+low-half-requires : tie.Need-low-half-requires
+low-half-requires c κs = search needs
 
 cast-low : tie.Need-cast-low
 cast-low c = search needs
@@ -37,12 +39,13 @@ array-read-t30 c = search needs
 
 returns : tie.Need-returns
 unfolding initial listOf
-returns c = refl
+returns c = cc
 
 pub start-spec : {M : Type 1} → statement M
 start-spec =
     tie.close
     (tie.spec
+    low-half-requires
     cast-low
     cast-high
     array-read-t9

@@ -1,0 +1,2 @@
+pub mod Recipients
+pub mod Words
