@@ -21,6 +21,7 @@
  *  12  no rule or block place is free, or 4,294,967,295 rules were installed
  *  13  the drop card is not exact
  *  14  the output has no row for some copy due
+ *  18  a window's end is at or before its start; asked after 13
  *
  * Question 1 asks of each table that a call is lent, `setup` always among them:
  *
@@ -39,8 +40,9 @@
  *   log      the length; a count of at most the capacity and a first place below it (without capacity, a count of 0); of each
  *            record, tills, type and class in range
  *
- * It does not ask for the order of rows, nor for their times, sequences, ids, tags and shards, nor for what unused slots hold. The
- * opening asks for the lengths alone, those of the key (32) and of the masks (one a till) too: it overwrites what it needs.
+ * It does not ask for the order of rows, nor for their times, sequences, ids, tags, shards and windows, nor for what unused slots
+ * hold. The opening asks for the lengths alone, those of the key (32) and of the masks (one a till) too: it overwrites what it
+ * needs.
  *
  * The limits: 64 tills, 16 types with names of 64 bytes, 8 classes, 16 shards with keys of 16 bytes, 1 to 4,096 waiting slots, 1 to
  * 4,096 seen slots a till, a log of 0 to 4,096 records, 0 to 16 regions. A limit is one of the number given, used or not: with
@@ -139,7 +141,7 @@ struct GossipMarks gossip_marks(const uint64_t *setup, size_t setup_n, const uin
 struct GossipDone gossip_block(const uint64_t *setup, size_t setup_n, uint64_t *net, size_t net_n, uint64_t *blocks,
     size_t blocks_n, uint64_t from, uint64_t to);
 
-/* Questions 1, 4, 12. From start on, and not at end. */
+/* Questions 1, 4, 12, 18. From start on, and not at end, which is after start. */
 struct GossipDone gossip_block_during(const uint64_t *setup, size_t setup_n, uint64_t *net, size_t net_n, uint64_t *blocks,
     size_t blocks_n, uint64_t from, uint64_t to, uint64_t start, uint64_t end);
 
@@ -151,7 +153,7 @@ struct GossipDone gossip_unblock(const uint64_t *setup, size_t setup_n, uint64_t
 struct GossipValue gossip_is_blocked(const uint64_t *setup, size_t setup_n, const uint64_t *net, size_t net_n,
     const uint64_t *blocks, size_t blocks_n, uint64_t from, uint64_t to, uint64_t now);
 
-/* Questions 1, 12, 13. value is the rule's id. */
+/* Questions 1, 12, 13, 18. value is the rule's id. 18 is asked of a card whose bit 5 stands. */
 struct GossipValue gossip_install(const uint64_t *setup, size_t setup_n, uint64_t *net, size_t net_n, uint64_t *rules,
     size_t rules_n, const uint8_t *card, size_t card_n);
 

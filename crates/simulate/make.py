@@ -231,6 +231,32 @@ def second_part():
     say('block 0 1', 'block refused 12')
     say('unblock 0 1', 'unblock ok')
     say('blocks', 'blocks edges=0 windows=0')
+    # 18 (document 02, M-110): an end at or before its start, of a block and of a card with bit 5
+    say(opens(more=' slots=7 seen=2'), 'open ok')
+    ids = 0
+    for start, end in ((5, 5), (5, 4), (5, 6), (LAST, LAST), (LAST, LAST - 1), (LAST - 1, LAST), (LAST, 0), (0, 0), (0, 1), (0, LAST), (LAST, 1), (1, LAST)):
+        taken = start < end
+        say('blockd 0 1 %d %d' % (start, end), 'blockd ok' if taken else 'blockd refused 18')
+        say('install x' + card(window=(start, end)).hex(), 'install id=%d' % ids if taken else 'install refused 18')
+        ids += taken
+    say('blocks', 'blocks edges=1 windows=%d' % ids)
+    say('rules', ' '.join(['rules %d' % ids] + ['%d:0' % i for i in range(ids)]))
+    # after 4 and 12, after 13; not asked of a card without bit 5
+    turned = card(window=(8, 5))
+    say('blockd 0 3 8 5', 'blockd refused 4')
+    say('install x' + turned.hex() + '00', 'install refused 13')
+    say('install x' + turned[:-1].hex(), 'install refused 13')
+    say('install xa0' + turned[1:].hex(), 'install refused 13')
+    say('install x' + card(tier=4, window=(8, 5)).hex(), 'install refused 13')
+    say('install x' + card(kind=0, frm=1, to=2, tier=3, probability=0.5, window=(8, 5)).hex(), 'install refused 18')
+    say('install x00', 'install id=%d' % ids)
+    say('install x' + card(kind=0).hex(), 'install id=%d' % (ids + 1))
+    say('setrules 4294967295', 'setrules ok')
+    say('install x' + turned.hex(), 'install refused 12')
+    for i in range(256 - ids):
+        say('block 0 1', 'block ok')
+    say('blockd 0 1 8 5', 'blockd refused 12')
+    say('blocks', 'blocks edges=1 windows=256')
     # the largest entry goes through: two copies, as text and as a fill
     say(opens(more=' slots=4096 seen=4096'), 'open ok')
     say('accept 0 1 0 0 g x' + '5a' * 65536 + ' 1 1', None)

@@ -1,5 +1,5 @@
 #!/usr/bin/env python3
-"""book.py SCRIPT...: the book of document 01, kept from its text alone and not from the Rust, against SCRIPT's .expected beside it.
+"""book.py SCRIPT...: the book of documents 01 and 02, kept from their text alone and not from the Rust, against SCRIPT's .expected beside it.
 book.py wrong SCRIPT...: each error of wrong.py in turn; the scripts must notice every one.
 The status is not 0 where an answer differs, or an error goes unnoticed."""
 import pathlib
@@ -42,6 +42,11 @@ def parts(value):
 
 def holds(window, t):
     return window is None or window[0] <= t < window[1]
+
+
+def turned(window):
+    """Document 02, M-110: the end is at or before the start."""
+    return window is not None and window[1] <= window[0]
 
 
 class Copy:
@@ -207,7 +212,10 @@ class Book:
         exact = card and card[0] < 64 and not rest and all(f is None or len(f) == CARD[k] for k, f in enumerate(fields))
         if not exact or fields[3] is not None and fields[3][0] > 3:
             return ['install refused 13']
-        self.rules.append(Rule(self.installed, fields))
+        rule = Rule(self.installed, fields)
+        if turned(rule.window):
+            return ['install refused 18']
+        self.rules.append(rule)
         self.installed += 1
         return [f'install id={self.installed - 1}']
 
@@ -380,7 +388,10 @@ class Book:
         elif call == 'unblock':
             self.unblock((t, int(w[1])))
         else:
-            self.windows.append(((t, int(w[1])), tuple(map(int, w[2:])) or None))
+            window = tuple(map(int, w[2:])) or None
+            if turned(window):
+                return [call + ' refused 18']
+            self.windows.append(((t, int(w[1])), window))
         return [call + ' ok']
 
     def answer(self, line):

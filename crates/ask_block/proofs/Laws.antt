@@ -7,13 +7,15 @@ use native.Mathlib.Omega.{arith}
 use lib.Dec.{ltb}
 use lib.ListN.{length}
 use borrow.Author.Tests.{lt-ltb, le-ltb, le-leb, lt-leb}
+use Rattle.fault_rule.specs.declared.TimeWindow.the-variants.{During}
+use Rattle.fault_rule.specs.Rule.{forward}
 use Rattle.fault_blocks.specs.Blocks.{blockWidth, blockSlots, blockNumber}
 use Rattle.spec_network.specs.Opening.{latestNow}
 use Rattle.spec_network.specs.Tables.{cell, sizesAt, setupWidth, netWidth, blocksAt}
 use Rattle.ask_tables.proofs.Ladder.{yes, no, both, only}
 use Rattle.ask_tables.proofs.Passed.{PassedSetup, PassedNet, setup-says, net-says}
 use Rattle.ask_tables.proofs.PassedRows.{PassedBlocks, blocks-say}
-use Rattle.ask_block.specs.Questions.{blocksLent, pairNumber, freeNumber, nowNumber}
+use Rattle.ask_block.specs.Questions.{blocksLent, pairNumber, freeNumber, windowNumber, duringNumber, nowNumber}
 
 -- ---- What question 1, answered "yes", says
 
@@ -78,6 +80,36 @@ full n k e h = no _ _ _ _ (le-ltb (cell n blocksAt) blockSlots (omega (arith, h,
 pub free : (n : List ℕ) (k : ℕ) → k ≡ cell n blocksAt → k < blockSlots → 0 ≡ freeNumber n
 unfolding blockNumber
 free n k e h = yes _ _ _ _ (lt-ltb (cell n blocksAt) blockSlots (omega (arith, h, e))) refl
+
+pub is-forward : (start end : ℕ) (b : Bool) → b ≡ forward (During start end) → b ≡ true → 0 ≡ windowNumber start end
+unfolding windowNumber
+is-forward start end b e h = yes _ _ _ _ (sym e ∙ h) refl
+
+pub is-turned : (start end : ℕ) (b : Bool) → b ≡ forward (During start end) → b ≡ false → 18 ≡ windowNumber start end
+unfolding windowNumber
+is-turned start end b e h = no _ _ _ _ (sym e ∙ h) refl
+
+-- what the questions before 18 refuse, and what it answers where they do not
+module _ (s n b : List ℕ) (from to start end r : ℕ) (e : r ≡ pairNumber s n b from to (freeNumber n)) where
+  pub refused-before : (r ≡ 0 → ⊥) → r ≡ pairNumber s n b from to (duringNumber n start end)
+  unfolding pairNumber blockNumber duringNumber
+  refused-before h = go (blocksLent s n b) (ltb (max from to) (sizesAt s .tills)) (ltb (cell n blocksAt) blockSlots) e
+    where
+      go : (x y z : Bool) → r ≡ cond x (cond y (cond z 0 12) 4) 1 → r ≡ cond x (cond y (cond z (windowNumber start end) 12) 4) 1
+      go true true true e = absurd (h e)
+      go true true false e = e
+      go true false z e = e
+      go false y z e = e
+
+  pub asked-window : r ≡ 0 → (w : ℕ) → w ≡ windowNumber start end → w ≡ pairNumber s n b from to (duringNumber n start end)
+  unfolding pairNumber blockNumber duringNumber
+  asked-window h w k = go (blocksLent s n b) (ltb (max from to) (sizesAt s .tills)) (ltb (cell n blocksAt) blockSlots) (sym e ∙ h)
+    where
+      go : (x y z : Bool) → _≡_ {A = ℕ} (cond x (cond y (cond z 0 12) 4) 1) 0 → w ≡ cond x (cond y (cond z (windowNumber start end) 12) 4) 1
+      go true true true q = k
+      go true true false q = absurd (omega arith)
+      go true false z q = absurd (omega arith)
+      go false y z q = absurd (omega arith)
 
 pub too-late : (at : ℕ) → latestNow < at → 7 ≡ nowNumber at
 unfolding nowNumber

@@ -1,6 +1,7 @@
-// The questions of the block calls, in order: 1 and 4, then 12 or 7. The tables stay as they are.
+// The questions of the block calls, in order: 1 and 4, then 12, 12 and 18, or 7. The tables stay as they are.
 ghost use mathlib.Core.Path.{_≡_};
-ghost use Rattle.ask_block.specs.Questions.{blocksLent, pairNumber, freeNumber, nowNumber};
+ghost use Rattle.ask_block.specs.Questions.{blocksLent, pairNumber, freeNumber, windowNumber, duringNumber, nowNumber};
+use fault_rule::TimeWindow;
 
 // Question 1.
 fn lent(setup: &[u64], net: &[u64], blocks: &[u64]) -> bool
@@ -44,6 +45,36 @@ pub fn block_refusal(setup: &[u64], net: &[u64], blocks: &[u64], from: u64, to: 
         return 12;
     }
     0
+}
+
+// Question 18: is the window's end after its start?
+fn window_number(start: u64, end: u64) -> u64
+    ensures { λ r. ⌜ r ≡ windowNumber start end ⌝ }
+{
+    let w = TimeWindow::During { start, end };
+    if fault_rule::window_forward(w) {
+        return 0;
+    }
+    18
+}
+
+// Questions 1, 4, 12 and 18.
+pub fn during_refusal(
+    setup: &[u64],
+    net: &[u64],
+    blocks: &[u64],
+    from: u64,
+    to: u64,
+    start: u64,
+    end: u64,
+) -> u64
+    ensures { λ r. ⌜ r ≡ pairNumber (now (setup .entry)) (now (net .entry)) (now (blocks .entry)) «from» to (duringNumber (now (net .entry)) start end) ⌝ }
+{
+    let number = block_refusal(setup, net, blocks, from, to);
+    if number != 0 {
+        return number;
+    }
+    window_number(start, end)
 }
 
 // Questions 1, 4 and 7.

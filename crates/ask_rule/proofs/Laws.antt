@@ -1,5 +1,5 @@
 -- The ladders of `install` and `decide`, and what passed questions say.
-use mathlib.Core.Path.{_≡_, refl, sym, _∙_}
+use mathlib.Core.Path.{_≡_, refl, sym, ap, _∙_}
 use mathlib.Core.Bool.{Bool, true, false, cond, _&&_}
 use mathlib.Core.List.{List}
 use Prim.Native.Nat.{ℕ, max, _*_, _≤_, _<_}
@@ -8,12 +8,12 @@ use lib.ListN.{length}
 use borrow.Author.Tests.{lt-ltb, le-ltb, le-leb, lt-leb, ltb-true, eq-eqb, ne-eqb}
 use Rattle.fault_rule.specs.declared.MessageContext.{MessageContext}
 use Rattle.fault_rule.specs.declared.DropSpec.{DropSpec}
-use Rattle.fault_card.specs.Card.{exact, cardOf}
+use Rattle.fault_rule.specs.Rule.{forward, windowIn}
+use Rattle.fault_card.specs.Card.{exact, fieldsOf, cardOf}
 use Rattle.fault_card.specs.declared.Card.{Card}
 use Rattle.fault_card.specs.declared.Card.the-variants.{Exact, Inexact}
 use Rattle.fault_card.proofs.Laws.{exact-card, inexact-card}
-use Rattle.fault_rules.specs.Rules.{ruleWidth, ruleSlots, mostRules, installNumber}
-use Rattle.fault_rules.proofs.Held.{install-room}
+use Rattle.fault_rules.specs.Rules.{ruleWidth, ruleSlots, mostRules}
 use Rattle.spec_network.specs.Opening.{latestNow, mostWords}
 use Rattle.spec_network.specs.Tables.{cell, sizesAt, setupWidth, netWidth, rulesAt, installedAt, faultWordsAt}
 use Rattle.ask_tables.proofs.Ladder.{yes, no, under, on, off, both, only}
@@ -74,9 +74,21 @@ pub inexact : (card : List ℕ) (c : Card) → c ≡ cardOf card → c ≡ Inexa
 unfolding exactNumber
 inexact card c e h = no _ _ _ _ (inexact-card card (sym e ∙ h)) refl
 
-pub is-exact : (card : List ℕ) (c : Card) (d : DropSpec) → c ≡ cardOf card → c ≡ Exact d → 0 ≡ exactNumber card
-unfolding exactNumber
-is-exact card c d e h = yes _ _ _ _ (exact-card card d (sym e ∙ h) .0) refl
+-- an exact card: what 18 answers of the fields that were read
+module _ (card : List ℕ) (c : Card) (d : DropSpec) (e : c ≡ cardOf card) (h : c ≡ Exact d) (b : Bool) (f : b ≡ forward (windowIn d)) where
+  read : (exact card ≡ true) × (d ≡ fieldsOf card)
+  read = exact-card card d (sym e ∙ h)
+
+  window-is : forward (windowIn (fieldsOf card)) ≡ b
+  window-is = ap (λ (x : DropSpec). forward (windowIn x)) (sym (read .1)) ∙ sym f
+
+  pub is-turned : b ≡ false → 18 ≡ exactNumber card
+  unfolding exactNumber
+  is-turned k = yes _ _ _ _ (read .0) (no _ _ _ _ (window-is ∙ k) refl)
+
+  pub is-exact : b ≡ true → 0 ≡ exactNumber card
+  unfolding exactNumber
+  is-exact k = yes _ _ _ _ (read .0) (yes _ _ _ _ (window-is ∙ k) refl)
 
 pub first-passes : (a b : ℕ) → a ≡ 0 → b ≡ firstOf a b
 unfolding firstOf
@@ -94,20 +106,16 @@ pub asks-card : (s n r card : List ℕ) (a b N : ℕ) → rulesLent s n r ≡ tr
 unfolding cardNumber
 asks-card s n r card a b N h p q e = yes _ _ _ _ h (e ∙ (rw (p, q)))
 
--- the two questions are those of the rule table
-pub in-order : (n card : List ℕ) → firstOf (placeNumber n) (exactNumber card) ≡ installNumber (cell n rulesAt) (cell n installedAt) card
-unfolding firstOf placeNumber exactNumber installNumber
-in-order n card = go (ltb (cell n rulesAt) ruleSlots && ltb (cell n installedAt) mostRules) (cond (exact card) 0 13)
+-- 12 comes before the questions of the card
+pub in-order : (n card : List ℕ) → firstOf (placeNumber n) (exactNumber card) ≡ cond (ltb (cell n rulesAt) ruleSlots && ltb (cell n installedAt) mostRules) (exactNumber card) 12
+unfolding firstOf placeNumber
+in-order n card = go (ltb (cell n rulesAt) ruleSlots && ltb (cell n installedAt) mostRules) (exactNumber card)
   where
     go : (b : Bool) (x : ℕ) → cond (eqb (cond b 0 12) 0) x (cond b 0 12) ≡ cond b x 12
     go true x = refl
     go false x = refl
 
--- an installed rule was not the last that may be
-fewer : (k ever : ℕ) (card : List ℕ) → installNumber k ever card ≡ 0 → ever < mostRules
-unfolding installNumber
-fewer k ever card h = ltb-true _ _ (both (ltb k ruleSlots) (ltb ever mostRules) (under _ (cond (exact card) 0 13) 11 h .0) .1)
-
+-- an installed rule has a place, and was not the last that may be
 pub record Installable (s n r card : List ℕ) : Type 0 where
   pub lent : Passed s n r
   pub count : cell n rulesAt < ruleSlots
@@ -117,8 +125,9 @@ pub installable : (s n r card : List ℕ) → cardNumber s n r card ≡ 0 → In
 unfolding cardNumber
 installable s n r card h =
     let q = under (rulesLent s n r) _ 0 h in
-    let z : installNumber (cell n rulesAt) (cell n installedAt) card ≡ 0 = sym (in-order n card) ∙ q .1 in
-    record { lent = passed s n r (q .0); count = install-room _ _ card z; ever = fewer _ _ card z }
+    let z = under (ltb (cell n rulesAt) ruleSlots && ltb (cell n installedAt) mostRules) (exactNumber card) 11 (sym (in-order n card) ∙ q .1) in
+    let x = both (ltb (cell n rulesAt) ruleSlots) (ltb (cell n installedAt) mostRules) (z .0) in
+    record { lent = passed s n r (q .0); count = ltb-true _ _ (x .0); ever = ltb-true _ _ (x .1) }
 
 -- ---- The ladder of `decide`
 

@@ -1,4 +1,4 @@
-// The questions of the rule calls, in order: 1, 12 and 13 of install; 1, 4, 5, 7 and 8 of decide. All tables stay as they are.
+// The questions of the rule calls, in order: 1, 12, 13 and 18 of install; 1, 4, 5, 7 and 8 of decide. All tables stay as they are.
 ghost use mathlib.Core.Path.{_≡_};
 ghost use Rattle.ask_rule.specs.Questions.{rulesLent, placeNumber, exactNumber, firstOf, cardNumber, decideNumber};
 use fault_card::Card;
@@ -33,7 +33,7 @@ fn place_number(net: &[u64]) -> u64
     0
 }
 
-// Question 13: is the card exact?
+// Questions 13 and 18: is the card exact, and the end of its window, where it has one, after the start?
 fn card_number(card: &[u8]) -> u64
     ensures { λ r. ⌜ r ≡ exactNumber (now (card .entry)) ⌝ }
 {
@@ -41,6 +41,9 @@ fn card_number(card: &[u8]) -> u64
     let Card::Exact(spec) = found else {
         return 13;
     };
+    if !fault_rule::card_forward(spec) {
+        return 18;
+    }
     0
 }
 
@@ -54,7 +57,7 @@ fn first_of(a: u64, b: u64) -> u64
     a
 }
 
-// Questions 1, 12 and 13.
+// Questions 1, 12, 13 and 18.
 pub fn install_refusal(setup: &[u64], net: &[u64], rules: &[u64], card: &[u8]) -> u64
     ensures { λ r. ⌜ r ≡ cardNumber (now (setup .entry)) (now (net .entry)) (now (rules .entry)) (now (card .entry)) ⌝ }
 {

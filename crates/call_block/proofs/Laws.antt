@@ -19,7 +19,7 @@ use Rattle.ask_tables.specs.Held.{setupHeld, netHeld, blocksHeld}
 use Rattle.call_reply.specs.declared.Value.{Value}
 use Rattle.call_reply.specs.Reply.{refusedBy, answeredBy}
 use Rattle.call_reply.proofs.Laws as reply
-use Rattle.ask_block.specs.Questions.{blocksLent, pairNumber, freeNumber, nowNumber}
+use Rattle.ask_block.specs.Questions.{blocksLent, pairNumber, freeNumber, windowNumber, duringNumber, nowNumber}
 use Rattle.call_block.specs.Calls.{Changes, DoesIsBlocked}
 
 -- ---- The numbers of the calls
@@ -37,9 +37,10 @@ module _ (T : Tables) (s n b : List ℕ) (from to : ℕ) where
   unfolding pairNumber blocksLent setupHeld netHeld blocksHeld
   block-number = ap (pairNumber s n b from to) counted
 
-  during-number : (start end : ℕ) → pairNumber s n b from to (freeNumber n) ≡ callReply (lendBlocks T s n b) (blockDuring from to start end) .number
-  unfolding pairNumber blocksLent setupHeld netHeld blocksHeld
-  during-number start end = ap (pairNumber s n b from to) counted
+  during-number : (start end : ℕ) → pairNumber s n b from to (duringNumber n start end) ≡ callReply (lendBlocks T s n b) (blockDuring from to start end) .number
+  unfolding pairNumber duringNumber windowNumber blocksLent setupHeld netHeld blocksHeld
+  during-number start end =
+      ap (λ (k : ℕ). pairNumber s n b from to (cond (ltb k blockSlots) (windowNumber start end) 12)) (sym (length-rows blockWidth firstBlock (cell n blocksAt) b))
 
   ask-number : (at : ℕ) → pairNumber s n b from to (nowNumber at) ≡ callReply (lendBlocks T s n b) (reading (isBlocked from to at)) .number
   unfolding pairNumber nowNumber blocksLent setupHeld netHeld blocksHeld
@@ -60,7 +61,7 @@ module _ (s n b : List ℕ) (from to r : ℕ) where
   pub block-refused : r ≡ pairNumber s n b from to (freeNumber n) → (r ≡ 0 → ⊥) → Changes s n b n b (block from to) (record { number = r })
   block-refused e h = refused-by (block from to) s n b r _ e (λ T. block-number T s n b from to) h
 
-  pub during-refused : (start end : ℕ) → r ≡ pairNumber s n b from to (freeNumber n) → (r ≡ 0 → ⊥) → Changes s n b n b (blockDuring from to start end) (record { number = r })
+  pub during-refused : (start end : ℕ) → r ≡ pairNumber s n b from to (duringNumber n start end) → (r ≡ 0 → ⊥) → Changes s n b n b (blockDuring from to start end) (record { number = r })
   during-refused start end e h = refused-by (blockDuring from to start end) s n b r _ e (λ T. during-number T s n b from to start end) h
 
   pub unblock-refused : r ≡ pairNumber s n b from to 0 → (r ≡ 0 → ⊥) → Changes s n b n b (unblock from to) (record { number = r })
@@ -76,7 +77,7 @@ module _ (s n b : List ℕ) (from to r : ℕ) where
         → Changes s n b n′ b′ (block from to) (record { number = 0 })
     block-done e h p q = changed-by (block from to) s n b r _ e (λ T. block-number T s n b from to) h n′ b′ (λ T. added (always from to) T p q)
 
-    pub during-done : (start end : ℕ) → r ≡ pairNumber s n b from to (freeNumber n) → r ≡ 0 → n′ ≡ set n blocksAt (k + 1) → b′ ≡ blockTable b k (during from to start end)
+    pub during-done : (start end : ℕ) → r ≡ pairNumber s n b from to (duringNumber n start end) → r ≡ 0 → n′ ≡ set n blocksAt (k + 1) → b′ ≡ blockTable b k (during from to start end)
         → Changes s n b n′ b′ (blockDuring from to start end) (record { number = 0 })
     during-done start end e h p q =
         changed-by (blockDuring from to start end) s n b r _ e (λ T. during-number T s n b from to start end) h n′ b′ (λ T. added (during from to start end) T p q)

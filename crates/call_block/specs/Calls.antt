@@ -1,4 +1,4 @@
--- Document 01, fault engine (`block`, `block_during`, `unblock`, `is_blocked`), with questions 1, 4, 7 and 12: THE CONTRACTS of the block calls. Of the tables `setup`,
+-- Document 01, fault engine (`block`, `block_during`, `unblock`, `is_blocked`), with questions 1, 4, 7, 12 and 18: THE CONTRACTS of the block calls. Of the tables `setup`,
 -- `net` and `blocks` are lent; the others hold whatever they hold, and stay.
 use mathlib.Core.List.{List}
 use Prim.Native.Nat.{ℕ}

@@ -35,7 +35,7 @@ pub fn block_during(
         (now (net .exit)) (now (blocks .exit))
         «from» to start end r ⌝ }
 {
-    let number = ask_block::block_refusal(setup, net, blocks, from, to);
+    let number = ask_block::during_refusal(setup, net, blocks, from, to, start, end);
     if number != 0 {
         return Done { number };
     }

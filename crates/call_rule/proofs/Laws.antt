@@ -9,8 +9,7 @@ use lib.Dec.{ltb}
 use lib.ListN.{set}
 use Rattle.fault_rule.specs.declared.MessageContext.{MessageContext}
 use Rattle.table_rows.proofs.Rows.{length-rows}
-use Rattle.fault_card.specs.Card.{exact}
-use Rattle.fault_rules.specs.Rules.{ruleWidth, ruleSlots, mostRules, firstRule, rulesOf, readingOf, removedOf, installNumber, installTable, removeTable, fireTable}
+use Rattle.fault_rules.specs.Rules.{ruleWidth, ruleSlots, mostRules, firstRule, rulesOf, readingOf, removedOf, installTable, removeTable, fireTable}
 use Rattle.fault_rules.specs.declared.Reading as rules
 use Rattle.fault_rules.specs.declared.Removed.{Removed}
 use Rattle.rand_streams.specs.declared.Cursor.{Cursor}
@@ -28,7 +27,7 @@ use Rattle.ask_tables.proofs.Ladder.{yes, no}
 use Rattle.call_reply.specs.declared.Value.{Value}
 use Rattle.call_reply.specs.Reply.{refusedBy, answeredBy}
 use Rattle.call_reply.proofs.Laws as reply
-use Rattle.ask_rule.specs.Questions.{rulesLent, lentNumber, cardNumber, decideNumber}
+use Rattle.ask_rule.specs.Questions.{rulesLent, lentNumber, exactNumber, cardNumber, decideNumber}
 use Rattle.ask_rule.proofs.Laws.{in-order}
 use Rattle.call_rule.specs.Calls.{Changes}
 
@@ -54,10 +53,10 @@ module _ (T : Tables) (s n r : List ℕ) where
   lent-fired id = refl
 
   number-install : (card : List ℕ) → cardNumber s n r card ≡ callReply (lendRules T s n r) (install card) .number
-  unfolding cardNumber installNumber rulesLent setupHeld netHeld rulesHeld
+  unfolding cardNumber exactNumber rulesLent setupHeld netHeld rulesHeld
   number-install card =
       ap (lentNumber s n r) (in-order n card)
-      ∙ ap (λ (k : ℕ). lentNumber s n r (cond (ltb k ruleSlots && ltb (cell n installedAt) mostRules) (cond (exact card) 0 13) 12)) (sym (length-rows ruleWidth firstRule (cell n rulesAt) r))
+      ∙ ap (λ (k : ℕ). lentNumber s n r (cond (ltb k ruleSlots && ltb (cell n installedAt) mostRules) (exactNumber card) 12)) (sym (length-rows ruleWidth firstRule (cell n rulesAt) r))
 
   number-decide : (m : MessageContext) → decideNumber s n r m ≡ callReply (lendRules T s n r) (decide m) .number
   unfolding decideNumber rulesLent setupHeld netHeld rulesHeld

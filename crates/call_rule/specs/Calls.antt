@@ -1,4 +1,4 @@
--- Document 01, fault engine (`install_spec`, `remove`, `decide`), with questions 1, 4, 5, 7, 8, 12 and 13: THE CONTRACTS of the rule calls. Of the tables `setup`, `net`
+-- Document 01, fault engine (`install_spec`, `remove`, `decide`), with questions 1, 4, 5, 7, 8, 12, 13 and 18: THE CONTRACTS of the rule calls. Of the tables `setup`, `net`
 -- and `rules` are lent; the others hold whatever they hold, and stay.
 use mathlib.Core.List.{List}
 use Prim.Native.Nat.{ℕ}

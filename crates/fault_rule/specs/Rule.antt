@@ -1,4 +1,5 @@
--- Document 01, fault engine: a drop rule, its window, its filters and its action.
+-- Document 01, fault engine: a drop rule, its window, its filters and its action. Document 02, M-110: a window the wrong way round.
+use mathlib.Core.Path.{_≡_}
 use mathlib.Core.Bool.{Bool, true, cond, _&&_}
 use Prim.Native.Nat.{ℕ, _/_, _%_, _^_}
 use lib.Dec.{leb, ltb, eqb}
@@ -44,6 +45,10 @@ filterOf map k x = cond (has map k) (Is x) Any
 unfoldable pub windowOf : ℕ → ℕ → ℕ → TimeWindow
 windowOf map start end = cond (has map windowBit) (During start end) Always
 
+-- the window that a card's fields give
+abbrev pub windowIn : DropSpec → TimeWindow
+windowIn s = windowOf (s .map) (s .start) (s .end)
+
 -- a plain drop, or a drop with a probability: the bits as a float, clamped to 0..1, where a NaN stays one
 unfoldable pub actionOf : ℕ → ℕ → FaultAction
 actionOf map bits = cond (has map probabilityBit) (DropWithProbability (clamped (ofBits binary64 bits))) Drop
@@ -55,13 +60,23 @@ ruleOf s = record {
   to = filterOf (s .map) toBit (s .to);
   tier = filterOf (s .map) tierBit (s .tier);
   action = actionOf (s .map) (s .probability);
-  window = windowOf (s .map) (s .start) (s .end);
+  window = windowIn s;
 }
 
 -- a window holds its start and not its end
 unfoldable pub holds : TimeWindow → ℕ → Bool
 holds Always now = true
 holds (During start end) now = leb start now && ltb now end
+
+-- the end is after the start; a window that always holds has neither
+unfoldable pub forward : TimeWindow → Bool
+forward Always = true
+forward (During start end) = ltb start end
+
+-- a window that is not empty: it holds some time
+pub record HoldsSome (w : TimeWindow) : Type 0 where
+  pub time : ℕ
+  pub held : holds w time ≡ true
 
 unfoldable pub passes : Filter → ℕ → Bool
 passes Any x = true

@@ -1,7 +1,7 @@
 // A drop rule: which messages it is for, when it is active, and what it does.
 ghost use mathlib.Core.Path.{_≡_};
 ghost use Prim.Native.Nat.{_<_};
-ghost use Rattle.fault_rule.specs.Rule.{has, filterOf, windowOf, actionOf, ruleOf, holds, passes, applies};
+ghost use Rattle.fault_rule.specs.Rule.{has, filterOf, windowOf, actionOf, windowIn, ruleOf, holds, forward, passes, applies};
 
 // The bits of a drop card's map, one for each field that it may have.
 pub const KIND: u64 = 0;
@@ -133,6 +133,24 @@ pub fn window_holds(w: TimeWindow, now: u64) -> bool
             now < end
         }
     }
+}
+
+// Is the window's end after its start? One that always holds has neither.
+pub fn window_forward(w: TimeWindow) -> bool
+    ensures { λ r. ⌜ r ≡ forward w ⌝ }
+{
+    match w {
+        TimeWindow::Always => true,
+        TimeWindow::During { start, end } => start < end,
+    }
+}
+
+// The same of a card's window; a card without one has nothing to turn round.
+pub fn card_forward(s: DropSpec) -> bool
+    ensures { λ r. ⌜ r ≡ forward (windowIn s) ⌝ }
+{
+    let w = window_of(s.map, s.start, s.end);
+    window_forward(w)
 }
 
 fn filter_passes(f: Filter, x: u64) -> bool

@@ -4,7 +4,7 @@ use mathlib.Core.List.{List, [], _∷_, _++_}
 use Prim.Native.Nat.{ℕ, _+_, min}
 use lib.Dec.{eqb}
 use lib.ListN.{getD}
-use Rattle.sim_figures.specs.Figures.{tillsAt, acceptsAt, fiveAt, downMarksAt, flushMarksAt, flushesAt, refusedAt, refusedPlace, sentOf, lostFromOf, tillRow}
+use Rattle.sim_figures.specs.Figures.{tillsAt, acceptsAt, fiveAt, downMarksAt, flushMarksAt, flushesAt, refusedAt, mostNumbers, refusedPlace, sentOf, lostFromOf, tillRow}
 use Rattle.sim_comparison.specs.Compared.{sumOf, columnOf, countsOf, marksOf, clearedOf, atAcceptOf, flushDropsOf, sendersDiffer, differOf}
 use Rattle.sim_sheet.specs.Sheet.{Piece, figure, bytes, saying, newline, lineOf, comparedLines, boundedLines, tableOf, fourOf, verdictLine}
 
@@ -21,7 +21,7 @@ refusalsOf l n = tableOf (λ (k : ℕ). refusalOf l (k + 1)) n
 unfoldable pub headOf : List ℕ → List Piece
 headOf l =
     saying "CHECKLIST OF THE RUN\n" ++ (lineOf (bytes "tills") (getD l tillsAt 0) ++ (lineOf (bytes "messages accepted") (getD l acceptsAt 0)
-    ++ (lineOf (bytes "flushes") (getD l flushesAt 0) ++ (lineOf (bytes "calls refused") (sumOf l refusedAt 16) ++ (refusalsOf l 15
+    ++ (lineOf (bytes "flushes") (getD l flushesAt 0) ++ (lineOf (bytes "calls refused") (sumOf l refusedAt (mostNumbers + 1)) ++ (refusalsOf l mostNumbers
     ++ lineOf (bytes "comparisons that differ") (differOf l))))))
 
 -- ---- A, B, C

@@ -1,4 +1,5 @@
 // The head of the checklist and its parts A to C, printed: recipients, seen marks, drops by cause and by the till that sent.
+ghost use Rattle.sim_figures.specs.Figures.{mostNumbers};
 ghost use Rattle.sim_printer.specs.Printer.{page};
 ghost use Rattle.sim_sheet.specs.Sheet.{Prints};
 ghost use Rattle.sim_checklist_counts.specs.Counts as is;
@@ -8,6 +9,8 @@ use sim_figures::FIVE;
 use sim_figures::FLUSH_MARKS;
 use sim_figures::FLUSHES;
 use sim_figures::LOST_FROM;
+use sim_figures::MOST_NUMBERS;
+use sim_figures::NUMBERS;
 use sim_figures::REFUSED;
 use sim_figures::SENT;
 use sim_figures::TILLS;
@@ -20,9 +23,6 @@ use sim_sheet::four;
 use sim_sheet::line;
 use sim_sheet::say;
 use sim_sheet::verdict;
-
-// The numbers that have a line, where they refused a call.
-const QUESTIONS: u64 = 15;
 
 // How many calls a question refused; nothing where none.
 fn refusal(figures: &[u64], buf: &mut [u8], used: usize, number: u64) -> usize
@@ -40,11 +40,11 @@ fn refusal(figures: &[u64], buf: &mut [u8], used: usize, number: u64) -> usize
 
 // The same of every question.
 fn refusals(figures: &[u64], buf: &mut [u8], used: usize) -> usize
-    ensures { λ r. ⌜ Prints (is.refusalsOf (now (figures .entry)) 15) (page (now (buf .entry)) used) (page (now (buf .exit)) r) ⌝ }
+    ensures { λ r. ⌜ Prints (is.refusalsOf (now (figures .entry)) mostNumbers) (page (now (buf .entry)) used) (page (now (buf .exit)) r) ⌝ }
 {
     let mut u = used;
     let mut n: u64 = 0;
-    while n < QUESTIONS {
+    while n < MOST_NUMBERS {
         u = refusal(figures, buf, u, n + 1);
         n += 1;
     }
@@ -63,7 +63,7 @@ pub fn head(figures: &[u64], buf: &mut [u8], used: usize) -> usize
         buf,
         d,
         b"calls refused",
-        sim_comparison::sum(figures, REFUSED, 16),
+        sim_comparison::sum(figures, REFUSED, NUMBERS),
     );
     let f = refusals(figures, buf, e);
     line(

@@ -74,17 +74,20 @@ droppedAt = 24
 abbrev pub waitingAt : ℕ
 waitingAt = 26
 
--- refused calls by their number; those beyond 14 share the last place
+-- refused calls by their number; those beyond 24, document 02's last question, share the last place
 abbrev pub refusedAt : ℕ
 refusedAt = 28
 
+abbrev pub mostNumbers : ℕ
+mostNumbers = 25
+
 abbrev pub refusedPlace : ℕ → ℕ
-refusedPlace number = refusedAt + min number 15
+refusedPlace number = refusedAt + min number mostNumbers
 
 -- ---- A row a class: deliveries and bytes counted from the rows, then those of the log. A class beyond 7 shares the last row
 
 abbrev pub classRows : ℕ
-classRows = 44
+classRows = 54
 
 abbrev pub classWidth : ℕ
 classWidth = 4
@@ -99,7 +102,7 @@ classRow k = classRows + min k 8 * classWidth
 -- ---- what it sent; waiting for it. A till beyond 63 shares the last row
 
 abbrev pub tillRows : ℕ
-tillRows = 80
+tillRows = 90
 
 abbrev pub tillWidth : ℕ
 tillWidth = 10

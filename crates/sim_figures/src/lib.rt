@@ -17,7 +17,10 @@ pub const MOST_TILLS: u64 = 64;
 
 const MOST_CLASSES: u64 = 8;
 
-const MOST_NUMBERS: u64 = 15;
+pub const MOST_NUMBERS: u64 = 25;
+
+// The places of numbers, that of 0 with them.
+pub const NUMBERS: usize = MOST_NUMBERS as usize + 1;
 
 // A scope that is no shard.
 const GLOBAL: u64 = 16;
@@ -70,7 +73,7 @@ pub const WAITING: usize = 26;
 pub const REFUSED: usize = 28;
 
 // of a class: deliveries and bytes of the rows, then of the log,
-const CLASS_ROWS: usize = REFUSED + 16;
+const CLASS_ROWS: usize = REFUSED + NUMBERS;
 
 const CLASS_WIDTH: usize = 4;
 

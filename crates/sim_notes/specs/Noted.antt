@@ -38,7 +38,7 @@ drainLine = 17
 
 -- the last number of a question
 abbrev pub lastNumber : ℕ
-lastNumber = 14
+lastNumber = 24
 
 -- ---- The marks that stand, of all tills; the sum wraps at 2^64
 

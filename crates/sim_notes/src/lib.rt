@@ -10,7 +10,7 @@ use sim_script::calls;
 const SEQUENCE: usize = table_delivery::WIDTH;
 
 // The last number of a question.
-const LAST: u64 = 14;
+const LAST: u64 = 24;
 
 const CLASSES: u64 = ask_tables::MOST_CLASSES;
 

@@ -99,7 +99,7 @@ module _ (o : Opening) where
     };
     same = layout.same-step (by o (h .draws)) (h .limits) (h .kept) (in-order o T b h) room c (sym e) ∙ ap (λ (q : LiveBy plain). liveStep (by o (h .draws)) q c) (h .same)
         ∙ drawing.same-step o (h .draws) (h .agree) (b .live) room c (sym (e ∙ ap firstNo (asked-is room T b h c)));
-    sound = book-sound o b c false (h .sound);
+    sound = book-sound o b room c (sym (e ∙ ap firstNo (asked-is room T b h c))) (h .sound);
     limits = h .limits;
   }
   held-step room T b c h (suc n) e = h
@@ -243,11 +243,6 @@ module _ (o : Opening) where
   end-held [] b T h a = h
   end-held (i ∷ is) b T h a = end-held is (bookAfter o b T i) (tablesAfter T i) (held-after b T i h (a .0)) (a .1)
 
-  pub after-sound : (b : Book) (T : Tables) (i : Item) → SoundBook o b → SoundBook o (bookAfter o b T i)
-  after-sound b T (own room c) h = book-sound o b c (refused T (own room c)) h
-  after-sound b T (others X c) h = book-sound o b c (refused T (others X c)) h
-  after-sound b T (reopen X y ms) h = h
-
   pub book-holds : (b : Book) → SoundBook o b → BookHolds o b
   book-holds b k = record {
     same-copies = k .places;
@@ -259,6 +254,8 @@ module _ (o : Opening) where
     sorted = k .order;
     due-all = λ now. front-all now (b .live .queue .waiting) (k .order);
     rule-ids = k .ids;
+    rule-windows = k .rule-windows;
+    block-windows = k .block-windows;
   }
 
 -- ---- THE THEOREM

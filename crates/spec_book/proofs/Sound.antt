@@ -1,4 +1,4 @@
--- What holds of every book: each copy is in one place, no original is scheduled twice, waiting is in order.
+-- What holds of every book: each copy is in one place, no original is scheduled twice, waiting is in order, no window is empty.
 use mathlib.Core.Path.{_≡_, refl, sym, _∙_, subst}
 use Prim.Native.Nat.{ℕ, zero, suc, _+_, _<_}
 use native.Mathlib.Omega.{arith}
@@ -18,22 +18,27 @@ use Rattle.fault_rules.specs.Rules.{Ascending, fireAt, withRule}
 use Rattle.fault_rules.specs.declared.FaultRule.{FaultRule}
 use Rattle.fault_rules.proofs.Ids.{install-ascends, remove-ascends, fire-ascends}
 use Rattle.fault_decide.specs.Decide.{Decision, rulesAfter}
+use Rattle.fault_blocks.specs.declared.BlockWindow.{BlockWindow}
 use Rattle.spec_network.specs.Lists.{bit, count, below}
 use Rattle.spec_network.specs.Opening.{Opening}
 use Rattle.spec_network.specs.Layout.{Layout, plain, Marks, inserted}
 use Rattle.spec_network.specs.Live.{LiveBy, isOriginal, marked, idsAt, stopped}
 use Rattle.spec_network.specs.Accept.{Message, messageOf, selected, Drawn, drawn, Fate, deduplicated, partition, loss, fault, sent, firstFit, fateOf, copies, effect, offered, liveAfter, insertAll}
 use Rattle.spec_network.specs.Flush.{served, stops, unmark, clearing}
+use Rattle.spec_network.specs.Questions.{Room, askedIn, asked, firstNo}
 use Rattle.spec_network.specs.Calls.{Call, liveStep, accept, flush, takeDown, bringUp, handlers, block, blockDuring, unblock, install, remove, decide, drain, reading}
 use Rattle.spec_book.specs.Book.{Book, Event, scheduledIn, landedIn, droppedIn, eventsOf, offerEvents, eventsAfter, happened, opened, bookStep}
 use Rattle.spec_book.specs.History.{hasSequence, given, standing}
+use Rattle.spec_book.specs.Demand3.{RuleHolds, BlockHolds}
 use Rattle.spec_book.proofs.Counting.{copies-count, count-insertAll, scheduling-scheduled, scheduling-landed, scheduling-dropped, flushing-scheduled, flushing-moved}
 use Rattle.spec_book.proofs.Serving.{later-sorted, served-count}
 use Rattle.spec_book.proofs.Marks.{Apart, echoes-standing, echoes-apart, member-set, member-empty, rises-inserted, clearing-rises, clearing-agrees, flushing-apart}
 use Rattle.spec_book.proofs.Each.{each-set, each-at, each-replicate, each-upTo}
+use Rattle.spec_book.proofs.Asking.{all-yes, apart}
+use Rattle.spec_book.proofs.Windows.{install-windows, remove-windows, ruled-windows, always-windows, during-windows, unblock-windows}
 
 -- It speaks of the parts that it needs, and so holds at once of a live part that differs elsewhere.
-pub record Sound (tills : ℕ) (waiting : List Copy) (sequence : ℕ) (seen : List (List ℕ)) (installed : ℕ) (rules : List FaultRule) (past : List Event) : Type 0 where
+pub record Sound (tills : ℕ) (waiting : List Copy) (sequence : ℕ) (seen : List (List ℕ)) (installed : ℕ) (rules : List FaultRule) (blocks : List BlockWindow) (past : List Event) : Type 0 where
   pub places : (p : Copy → Bool) → count p (scheduledIn past) ≡ count p waiting + (count p (landedIn past) + count p (droppedIn past))
   pub numbers : (n : ℕ) → count (hasSequence n) (scheduledIn past) ≡ bit (given n sequence)
   pub marks : (t i : ℕ) → standing t i past ≡ member i (getD seen t [])
@@ -42,9 +47,11 @@ pub record Sound (tills : ℕ) (waiting : List Copy) (sequence : ℕ) (seen : Li
   pub shape : length seen ≡ tills
   pub rises : Each Rises seen
   pub ids : Ascending 0 installed rules
+  pub rule-windows : Each RuleHolds rules
+  pub block-windows : Each BlockHolds blocks
 
 abbrev pub SoundLive : Opening → LiveBy plain → List Event → Type 0
-SoundLive o s past = Sound (o .sizes .tills) (s .queue .waiting) (s .queue .sequence) (s .seen) (s .engine .installed) (s .engine .rules) past
+SoundLive o s past = Sound (o .sizes .tills) (s .queue .waiting) (s .queue .sequence) (s .seen) (s .engine .installed) (s .engine .rules) (s .engine .blocks) past
 
 sorted-insertAll : (cs w : List Copy) → Sorted w → Sorted (insertAll plain cs w)
 sorted-insertAll [] w h = h
@@ -78,6 +85,8 @@ module _ (o : Opening) (m : Message) (s : LiveBy plain) (d : Drawn) (t : ℕ) (p
     shape = h .shape;
     rises = h .rises;
     ids = ruled-ascends (d .verdict) (s .engine .installed) (s .engine .rules) (h .ids);
+    rule-windows = ruled-windows (d .verdict) (s .engine .rules) (h .rule-windows);
+    block-windows = h .block-windows;
   }
   effect-sound sent f b =
       let cs = copies o m s d t in
@@ -93,6 +102,8 @@ module _ (o : Opening) (m : Message) (s : LiveBy plain) (d : Drawn) (t : ℕ) (p
         shape = length-set (s .seen) t _ ∙ h .shape;
         rises = each-set Rises (s .seen) t (inserted (m .id) (idsAt s t)) (h .rises) (rises-inserted (m .id) (idsAt s t) (f refl) (each-at Rises (s .seen) t [] (h .rises) tt));
         ids = ruled-ascends (d .verdict) (s .engine .installed) (s .engine .rules) (h .ids);
+        rule-windows = ruled-windows (d .verdict) (s .engine .rules) (h .rule-windows);
+        block-windows = h .block-windows;
       }
 
 -- ---- The selected tills
@@ -134,13 +145,41 @@ install-next : (n : ℕ) (rs : List FaultRule) (d : DropSpec) → Ascending 0 n 
 install-next n rs d h = let z : n + 1 ≡ suc n = omega arith in subst (λ (k : ℕ). Ascending 0 k (withRule n d rs)) z (install-ascends 0 n rs d (omega arith) h)
 
 module _ (o : Opening) where
-  with-ids : (s : LiveBy plain) (past : List Event) → SoundLive o s past → (n : ℕ) (rs : List FaultRule) → Ascending 0 n rs → Sound (o .sizes .tills) (s .queue .waiting) (s .queue .sequence) (s .seen) n rs past
-  with-ids s past h n rs a = record { places = h .places; numbers = h .numbers; marks = h .marks; apart = h .apart; order = h .order; shape = h .shape; rises = h .rises; ids = a }
+  -- other rules, or other blocks
+  with-rules : (s : LiveBy plain) (past : List Event) → SoundLive o s past → (n : ℕ) (rs : List FaultRule) → Ascending 0 n rs → Each RuleHolds rs
+      → Sound (o .sizes .tills) (s .queue .waiting) (s .queue .sequence) (s .seen) n rs (s .engine .blocks) past
+  with-rules s past h n rs a w = record {
+    places = h .places;
+    numbers = h .numbers;
+    marks = h .marks;
+    apart = h .apart;
+    order = h .order;
+    shape = h .shape;
+    rises = h .rises;
+    ids = a;
+    rule-windows = w;
+    block-windows = h .block-windows;
+  }
 
-  pub step-sound : (s : LiveBy plain) (c : Call) (past : List Event) → SoundLive o s past → SoundLive o (liveStep o s c) (happened o s c past)
-  step-sound s (accept e true) past h = accept-sound o (messageOf o e) (selected o s (e .scope) (e .from)) s past (selected-below o s (e .scope) (e .from)) h
-  step-sound s (accept e false) past h = h
-  step-sound s (flush now rows) past h = record {
+  with-blocks : (s : LiveBy plain) (past : List Event) → SoundLive o s past → (bs : List BlockWindow) → Each BlockHolds bs
+      → Sound (o .sizes .tills) (s .queue .waiting) (s .queue .sequence) (s .seen) (s .engine .installed) (s .engine .rules) bs past
+  with-blocks s past h bs w = record {
+    places = h .places;
+    numbers = h .numbers;
+    marks = h .marks;
+    apart = h .apart;
+    order = h .order;
+    shape = h .shape;
+    rises = h .rises;
+    ids = h .ids;
+    rule-windows = h .rule-windows;
+    block-windows = w;
+  }
+
+  pub step-sound : (room : Room) (s : LiveBy plain) (c : Call) (past : List Event) → firstNo (askedIn o room s c) ≡ 0 → SoundLive o s past → SoundLive o (liveStep o s c) (happened o s c past)
+  step-sound room s (accept e true) past y h = accept-sound o (messageOf o e) (selected o s (e .scope) (e .from)) s past (selected-below o s (e .scope) (e .from)) h
+  step-sound room s (accept e false) past y h = h
+  step-sound room s (flush now rows) past y h = record {
     places = λ p. rw (flushing-scheduled s (served now rows s) past)
         (omega (arith, h .places p, flushing-moved p s (served now rows s) past, served-count now rows s p));
     numbers = λ n. rw (flushing-scheduled s (served now rows s) past) (h .numbers n);
@@ -150,8 +189,10 @@ module _ (o : Opening) where
     shape = length-clearing s (served now rows s) (s .seen) ∙ h .shape;
     rises = clearing-rises s (served now rows s) (s .seen) (h .rises);
     ids = h .ids;
+    rule-windows = h .rule-windows;
+    block-windows = h .block-windows;
   }
-  step-sound s (takeDown t) past h = record {
+  step-sound room s (takeDown t) past y h = record {
     places = h .places;
     numbers = h .numbers;
     apart = h .apart;
@@ -160,24 +201,34 @@ module _ (o : Opening) where
     shape = length-set (s .seen) t [] ∙ h .shape;
     rises = each-set Rises (s .seen) t [] (h .rises) tt;
     ids = h .ids;
+    rule-windows = h .rule-windows;
+    block-windows = h .block-windows;
   }
-  step-sound s (bringUp t shards) past h = h
-  step-sound s (handlers t gossip host) past h = h
-  step-sound s (block from to) past h = h
-  step-sound s (blockDuring from to start end) past h = h
-  step-sound s (unblock from to) past h = h
-  step-sound s (install card) past h = with-ids s past h (suc (s .engine .installed)) _ (install-next (s .engine .installed) (s .engine .rules) (fieldsOf card) (h .ids))
-  step-sound s (remove id) past h = with-ids s past h (s .engine .installed) _ (remove-ascends id 0 (s .engine .installed) (s .engine .rules) (h .ids))
-  step-sound s (decide x) past h = with-ids s past h (s .engine .installed) _ (ruled-ascends (o .draws .decide x (s .engine .rules) (s .engine .words)) (s .engine .installed) (s .engine .rules) (h .ids))
-  step-sound s (drain rows) past h = h
-  step-sound s (reading r) past h = h
+  step-sound room s (bringUp t shards) past y h = h
+  step-sound room s (handlers t gossip host) past y h = h
+  step-sound room s (block from to) past y h = with-blocks s past h _ (always-windows from to (s .engine .blocks) (h .block-windows))
+  step-sound room s (blockDuring from to start end) past y h =
+      let q = all-yes (asked o s (blockDuring from to start end)) (apart o s (blockDuring from to start end)) y in
+      with-blocks s past h _ (during-windows from to start end (s .engine .blocks) (q .1 .1 .0) (h .block-windows))
+  step-sound room s (unblock from to) past y h = with-blocks s past h _ (unblock-windows from to (s .engine .blocks) (h .block-windows))
+  step-sound room s (install card) past y h =
+      let q = all-yes (asked o s (install card)) (apart o s (install card)) y in
+      with-rules s past h (suc (s .engine .installed)) _ (install-next (s .engine .installed) (s .engine .rules) (fieldsOf card) (h .ids))
+      (install-windows (s .engine .installed) (fieldsOf card) (s .engine .rules) (q .1 .1 .0) (h .rule-windows))
+  step-sound room s (remove id) past y h =
+      with-rules s past h (s .engine .installed) _ (remove-ascends id 0 (s .engine .installed) (s .engine .rules) (h .ids)) (remove-windows id (s .engine .rules) (h .rule-windows))
+  step-sound room s (decide x) past y h =
+      let v = o .draws .decide x (s .engine .rules) (s .engine .words) in
+      with-rules s past h (s .engine .installed) _ (ruled-ascends v (s .engine .installed) (s .engine .rules) (h .ids)) (ruled-windows v (s .engine .rules) (h .rule-windows))
+  step-sound room s (drain rows) past y h = h
+  step-sound room s (reading r) past y h = h
 
   abbrev pub SoundBook : Book → Type 0
   SoundBook b = SoundLive o (b .live) (b .past)
 
-  pub book-sound : (b : Book) (c : Call) (refused : Bool) → SoundBook b → SoundBook (bookStep o b c refused)
-  book-sound b c true h = h
-  book-sound b c false h = step-sound (b .live) c (b .past) h
+  -- a call that no number refused
+  pub book-sound : (b : Book) (room : Room) (c : Call) → firstNo (askedIn o room (b .live) c) ≡ 0 → SoundBook b → SoundBook (bookStep o b c false)
+  book-sound b room c y h = step-sound room (b .live) c (b .past) y h
 
   none-marked : (n t i : ℕ) → false ≡ member i (getD (replicate n []) t [])
   none-marked zero t i = refl
@@ -198,4 +249,6 @@ module _ (o : Opening) where
     shape = length-replicate (o .sizes .tills) [];
     rises = each-replicate Rises (o .sizes .tills) [] tt;
     ids = omega arith;
+    rule-windows = tt;
+    block-windows = tt;
   }

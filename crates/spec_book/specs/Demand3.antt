@@ -10,7 +10,11 @@ use Rattle.table_rows.specs.Lists.{Each}
 use Rattle.table_waiting.specs.Waiting.{onTime, Sorted}
 use Rattle.table_waiting.specs.declared.Copy.{Copy}
 use Rattle.table_marks.specs.Marks.{Rises}
+use Rattle.fault_rule.specs.Rule.{HoldsSome, windowIn}
+use Rattle.fault_rules.specs.declared.FaultRule.{FaultRule}
 use Rattle.fault_rules.specs.Rules.{Ascending}
+use Rattle.fault_blocks.specs.declared.BlockWindow.{BlockWindow}
+use Rattle.fault_blocks.specs.Blocks.{windowOf}
 use Rattle.spec_network.specs.Lists.{bit, count, some-of}
 use Rattle.spec_network.specs.Opening.{Settings, Opening}
 use Rattle.spec_network.specs.Live.{plainly, marked}
@@ -169,6 +173,13 @@ module _ (o : Opening) where
 
 -- ---- What holds of the book
 
+-- a rule's window, and a block's, holds some time
+abbrev pub RuleHolds : FaultRule → Type 0
+RuleHolds r = HoldsSome (windowIn (r .spec))
+
+abbrev pub BlockHolds : BlockWindow → Type 0
+BlockHolds w = HoldsSome (windowOf w)
+
 pub record BookHolds (o : Opening) (b : Book) : Type 0 where
   -- every copy scheduled is in one place, waiting, one row or one flush drop, and nothing else is in any of these
   pub same-copies : (p : Copy → Bool) → count p (scheduledIn (b .past)) ≡ count p (b .live .queue .waiting) + (count p (landedIn (b .past)) + count p (droppedIn (b .past)))
@@ -186,6 +197,9 @@ pub record BookHolds (o : Opening) (b : Book) : Type 0 where
   pub due-all : (now : ℕ) → due now (b .live) ≡ keep (onTime now) (b .live .queue .waiting)
   -- no two rules have one id, and none an id that is still to come
   pub rule-ids : Ascending 0 (b .live .engine .installed) (b .live .engine .rules)
+  -- no window is empty (M-110)
+  pub rule-windows : Each RuleHolds (b .live .engine .rules)
+  pub block-windows : Each BlockHolds (b .live .engine .blocks)
 
 -- the tables hold the opening: its settings and names, and for every link between its tills the key and the cost that the book has
 pub record OpeningHeld (x : Settings) (names : List ℕ) (T : Tables) : Type 0 where

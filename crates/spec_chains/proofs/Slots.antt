@@ -29,7 +29,7 @@ use Rattle.spec_book.proofs.Formed.{formed-waiting}
 use Rattle.spec_book.proofs.Sound.{SoundBook, opened-sound}
 use Rattle.spec_book.proofs.Held.{Held}
 use Rattle.spec_book.proofs.Drawing.{by}
-use Rattle.spec_book.proofs.Final.{Bears, reply-is, number-is, answer-is, held-after, call-holds, after-sound, book-holds, open-bears}
+use Rattle.spec_book.proofs.Final.{Bears, reply-is, number-is, answer-is, held-after, call-holds, book-holds, open-bears}
 use Rattle.spec_chains.specs.Pool.{sumBelow, othersBelow, takes, Bench, limit, freeFor, mostChains, chainOpening, chainOpened}
 use Rattle.spec_chains.specs.Chains.{placed, put, inBooks, openedBooks, Inside, AllInside}
 use Rattle.spec_chains.specs.Slots.{ledgerWidth, shareAt, countAt, counts, freeIn, ofChain, openLedger, ownMoves, poolReplies, joined, copiesIn, Stand, Move, poolOf, brought, itemHere, worked, standNext, booksAlong, standLast, booksThen, AdmittedMoves, MoveHolds, MovesHold, openStand, PoolHolds}
@@ -257,7 +257,7 @@ module _ (B : Bench) (ok : Opened B) where
     sound-next j = go (eqb j i) refl
       where
         go : (c : Bool) → eqb j i ≡ c → SoundBook (chainOpening B j) (cond c b′ (b j))
-        go true d = subst (λ (x : ℕ). SoundBook (chainOpening B x) b′) (sym (eqb-true j i d)) (after-sound o (b i) T it (v .sound i))
+        go true d = subst (λ (x : ℕ). SoundBook (chainOpening B x) b′) (sym (eqb-true j i d)) (held-own .sound)
         go false d = v .sound j
 
     next : Inv (standNext B S m) (booksAlong B b S m)

@@ -62,7 +62,7 @@ table =
     -- not 4 or 8
     ∷ window 5 8 4 false
     ∷ window 5 8 8 false
-    -- 5..5 holds nothing
+    -- 5..5 holds nothing: of the window test alone, since `block_during` and `install` refuse such a window with 18 (document 02, M-110)
     ∷ holdsNothing 5 5
     -- base 150 ms, fraction 0.1: draw 0 gives 135,000,000 ns
     ∷ latency (150 * millisecond) 0 135000000

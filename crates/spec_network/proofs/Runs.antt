@@ -17,7 +17,7 @@ use Rattle.spec_network.specs.Flush.{Row}
 use Rattle.table_log.specs.Log.{emptyLog}
 use Rattle.spec_network.specs.Questions.{asked, firstNo}
 use Rattle.spec_network.specs.Layout as layout
-use Rattle.spec_network.specs.Live.{Carried, Live, withWaiting, openingLive}
+use Rattle.spec_network.specs.Live.{Carried, Live, Engine, withBlocks, withEngine, withWaiting, openingLive}
 use Rattle.spec_network.specs.Calls.{Call, counted, number, tallied, isBlocked, transit, nextTime, tallyOf, countsIn, rowsIn, deliveredIn, dropsIn, accept, flush, takeDown, bringUp, handlers, block, blockDuring, unblock, install, remove, decide, drain, reading}
 use Rattle.spec_network.specs.Tables.{Tables, live, cell}
 use Rattle.spec_network.specs.Writes.{Reply, outputWith, tablesBy, replyBy}
@@ -144,6 +144,14 @@ rowsTo r = map (λ (x : Row). x .copy .delivery .to) (rowsIn (r .answer))
 
 -- ---- Questions
 
+-- a drop card with a window alone, of ends below 256
+abbrev windowCard : ℕ → ℕ → List ℕ
+windowCard start end = 32 ∷ start ∷ 0 ∷ 0 ∷ 0 ∷ 0 ∷ 0 ∷ 0 ∷ 0 ∷ end ∷ 0 ∷ 0 ∷ 0 ∷ 0 ∷ 0 ∷ 0 ∷ 0 ∷ []
+
+-- no block place is free
+abbrev full : Engine → Engine
+full e = withBlocks e (replicate blocks.blockSlots (blocks.always 0 1))
+
 pub record Numbers : Type 0 where
   pub opens : openNumber small masks (lent small) ≡ 0
   pub key-short : openNumber (record { sizes = small .sizes; config = small .config; plan = small .plan; seed = 5; faultKey = [] }) masks (lent small) ≡ 1
@@ -154,6 +162,15 @@ pub record Numbers : Type 0 where
   pub no-mark-free : reply (hello ∷ accept (entry 0 1000 global 6) true ∷ []) (accept (entry 0 1000 global 7) true) .number ≡ 10
   pub no-row : reply (hello ∷ []) (flush 2000000 1) .number ≡ 14
   pub bad-card : reply [] (install (64 ∷ [])) .number ≡ 13
+  -- a window the wrong way round: 18, after 12 and 13; a card without bit 5 has none
+  pub no-end : reply [] (blockDuring 0 1 5 5) .number ≡ 18
+  pub turned : reply [] (blockDuring 0 1 8 5) .number ≡ 18
+  pub one-moment : reply [] (blockDuring 0 1 5 6) .number ≡ 0
+  pub turned-card : reply [] (install (windowCard 8 5)) .number ≡ 18
+  pub one-moment-card : reply [] (install (windowCard 5 6)) .number ≡ 0
+  pub turned-long : reply [] (install (windowCard 8 5 ++ (0 ∷ []))) .number ≡ 13
+  pub turned-no-place : firstNo (asked plain (withEngine (held plain []) (full (held plain [] .engine))) (blockDuring 0 1 8 5)) ≡ 12
+  pub no-window : reply [] (install (1 ∷ 1 ∷ [])) .number ≡ 0
   -- a payload that does not open is answered with zero counts
   pub not-opening : reply [] (accept (entry 0 1000 global 5) false) ≡ record { number = 0; answer = counted (five 0 0 0 0 0) }
 
@@ -323,10 +340,10 @@ pub record Runs : Type 0 where
   pub marks : Marks
 
 pub runs : Runs
-unfolding real.chance fraction.hitsAt fraction.hitWords ieee.lt admitted.latencyAdmitted admitted.fractionAdmitted admitted.rateAdmitted ieee.eq ieee.le ieee.ofBits waiting.before marks.halve marks.position ring.slotOf ring.pushSlot ring.pushedAt log.tallyAt log.talliedAt log.notedAt log.pushed log.clearedAt table.over rows.kept shift.putWords shift.closed rules.without rules.readingOf rules.fireAt rules.installNumber rules.installTable rules.indexOf rules.removeTable rules.fireTable rules.putAt blocks.windowOf blocks.joins blocks.stops blocks.blocked blocks.blockTable blocks.openCount blocks.unblockTable blocks.putAt rule.has rule.filterOf rule.windowOf rule.actionOf rule.ruleOf rule.holds rule.passes rule.applies card.leAt card.sizeOf card.placesOf card.fieldOf card.specOf card.exact word.le8 word.le4 real.keysOf link.linkKey link.linkBytes real.pricedBy digest.hash digest.tree chunk.chunk chunk.blocks chunk.parent compress.compressed compress.folded accepting.drawn accepting.offered
+unfolding real.chance fraction.hitsAt fraction.hitWords ieee.lt admitted.latencyAdmitted admitted.fractionAdmitted admitted.rateAdmitted ieee.eq ieee.le ieee.ofBits waiting.before marks.halve marks.position ring.slotOf ring.pushSlot ring.pushedAt log.tallyAt log.talliedAt log.notedAt log.pushed log.clearedAt table.over rows.kept shift.putWords shift.closed rules.without rules.readingOf rules.fireAt rules.installNumber rules.installTable rules.indexOf rules.removeTable rules.fireTable rules.putAt blocks.windowOf blocks.joins blocks.stops blocks.blocked blocks.blockTable blocks.openCount blocks.unblockTable blocks.putAt rule.has rule.filterOf rule.windowOf rule.actionOf rule.ruleOf rule.holds rule.forward rule.passes rule.applies card.leAt card.sizeOf card.placesOf card.fieldOf card.specOf card.exact word.le8 word.le4 real.keysOf link.linkKey link.linkBytes real.pricedBy digest.hash digest.tree chunk.chunk chunk.blocks chunk.parent compress.compressed compress.folded accepting.drawn accepting.offered
 runs = record {
   rates = record { at-zero = λ key words. refl; at-minus-zero = λ key words. refl; above-zero = λ key words. refl };
-  numbers = record { opens = refl; key-short = refl; never-opened = refl; no-till = refl; no-shard = refl; too-late = refl; no-mark-free = refl; no-row = refl; bad-card = refl; not-opening = refl };
+  numbers = record { opens = refl; key-short = refl; never-opened = refl; no-till = refl; no-shard = refl; too-late = refl; no-mark-free = refl; no-row = refl; bad-card = refl; no-end = refl; turned = refl; one-moment = refl; turned-card = refl; one-moment-card = refl; turned-long = refl; turned-no-place = refl; no-window = refl; not-opening = refl };
   accepts = record { sender-down = refl; to-shard = refl; blocked-now = refl; blocked-words = refl; no-loss-draw = refl; in-window = refl; before-window = refl; after-window = refl; fault-unmarked = refl; fault-resent = refl; fired = refl; gone = refl };
   losses = record { lost = refl; lost-words = refl; resent = refl; resent-words = refl };
   echoes = record { kinds = refl; sequences = refl; ids = refl; first-words = refl; second-words = refl; ring = refl; in-transit = refl; log-of-one = refl; forced-out = refl; drained-short = refl; drained-empty = refl };

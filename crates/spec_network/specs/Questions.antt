@@ -1,11 +1,13 @@
--- Document 01's questions, in order: each call meets those that concern it. Question 1 is asked of the lent tables (`Lent`), 2 and 3 at the opening (`Open`).
+-- Document 01's questions, in order, and document 02's: each call meets those that concern it. Question 1 is asked of the lent tables (`Lent`), 2 and 3 at the opening (`Open`).
 use Prim.Native.Nat.{ℕ, _+_, _*_, max}
 use mathlib.Core.Bool.{Bool, true, false, cond, _&&_, _||_}
 use mathlib.Core.List.{List, [], _∷_}
 use lib.Dec.{eqb, leb, ltb}
 use lib.ListN.{length, getD}
 use Rattle.table_rows.specs.Rows.{allOf}
-use Rattle.fault_card.specs.Card.{exact}
+use Rattle.fault_rule.specs.declared.TimeWindow.the-variants.{During}
+use Rattle.fault_rule.specs.Rule.{forward, windowIn}
+use Rattle.fault_card.specs.Card.{exact, fieldsOf}
 use Rattle.fault_rules.specs.Rules.{ruleSlots, mostRules}
 use Rattle.fault_blocks.specs.Blocks.{blockSlots}
 use Rattle.spec_network.specs.Lists.{within}
@@ -88,6 +90,13 @@ module _ (o : Opening) where
   abbrev pub ask12rule : {k : Layout} → LiveBy k → Asked
   ask12rule s = ask 12 (ltb (length (s .engine .rules)) ruleSlots && ltb (s .engine .installed) mostRules)
 
+  -- 18, M-110: is the window's end after its start? Asked of a block's window, and of a card's; a card without bit 5 has a window that always holds
+  abbrev pub ask18block : ℕ → ℕ → Asked
+  ask18block start end = ask 18 (forward (During start end))
+
+  abbrev pub ask18card : List ℕ → Asked
+  ask18card card = ask 18 (forward (windowIn (fieldsOf card)))
+
   -- an output that is shorter than the opening's size is answered 1
   abbrev pub askedReading : Reading → List Asked
   askedReading (isBlocked from to now) = ask4 (max from to) ∷ ask7 now ∷ []
@@ -108,9 +117,9 @@ module _ (o : Opening) where
   askedIn room s (bringUp t shards) = ask4 t ∷ ask 5 (within shards (o .sizes .shards)) ∷ []
   askedIn room s (handlers t gossip host) = ask4 t ∷ ask 5 (within gossip (o .sizes .types) && within host (o .sizes .types)) ∷ []
   askedIn room s (block from to) = ask4 (max from to) ∷ ask12block s ∷ []
-  askedIn room s (blockDuring from to start end) = ask4 (max from to) ∷ ask12block s ∷ []
+  askedIn room s (blockDuring from to start end) = ask4 (max from to) ∷ ask12block s ∷ ask18block start end ∷ []
   askedIn room s (unblock from to) = ask4 (max from to) ∷ []
-  askedIn room s (install card) = ask12rule s ∷ ask 13 (exact card) ∷ []
+  askedIn room s (install card) = ask12rule s ∷ ask 13 (exact card) ∷ ask18card card ∷ []
   askedIn room s (remove id) = []
   askedIn room s (decide x) = ask4 (max (x .from) (x .to)) ∷ ask 5 (ltb (x .kind) (o .sizes .types) && leb (x .tier) 3) ∷ ask7 (x .now) ∷ ask 8 (fresh (s .engine .words)) ∷ []
   askedIn room s (drain rows) = ask 1 (leb (o .sizes .logSlots) rows) ∷ []

@@ -1,4 +1,5 @@
-use Rattle.ask_rule.proofs.Laws.{inexact, is-exact}
+use borrow.Author.Tests.{not-true, not-false}
+use Rattle.ask_rule.proofs.Laws.{inexact, is-turned, is-exact}
 use borrow.Author.Needs.{needs}
 use Rattle.ask_rule.proofs.card_number.Statement.{statement}
 use Rattle.ask_rule.proofs.card_number.Tie as tie
@@ -15,8 +16,21 @@ enum-told c = search needs
 returns : tie.Need-returns
 returns c = inexact (c .before .before .before .before .args .card .now) _ (c .before .before .read .ensures) (c .enum-told .given .1)
 
+card-forward-requires : tie.Need-card-forward-requires
+card-forward-requires c κs = search needs
+
 returns-2 : tie.Need-returns-2
-returns-2 c = is-exact (c .before .before .before .before .before .args .card .now) _ _ (c .before .before .before .read .ensures) (c .before .found .given .1)
+returns-2 c =
+    let at-found = c .before .before .before in
+    let at-read = at-found .before .before in
+    is-turned (at-read .before .before .args .card .now) _ _ (at-read .read .ensures) (at-found .found .given .1) _ (c .before .card-forward .ensures) (not-true _ (c .if1 .taken))
+
+returns-3 : tie.Need-returns-3
+returns-3 c =
+    let at-found = c .before .before .before in
+    let at-read = at-found .before .before in
+    is-exact (at-read .before .before .args .card .now) _ _ (at-read .read .ensures) (at-found .found .given .1) _ (c .before .card-forward .ensures) (not-false _ (c .if1 .left))
 
 pub card-number-spec : {M : Type 1} → statement M
-card-number-spec = tie.close (tie.spec read-requires enum-known-found enum-told returns returns-2)
+card-number-spec =
+    tie.close (tie.spec read-requires enum-known-found enum-told returns card-forward-requires returns-2 returns-3)

@@ -5,16 +5,17 @@ use mathlib.Core.Path.{_≡_, refl}
 use lib.ListN.{length}
 use Prim.Native.Nat.{_-_, _≤_}
 use Rattle.sim_printer.specs.Printer.{page}
+use Rattle.sim_figures.specs.Figures.{mostNumbers}
 use Rattle.sim_sheet.specs.Sheet.{Prints}
 use Rattle.sim_checklist_counts.specs.Counts.{refusalsOf}
 use Rattle.sim_checklist_counts.proofs.refusals.Statement.{statement}
 use Rattle.sim_checklist_counts.proofs.refusals.Tie as tie
 
 abbrev Inv-loop : tie.InvT-loop
-Inv-loop figures buf₀ used u₀ n₀ buf u n = (n ≤ 15) × (length buf ≡ length buf₀) × Prints (refusalsOf figures n) (page buf₀ used) (page buf u)
+Inv-loop figures buf₀ used u₀ n₀ buf u n = (n ≤ mostNumbers) × (length buf ≡ length buf₀) × Prints (refusalsOf figures n) (page buf₀ used) (page buf u)
 
 abbrev μ-loop : tie.MeasureT-loop
-μ-loop figures buf₀ used u₀ n₀ buf u n = 15 - n
+μ-loop figures buf₀ used u₀ n₀ buf u n = mostNumbers - n
 
 loop-holds : tie.Need-loop-holds Inv-loop μ-loop
 loop-holds c = (omega arith, refl, table-none _ _)

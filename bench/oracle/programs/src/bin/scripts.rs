@@ -8,6 +8,8 @@ use std::collections::BTreeMap;
 const LATEST: u64 = 1 << 60;
 const SLOTS: u64 = 4096;
 const SECOND: u64 = 1_000_000_000;
+/// The number that refuses a window whose end is at or before its start (document 02, M-110); the original takes such a window, and it never matches.
+const TURNED: u64 = 18;
 
 /// How often each call was made, and how often each thing was met in the answers.
 type Met = BTreeMap<String, u64>;
@@ -128,6 +130,16 @@ impl Writer {
         self.script.push('\n');
         self.expected += &told;
         told
+    }
+
+    /// Writes a line that the original would take and document 02 refuses: it is not asked, and counted.
+    fn refuse(&mut self, line: String, number: u64) {
+        self.lines += 1;
+        let call = line.split(' ').next().expect("a word");
+        self.meet(format!("not asked of the original: {call} refused {number}"), 1);
+        self.expected += &format!("{call} refused {number}\n");
+        self.script += &line;
+        self.script.push('\n');
     }
 
     fn network(&self) -> &Driver {
@@ -349,7 +361,8 @@ impl Writer {
             self.say(format!("block {a} {b}"));
         } else {
             let (start, end) = self.window(at);
-            self.say(format!("blockd {a} {b} {start} {end}"));
+            let line = format!("blockd {a} {b} {start} {end}");
+            if end <= start { self.refuse(line, TURNED) } else { _ = self.say(line) }
         }
     }
 
@@ -379,10 +392,10 @@ impl Writer {
         if self.dice.in_hundred(5) { any } else { t as u32 }.to_le_bytes()
     }
 
-    /// A card that is exact.
-    fn card(&mut self) -> Vec<u8> {
+    /// A card that is exact, and whether its window is the wrong way round.
+    fn card(&mut self) -> (Vec<u8>, bool) {
         let ((from, to, at), map) = (self.spot(), self.card_map());
-        let mut card = vec![map];
+        let (mut card, mut turned) = (vec![map], false);
         if map & 1 != 0 {
             let most = if self.dice.in_hundred(10) { 256 } else { self.types };
             card.push(self.dice.below(most) as u8);
@@ -403,22 +416,28 @@ impl Writer {
             let at = if self.dice.in_hundred(50) { self.now } else { at };
             let (start, end) = self.window(at);
             card.extend([start.to_le_bytes(), end.to_le_bytes()].concat());
+            turned = end <= start;
         }
-        card
+        (card, turned)
     }
 
     /// A card, now and then one that is not exact.
     fn install(&mut self) {
-        let mut card = self.card();
+        let (mut card, turned) = self.card();
         // not exact: a byte too many, one too few, a bit that means nothing
-        match self.dice.below(60) {
+        let wrong = self.dice.below(60);
+        match wrong {
             0 => card.push(0),
             1 => _ = card.pop(),
             2 => card[0] |= self.dice.pick(&[0x40, 0x80]),
             _ => {}
         }
         let digits: String = card.iter().map(|b| format!("{b:02x}")).collect();
-        let told = self.say(format!("install x{digits}"));
+        let line = format!("install x{digits}");
+        if turned && wrong > 2 {
+            return self.refuse(line, TURNED);
+        }
+        let told = self.say(line);
         self.installed += u64::from(told.contains("id="));
     }
 
