@@ -169,7 +169,7 @@ struct GossipValue gossip_fired(const uint64_t *setup, size_t setup_n, const uin
 struct GossipValue gossip_decide(const uint64_t *setup, size_t setup_n, uint64_t *net, size_t net_n, uint64_t *rules,
     size_t rules_n, uint64_t from, uint64_t to, uint64_t kind, uint64_t tier, uint64_t now);
 
-/* Questions 1, 4. Copies waiting for the till. */
+/* Questions 1, 4. Originals waiting for the till; duplicates and replays are left out. */
 struct GossipValue gossip_in_transit(const uint64_t *setup, size_t setup_n, const uint64_t *net, size_t net_n,
     const uint64_t *waiting, size_t waiting_n, uint64_t t);
 

@@ -179,7 +179,7 @@ class Count:
             r = line.split()
             if r[0] == 'copy':
                 c.waits[r[10] == '-'] += 1
-                c.till[int(r[2])]['transit'] += 1
+                c.till[int(r[2])]['transit'] += r[10] != '-'
             if r[0] == 'drain':
                 c.drained(line)
 
@@ -235,6 +235,7 @@ class Count:
         c.table('= scheduled '.ljust(12), planned, 12)
         page.append(' ' * 12 + ''.join(c.verdict(a == b).rjust(12) for a, b in zip(together + [sum(together)], planned)))
         page += ['scheduled: originals as sent, all by the', 'sequences given, echoes what is left']
+        c.pair('in transit, all slips', sum(t['transit'] for t in c.till), 'originals that wait', c.waits[0])
         page += ['', 'E. DELIVERY ORDER AND CLASS TALLIES']
         c.pair('rows', sum(c.rows), "by the flushes' own counts", c.said['rows'])
         c.pair('rows out of order', c.late, 'there should be', 0)

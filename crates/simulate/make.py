@@ -278,6 +278,12 @@ def second_part():
     say('decide 0 1 0 0 1', None)
     say('install x' + card(probability=1.0).hex(), None)
     say('decide 0 1 0 0 1', None)
+    # document 02, M-101: every copy has a duplicate, and in transit counts the originals; a copy on its way to a till that goes down stays
+    say(opens(dup=one), 'open ok')
+    for line, answer in (('accept 0 1 0 0 g x01 1 1', None), ('waiting', None), ('transit 0', 'transit 0'), ('transit 1', 'transit 1'), ('transit 2', 'transit 1'), ('down 1', None), ('transit 1', 'transit 1'),
+                         ('up 1 1', None), ('accept 0 2 0 0 g x01 1 1', None), ('transit 1', 'transit 2'), ('flush 1000001', None), ('transit 1', 'transit 1'), ('transit 2', 'transit 0'),
+                         ('flush 2000000', None), ('transit 1', 'transit 0')):
+        say(line, answer)
     return pairs
 
 

@@ -418,7 +418,7 @@ class Book:
         if call == 'should':
             return self.should(*w)
         if call == 'transit':
-            return [f'transit {sum(c.ends[1] == w[0] for c in self.waiting)}']
+            return [f'transit {sum(c.ends[1] == w[0] and c.mark is not None for c in self.waiting)}']  # document 02, M-101: originals
         if call in ('region', 'link', 'transmission'):
             return self.plan(call, w)
         return [self.seen(w[0])] if call == 'seen' and w else self.reading(call)

@@ -1,13 +1,13 @@
--- Document 01, network (in transit) and 'The book' (readings, waiting copies), with questions 1 and 4: THE CONTRACTS of in_transit, next_time and waiting_copies. Of the
--- tables `setup`, `net` and `waiting` are lent; the others hold whatever they hold. All stay.
+-- Document 01, network (in transit) and 'The book' (readings, waiting copies), with questions 1 and 4; document 02, M-101 (in transit counts originals): THE
+-- CONTRACTS of in_transit, next_time and waiting_copies. Of the tables `setup`, `net` and `waiting` are lent; the others hold whatever they hold. All stay.
 use mathlib.Core.Bool.{Bool, true, cond, _&&_}
 use mathlib.Core.List.{List}
 use Prim.Native.Nat.{ℕ, _/_}
-use lib.Dec.{eqb, leb, ltb}
+use lib.Dec.{leb, ltb}
 use lib.ListN.{length}
-use Rattle.table_waiting.specs.declared.Copy.{Copy}
 use Rattle.table_waiting.specs.Waiting as waiting
 use Rattle.spec_network.specs.Lists.{count}
+use Rattle.spec_network.specs.Live.{movesTo}
 use Rattle.spec_network.specs.Calls.{Call, Reading, reading, transit, nextTime, waitingCopies, Answer, shown}
 use Rattle.spec_network.specs.Tables.{Tables, sizesAt}
 use Rattle.spec_network.specs.Lending.{lendWaiting}
@@ -64,9 +64,9 @@ outNumber s rows = cond (leb (sizesAt s .waitSlots) rows) 0 1
 
 -- ---- The work
 
--- how many of the first n copies go to a till
+-- how many of the first n copies are originals to a till
 unfoldable pub transitOf : ℕ → List ℕ → ℕ → ℕ
-transitOf t w n = count (λ (c : Copy). eqb (c .delivery .to) t) (waiting.copies w n)
+transitOf t w n = count (movesTo t) (waiting.copies w n)
 
 abbrev pub notCopied : ℕ → Copied
 notCopied n = record { number = n; copies = 0 }

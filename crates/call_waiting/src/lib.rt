@@ -1,12 +1,13 @@
-// Readings of the waiting copies on the network's tables: how many go to a till, when the next is due, and all of them.
+// Readings of the waiting copies on the network's tables: how many originals go to a till, when the next is due, and all of them.
 ghost use mathlib.Core.Path.{_≡_};
 ghost use Prim.Native.Nat.{_*_, _≤_};
-ghost use lib.Dec.{eqb};
 ghost use lib.ListN.{length};
 ghost use Rattle.table_waiting.specs.Waiting.{width};
 ghost use Rattle.spec_network.specs.Lists.{bit};
+ghost use Rattle.spec_network.specs.Live.{movesTo};
 ghost use Rattle.call_waiting.specs.Call.{DoesTransit, DoesNextTime, DoesCopies, waitingLent, lentNumber, tillNumber, outNumber, transitOf, notCopied};
 use call_reply::Value;
+use table_waiting::Copy;
 
 // The number of the question that refused the call, or 0; how many copies were copied out.
 #[repr(C)]
@@ -54,18 +55,22 @@ fn copies_refusal(setup: &[u64], net: &[u64], waiting: &[u64], rows: usize) -> u
     0
 }
 
-// 1 where two numbers are equal, else 0.
-fn same(a: u64, b: u64) -> u64
-    ensures is { λ r. ⌜ r ≡ bit (eqb a b) ⌝ }
+// 1 where a copy is an original to the till, else 0.
+fn moves(c: Copy, t: u64) -> u64
+    ensures is { λ r. ⌜ r ≡ bit (movesTo t c) ⌝ }
     ensures within { λ r. ⌜ r ≤ 1 ⌝ }
 {
-    if a == b {
+    let to = c.delivery.to;
+    if c.original == 0 {
+        return 0;
+    }
+    if to == t {
         return 1;
     }
     0
 }
 
-// How many of the first n copies go to the till?
+// How many of the first n copies are originals to the till?
 fn count_to(waiting: &[u64], n: usize, t: u64) -> u64
     requires { ⌜ n * width ≤ length (now waiting) ⌝ }
     ensures { λ r. ⌜ r ≡ transitOf t (now (waiting .entry)) n ⌝ }
@@ -73,14 +78,14 @@ fn count_to(waiting: &[u64], n: usize, t: u64) -> u64
     let mut k: u64 = 0;
     let mut i: usize = 0;
     while i < n {
-        let d = table_delivery::get(waiting, i * table_waiting::WIDTH);
-        k += same(d.to, t);
+        let c = table_waiting::get(waiting, i * table_waiting::WIDTH);
+        k += moves(c, t);
         i += 1;
     }
     k
 }
 
-// How many copies wait for a till.
+// How many originals wait for a till.
 pub fn in_transit(setup: &[u64], net: &[u64], waiting: &[u64], t: u64) -> Value
     ensures { λ r. ⌜ DoesTransit
         (now (setup .entry)) (now (net .entry)) (now (waiting .entry))

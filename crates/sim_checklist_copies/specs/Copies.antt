@@ -6,7 +6,7 @@ use lib.Dec.{eqb}
 use lib.ListN.{getD}
 use Rattle.sim_figures.specs.Figures.{tillsAt, logAt, landedAt, droppedAt, waitingAt, sentOf, receivedOf, lostToOf, transitOf, tillRow}
 use Rattle.sim_comparison.specs.declared.Pair.{Pair}
-use Rattle.sim_comparison.specs.Compared.{plus, originalsOf, echoesOf, copiesOf, rowsOf, orderOf, deliveredOf, classOf, agreed, classesDiffer}
+use Rattle.sim_comparison.specs.Compared.{plus, originalsOf, echoesOf, copiesOf, inTransitOf, rowsOf, orderOf, deliveredOf, classOf, agreed, classesDiffer}
 use Rattle.sim_sheet.specs.Sheet.{Piece, figure, wide, bytes, saying, newline, labelled, atRight, lineOf, verdictIn, verdictLine, comparedLines, tableOf, threeOf}
 
 -- ---- D
@@ -16,14 +16,17 @@ unfoldable pub kindsOf : List ℕ → List ℕ → ℕ → List Piece
 kindsOf l what b = threeOf what (getD l b 0) (getD l (b + 1) 0) (plus (getD l b 0) (getD l (b + 1) 0))
 
 -- each column has its own verdict
-unfoldable pub copiesPart : List ℕ → List Piece
-copiesPart l =
+unfoldable pub columnsPart : List ℕ → List Piece
+columnsPart l =
     saying "\nD. COPIES: WAITING, LANDED, DROPPED BY A FLUSH\n" ++ (saying "               originals      echoes         all\n"
     ++ (kindsOf l (bytes "waiting") waitingAt ++ (kindsOf l (bytes "landed") landedAt ++ (kindsOf l (bytes "dropped") droppedAt
     ++ (threeOf (bytes "= together") (originalsOf l .left) (echoesOf l .left) (copiesOf l .left)
     ++ (threeOf (bytes "= scheduled") (originalsOf l .right) (echoesOf l .right) (copiesOf l .right)
     ++ (labelled (bytes "") 12 ++ (verdictIn (agreed (originalsOf l)) 12 ++ (verdictIn (agreed (echoesOf l)) 12 ++ (verdictIn (agreed (copiesOf l)) 12
     ++ (saying "\nscheduled: originals as sent, all by the\n" ++ saying "sequences given, echoes what is left\n")))))))))))
+
+unfoldable pub copiesPart : List ℕ → List Piece
+copiesPart l = columnsPart l ++ comparedLines (inTransitOf l) (bytes "= in transit, all slips") (bytes "= originals that wait")
 
 -- ---- E
 

@@ -32,9 +32,9 @@ fn kinds(figures: &[u64], buf: &mut [u8], used: usize, what: &[u8], b: usize) ->
     three(buf, used, what, n, m, std::num::wrapping_add_u64(n, m))
 }
 
-// Part D.
-pub fn copies(figures: &[u64], buf: &mut [u8], used: usize) -> usize
-    ensures { λ r. ⌜ Prints (is.copiesPart (now (figures .entry))) (page (now (buf .entry)) used) (page (now (buf .exit)) r) ⌝ }
+// Part D, its columns.
+fn columns(figures: &[u64], buf: &mut [u8], used: usize) -> usize
+    ensures { λ r. ⌜ Prints (is.columnsPart (now (figures .entry))) (page (now (buf .entry)) used) (page (now (buf .exit)) r) ⌝ }
 {
     let a = say(
         buf,
@@ -60,6 +60,20 @@ pub fn copies(figures: &[u64], buf: &mut [u8], used: usize) -> usize
     let l = verdict_in(buf, k, sim_comparison::agrees(all), 12);
     let m = say(buf, l, b"\nscheduled: originals as sent, all by the\n");
     say(buf, m, b"sequences given, echoes what is left\n")
+}
+
+// Part D.
+pub fn copies(figures: &[u64], buf: &mut [u8], used: usize) -> usize
+    ensures { λ r. ⌜ Prints (is.copiesPart (now (figures .entry))) (page (now (buf .entry)) used) (page (now (buf .exit)) r) ⌝ }
+{
+    let a = columns(figures, buf, used);
+    compared(
+        buf,
+        a,
+        sim_comparison::in_transit(figures),
+        b"= in transit, all slips",
+        b"= originals that wait",
+    )
 }
 
 // Part E, without the log's part.

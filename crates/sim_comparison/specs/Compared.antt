@@ -4,7 +4,7 @@ use mathlib.Core.Bool.{Bool, cond}
 use mathlib.Core.List.{List}
 use lib.Dec.{eqb, leb}
 use lib.ListN.{getD}
-use Rattle.sim_figures.specs.Figures.{logAt, firstAt, lastAt, recipientsAt, fiveAt, downMarksAt, flushMarksAt, standingAt, saidRowsAt, saidDeliveredAt, saidDroppedAt, handledAt, lateAt, landedAt, droppedAt, waitingAt, logged, classRow, sentOf, lostFromOf, tillRow}
+use Rattle.sim_figures.specs.Figures.{logAt, firstAt, lastAt, recipientsAt, fiveAt, downMarksAt, flushMarksAt, standingAt, saidRowsAt, saidDeliveredAt, saidDroppedAt, handledAt, lateAt, landedAt, droppedAt, waitingAt, logged, classRow, sentOf, lostFromOf, transitOf, tillRow}
 use Rattle.sim_comparison.specs.declared.Pair.{Pair}
 
 abbrev pub pair : ℕ → ℕ → Pair
@@ -66,6 +66,10 @@ echoesOf l = pair (placedOf l 1) (getD l lastAt 0 - getD l firstAt 0 - getD l fi
 abbrev pub copiesOf : List ℕ → Pair
 copiesOf l = pair (sumOf l landedAt 6) (getD l lastAt 0 - getD l firstAt 0)
 
+-- in transit, the slips of every till together; originals that wait
+abbrev pub inTransitOf : List ℕ → Pair
+inTransitOf l = pair (columnOf l transitOf 65) (getD l waitingAt 0)
+
 -- ---- E. rows; the flushes' own count. Rows out of order; none. Rows with a handler; delivered. A class's figure from the rows; the log's
 
 abbrev pub rowsOf : List ℕ → Pair
@@ -106,7 +110,8 @@ acceptsDiffer l =
     plus (plus (plus (plus (differs (agreed (countsOf l))) (differs (agreed (marksOf l)))) (differs (within (clearedOf l)))) (differs (agreed (atAcceptOf l)))) (differs (agreed (flushDropsOf l)))
 
 unfoldable pub copiesDiffer : List ℕ → ℕ
-copiesDiffer l = plus (plus (differs (agreed (originalsOf l))) (differs (agreed (echoesOf l)))) (differs (agreed (copiesOf l)))
+copiesDiffer l =
+    plus (plus (plus (differs (agreed (originalsOf l))) (differs (agreed (echoesOf l)))) (differs (agreed (copiesOf l)))) (differs (agreed (inTransitOf l)))
 
 unfoldable pub rowsDiffer : List ℕ → ℕ
 rowsDiffer l = plus (plus (differs (agreed (rowsOf l))) (differs (agreed (orderOf l)))) (differs (agreed (deliveredOf l)))

@@ -20,6 +20,7 @@ use sim_figures::SAID_DROPPED;
 use sim_figures::SAID_ROWS;
 use sim_figures::SENT;
 use sim_figures::STANDING;
+use sim_figures::TRANSIT;
 use sim_figures::WAITING;
 use sim_figures::class_row;
 use sim_figures::get;
@@ -180,6 +181,15 @@ pub fn copies(figures: &[u64]) -> Pair
     }
 }
 
+pub fn in_transit(figures: &[u64]) -> Pair
+    ensures { λ r. ⌜ r ≡ is.inTransitOf (now (figures .entry)) ⌝ }
+{
+    Pair {
+        left: column(figures, TRANSIT),
+        right: get(figures, WAITING),
+    }
+}
+
 pub fn rows(figures: &[u64]) -> Pair
     ensures { λ r. ⌜ r ≡ is.rowsOf (now (figures .entry)) ⌝ }
 {
@@ -281,7 +291,8 @@ fn copies_differ(figures: &[u64]) -> u64
 {
     let a = differs(agrees(originals(figures)));
     let b = plus(a, differs(agrees(echoes(figures))));
-    plus(b, differs(agrees(copies(figures))))
+    let c = plus(b, differs(agrees(copies(figures))));
+    plus(c, differs(agrees(in_transit(figures))))
 }
 
 fn rows_differ(figures: &[u64]) -> u64

@@ -12,7 +12,7 @@ use Rattle.fault_rule.specs.Rule.{has}
 use Rattle.table_waiting.specs.declared.Copy.{Copy}
 use Rattle.table_waiting.specs.Waiting as waiting
 use Rattle.sim_figures.specs.Figures.{tillsAt, logAt, firstAt, lastAt, acceptsAt, recipientsAt, fiveAt, downMarksAt, flushMarksAt, standingAt, flushesAt, saidRowsAt, saidDeliveredAt, saidDroppedAt, handledAt, lateAt, timeAt, sequenceAt, landedAt, droppedAt, waitingAt, refusedPlace, logged, classRow, maskOf, sentOf, receivedOf, lostToOf, lostFromOf, transitOf, tillRow, added}
-use Rattle.sim_figures.specs.Notes.{masked, openedNote, downNote, upNote, global, receives, bit, recipientsOf, countedOf, fiveAdded, acceptedNote, refusedNote, kindOf, late, orderNote, classNote, taken, landedNote, droppedNote, waitingNote, rowNote, dropNote, waitNote, flushedNote, talliedNote, standingNote}
+use Rattle.sim_figures.specs.Notes.{masked, openedNote, downNote, upNote, global, receives, bit, recipientsOf, countedOf, fiveAdded, acceptedNote, refusedNote, kindOf, late, orderNote, classNote, taken, landedNote, droppedNote, waitingNote, transitNote, rowNote, dropNote, waitNote, flushedNote, talliedNote, standingNote}
 
 -- ---- Places
 
@@ -135,9 +135,13 @@ pub drops : (l l₁ l₂ l₃ : List ℕ) (c : Copy) (k r s : ℕ) → k ≡ kin
 unfolding droppedNote
 drops l l₁ l₂ l₃ c k r s ek er es e₁ e₂ e₃ = cc
 
-pub stays : (l l₁ l₂ : List ℕ) (c : Copy) (k r : ℕ) → k ≡ kindOf (c .original) → r ≡ tillRow (c .delivery .to) → l₁ ≡ added l (waitingAt + k) 1 → l₂ ≡ added l₁ (r + transitOf) 1 → l₂ ≡ waitingNote l c
+pub stays : (l l₁ : List ℕ) (c : Copy) (k : ℕ) → k ≡ kindOf (c .original) → l₁ ≡ added l (waitingAt + k) 1 → l₁ ≡ waitingNote l c
 unfolding waitingNote
-stays l l₁ l₂ c k r ek er e₁ e₂ = cc
+stays l l₁ c k ek e₁ = cc
+
+pub transits : (l l₁ : List ℕ) (t n r : ℕ) → r ≡ tillRow t → l₁ ≡ added l (r + transitOf) n → l₁ ≡ transitNote l t n
+unfolding transitNote
+transits l l₁ t n r er e₁ = cc
 
 pub few : (b n most : ℕ) → most < n → false ≡ leb (b + n) most
 few b n most h = sym (lt-leb (b + n) most (omega arith))

@@ -94,7 +94,11 @@ droppedNote l c =
     added (added (added l (droppedAt + kindOf (c .original)) 1) (tillRow (c .delivery .to) + lostToOf) 1) (tillRow (c .delivery .from) + lostFromOf) 1
 
 unfoldable pub waitingNote : List ℕ → Copy → List ℕ
-waitingNote l c = added (added l (waitingAt + kindOf (c .original)) 1) (tillRow (c .delivery .to) + transitOf) 1
+waitingNote l c = added l (waitingAt + kindOf (c .original)) 1
+
+-- so many in transit to a till, as the reading says
+unfoldable pub transitNote : List ℕ → ℕ → ℕ → List ℕ
+transitNote l t n = added l (tillRow t + transitOf) n
 
 -- a row's words are a copy's and its two handlers'; words that reach past the table's end are no note
 unfoldable pub rowNote : List ℕ → List ℕ → ℕ → List ℕ

@@ -403,9 +403,7 @@ fn note_dropped(figures: &mut [u64], c: Copy)
 fn note_waiting(figures: &mut [u64], c: Copy)
     ensures { λ r. ⌜ now (figures .exit) ≡ note.waitingNote (now (figures .entry)) c ⌝ }
 {
-    let d = c.delivery;
     add(figures, WAITING + kind(c.original), 1);
-    add(figures, till_row(d.to) + TRANSIT, 1);
 }
 
 // Has the table n words from b on?
@@ -472,6 +470,13 @@ pub fn tallied(figures: &mut [u64], class: u64, deliveries: u64, bytes: u64)
     let b = class_row(class);
     add(figures, b + LOGGED, deliveries);
     add(figures, b + (LOGGED + 1), bytes);
+}
+
+// How many are in transit to a till at the end, as the reading says.
+pub fn in_transit(figures: &mut [u64], t: u64, n: u64)
+    ensures { λ r. ⌜ now (figures .exit) ≡ note.transitNote (now (figures .entry)) t n ⌝ }
+{
+    add(figures, till_row(t) + TRANSIT, n);
 }
 
 // How many marks stand at the end.

@@ -9,12 +9,14 @@ use borrow.Author.Tests.{lt-ltb, le-ltb, eq-eqb, ne-eqb}
 use Rattle.table_waiting.specs.Waiting as waiting
 use Rattle.spec_network.specs.Opening.{mostTills, mostClasses, mostSlots}
 use Rattle.spec_network.specs.Tables.{cell, sequenceAt, waitingAt}
+use Rattle.call_reply.specs.declared.Value.{Value}
+use Rattle.call_waiting.specs.Call.{Reads, DoesTransit}
 use Rattle.call_log.specs.Call.{DoesTally}
 use Rattle.call_log.specs.declared.Tallied.{Tallied}
-use Rattle.sim_figures.specs.Notes.{openedNote, downNote, upNote, acceptedNote, refusedNote, rowNote, dropNote, waitNote, flushedNote, talliedNote, standingNote}
+use Rattle.sim_figures.specs.Notes.{openedNote, downNote, upNote, acceptedNote, refusedNote, rowNote, dropNote, waitNote, transitNote, flushedNote, talliedNote, standingNote}
 use Rattle.spec_network.specs.Lending.{noTables}
 use Rattle.sim_notes.specs.Noted.{acceptLine, flushLine, flushRowsLine, downLine, upLine, drainLine, lastNumber, totalOf, marksIn, tallyIn, classTallied, talliesOf, logWords, talliesNote}
-use Rattle.sim_notes.specs.Noted.{beforeNote, sequenceOf, rowWidth, copiesAt, Noted, noted, dueNote, dueNotes, rowsWords, flushNote, acceptNote, takenNote, afterNote, openingNote, waitsOf, endNote}
+use Rattle.sim_notes.specs.Noted.{beforeNote, sequenceOf, rowWidth, copiesAt, Noted, noted, dueNote, dueNotes, rowsWords, flushNote, acceptNote, takenNote, afterNote, openingNote, waitsOf, transitIn, tillTransit, transitsOf, waitWords, transitsNote, endNote}
 
 -- ---- Marks
 
@@ -207,8 +209,35 @@ waits-end d e copies i n a b p =
     let same : i ≡ n = omega arith in
     p ∙ ap (λ (x : ℕ). waitsOf d copies x) same
 
+-- in transit
+pub transit-noted : (d d' setup net copies : List ℕ) (t : ℕ) (r : Value) → DoesTransit setup net copies t r → d' ≡ transitNote d t (r .value) → d' ≡ tillTransit d setup net copies t
+unfolding Reads tillTransit transitIn
+transit-noted d d' setup net copies t r does e = e ∙ ap (λ (v : Value). transitNote d t (v .value)) (does noTables .0)
+
+pub transits-none : (d setup net copies : List ℕ) → d ≡ transitsOf d setup net copies 0
+unfolding transitsOf
+transits-none d setup net copies = refl
+
+pub transits-more : (d e e' setup net copies : List ℕ) (t : ℕ) → e ≡ transitsOf d setup net copies t → e' ≡ tillTransit e setup net copies t → e' ≡ transitsOf d setup net copies (t + 1)
+unfolding transitsOf
+transits-more d e e' setup net copies t p q = rw add-one (whole p q)
+  where
+    whole : e ≡ transitsOf d setup net copies t → e' ≡ tillTransit e setup net copies t → e' ≡ tillTransit (transitsOf d setup net copies t) setup net copies t
+    whole p q = cc
+
+pub transits-end : (d e setup net copies : List ℕ) (t n : ℕ) → t ≤ n → n ≤ t → e ≡ transitsOf d setup net copies t → e ≡ transitsOf d setup net copies n
+transits-end d e setup net copies t n a b p =
+    let same : t ≡ n = omega arith in
+    p ∙ ap (λ (x : ℕ). transitsOf d setup net copies x) same
+
+pub transited :
+    (d e setup net copies part : List ℕ) (k n w : ℕ) → k ≡ getD setup 0 0 → n ≡ min k mostTills → w ≡ waitWords setup → part ≡ take w copies → e ≡ transitsOf d setup net part n
+    → e ≡ transitsNote d setup net copies
+unfolding transitsNote
+transited d e setup net copies part k n w ek en ew ep e₁ = cc
+
 pub ends :
-    (d e₁ e₂ e₃ setup net seen copies log : List ℕ) (k n m : ℕ) → k ≡ getD net waitingAt 0 → n ≡ min k mostSlots → e₁ ≡ waitsOf d copies n → e₂ ≡ talliesNote e₁ setup log
-    → m ≡ marksIn setup seen → e₃ ≡ standingNote e₂ m → e₃ ≡ endNote d setup net seen copies log
+    (d e₁ e₂ e₃ e₄ setup net seen copies log : List ℕ) (k n m : ℕ) → k ≡ getD net waitingAt 0 → n ≡ min k mostSlots → e₁ ≡ waitsOf d copies n → e₂ ≡ transitsNote e₁ setup net copies
+    → e₃ ≡ talliesNote e₂ setup log → m ≡ marksIn setup seen → e₄ ≡ standingNote e₃ m → e₄ ≡ endNote d setup net seen copies log
 unfolding endNote
-ends d e₁ e₂ e₃ setup net seen copies log k n m ek en p q em r = cc
+ends d e₁ e₂ e₃ e₄ setup net seen copies log k n m ek en p t q em r = cc

@@ -10,11 +10,14 @@ use Rattle.table_log.specs.Log.{sizeOf}
 use Rattle.spec_network.specs.Opening.{mostTills, mostClasses, mostSlots}
 use Rattle.spec_network.specs.Tables.{cell, sizesAt, sequenceAt, waitingAt}
 use Rattle.spec_network.specs.Writes.{callReply}
-use Rattle.spec_network.specs.Lending.{lendLog, noTables}
+use Rattle.spec_network.specs.Calls.{reading, transit}
+use Rattle.spec_network.specs.Lending.{lendLog, lendWaiting, noTables}
+use Rattle.call_reply.specs.Reply.{valueOf}
+use Rattle.call_reply.specs.declared.Value.{Value}
 use Rattle.call_log.specs.Call.{talliedOf, tallyCall}
 use Rattle.call_log.specs.declared.Tallied.{Tallied}
 use Rattle.sim_figures.specs.Figures.{size}
-use Rattle.sim_figures.specs.Notes.{openedNote, downNote, upNote, acceptedNote, refusedNote, rowNote, dropNote, waitNote, flushedNote, talliedNote, standingNote}
+use Rattle.sim_figures.specs.Notes.{openedNote, downNote, upNote, acceptedNote, refusedNote, rowNote, dropNote, waitNote, transitNote, flushedNote, talliedNote, standingNote}
 
 -- ---- The lines of a script that are noted, by number
 
@@ -145,7 +148,28 @@ unfoldable pub openingNote : List ℕ → (number tills : ℕ) → (masks : List
 openingNote l number tills masks log net =
     cond (ltb lastNumber number) l (cond (ltb 0 number) (refusedNote l number) (openedNote l tills masks log (cell net sequenceAt)))
 
--- ---- At the end: what waits, the tallies and the marks that stand
+-- ---- In transit to every till, as the reading answers it
+
+-- of the other tables nothing is read
+unfoldable pub transitIn : (setup net waiting : List ℕ) → ℕ → Value
+transitIn setup net copies t = valueOf (callReply (lendWaiting noTables setup net copies) (reading (transit t)))
+
+unfoldable pub tillTransit : List ℕ → (setup net waiting : List ℕ) → ℕ → List ℕ
+tillTransit l setup net copies t = transitNote l t (transitIn setup net copies t .value)
+
+-- the first n tills
+unfoldable pub transitsOf : List ℕ → (setup net waiting : List ℕ) → ℕ → List ℕ
+transitsOf l setup net copies zero = l
+transitsOf l setup net copies (suc n) = tillTransit (transitsOf l setup net copies n) setup net copies n
+
+-- the words of the table of waiting copies that the opening uses
+abbrev pub waitWords : (setup : List ℕ) → ℕ
+waitWords setup = min (sizesAt setup .waitSlots) mostSlots * waiting.width
+
+unfoldable pub transitsNote : List ℕ → (setup net waiting : List ℕ) → List ℕ
+transitsNote l setup net copies = transitsOf l setup net (take (waitWords setup) copies) (min (sizesAt setup .tills) mostTills)
+
+-- ---- At the end: what waits, what is in transit, the tallies and the marks that stand
 
 unfoldable pub waitsOf : List ℕ → (waiting : List ℕ) → ℕ → List ℕ
 waitsOf l copies zero = l
@@ -153,4 +177,4 @@ waitsOf l copies (suc n) = waitNote (waitsOf l copies n) copies (n * waiting.wid
 
 unfoldable pub endNote : List ℕ → (setup net seen waiting log : List ℕ) → List ℕ
 endNote l setup net seen copies log =
-    standingNote (talliesNote (waitsOf l copies (min (cell net waitingAt) mostSlots)) setup log) (marksIn setup seen)
+    standingNote (talliesNote (transitsNote (waitsOf l copies (min (cell net waitingAt) mostSlots)) setup net copies) setup log) (marksIn setup seen)

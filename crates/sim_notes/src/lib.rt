@@ -247,7 +247,54 @@ fn waiting_copies(due: &mut [u64], waiting: &[u64], n: u64)
     }
 }
 
-// At the end: what waits, the tallies that stand, the marks that stand.
+// How many words of the table of waiting copies an opening uses.
+fn wait_size(setup: &[u64]) -> usize
+    ensures { λ r. ⌜ r ≡ noted.waitWords (now (setup .entry)) ⌝ }
+{
+    let slots = sim_figures::least(
+        ask_tables::cell(setup, ask_tables::WAIT_SLOTS),
+        ask_tables::MOST_SLOTS,
+    ) as usize;
+    slots * table_waiting::WIDTH
+}
+
+// What is in transit to a till, as the reading says.
+fn transit(due: &mut [u64], setup: &[u64], net: &[u64], waiting: &[u64], t: u64)
+    ensures { λ r. ⌜ now (due .exit) ≡ noted.tillTransit (now (due .entry)) (now (setup .entry)) (now (net .entry)) (now (waiting .entry)) t ⌝ }
+{
+    let r = call_waiting::in_transit(setup, net, waiting, t);
+    sim_figures::in_transit(due, t, r.value);
+}
+
+// What is in transit to the first n tills, in a table of the opening's size.
+fn transits_of(due: &mut [u64], setup: &[u64], net: &[u64], waiting: &[u64], n: u64)
+    ensures { λ r. ⌜ now (due .exit) ≡ noted.transitsOf (now (due .entry)) (now (setup .entry)) (now (net .entry)) (now (waiting .entry)) n ⌝ }
+{
+    let mut t: u64 = 0;
+    while t < n {
+        transit(due, setup, net, waiting, t);
+        t += 1;
+    }
+}
+
+// What is in transit to every till.
+fn transits(due: &mut [u64], setup: &[u64], net: &[u64], waiting: &[u64])
+    ensures { λ r. ⌜ now (due .exit) ≡ noted.transitsNote (now (due .entry)) (now (setup .entry)) (now (net .entry)) (now (waiting .entry)) ⌝ }
+{
+    let n = sim_figures::least(
+        ask_tables::cell(setup, ask_tables::TILLS),
+        ask_tables::MOST_TILLS,
+    );
+    transits_of(
+        due,
+        setup,
+        net,
+        sim_lend::part(waiting, wait_size(setup)),
+        n,
+    );
+}
+
+// At the end: what waits, what is in transit, the tallies that stand, the marks that stand.
 pub fn ended(
     due: &mut [u64],
     setup: &[u64],
@@ -263,6 +310,7 @@ pub fn ended(
         ask_tables::MOST_SLOTS,
     );
     waiting_copies(due, waiting, n);
+    transits(due, setup, net, waiting);
     tallies(due, setup, log);
     sim_figures::stands(due, marks(setup, seen));
 }

@@ -5,6 +5,8 @@ use native.Mathlib.Omega.{arith}
 use mathlib.Core.Bool.{Bool, true, false, cond, _&&_, false≢true}
 use mathlib.Core.List.{List, [], _∷_, reverseAux}
 use lib.ListN.{length}
+use Rattle.table_rows.specs.Lists.{Each}
+use Rattle.table_waiting.specs.declared.Copy.{Copy}
 use Rattle.table_waiting.specs.Waiting.{Sorted}
 use Rattle.table_waiting.proofs.Order.{front-all}
 use Rattle.table_marks.specs.Marks.{listed}
@@ -18,7 +20,7 @@ use Rattle.spec_network.specs.Calls.{Call, Answer, liveStep, answerOf, countsIn
 use Rattle.spec_network.specs.Questions.{Asked, Room, alone, askedIn, asked, firstNo, answerTo}
 use Rattle.spec_network.specs.Tables.{Tables, sizesAt, settingsAt, live}
 use Rattle.spec_network.specs.Real.{keyOf, costAt, openingOf, openingAt}
-use Rattle.spec_network.specs.Lent.{question1}
+use Rattle.spec_network.specs.Lent.{question1, nearCopy}
 use Rattle.spec_network.specs.Writes.{Reply, isNumber, numberIn, exitT, answerT, tablesIn, replyIn, outputWith, callReply, roomReply}
 use Rattle.spec_network.specs.Open.{askedOpening, openNumber, openTables, openExit}
 use Rattle.spec_network.proofs.Opened.{keys-are, costs-are, SameDraws, draws-are}
@@ -42,6 +44,7 @@ use Rattle.spec_book.proofs.Simulation.{step-wrote}
 use Rattle.spec_book.proofs.Unwritten.{same-step, same-end}
 use Rattle.spec_book.proofs.Held.{Held, yes1}
 use Rattle.spec_book.proofs.Start.{limited, open-held}
+use Rattle.spec_book.proofs.Transit.{originals-in-transit}
 
 -- the tables, whose draws agree with the book's, hold a live part, and it is the book's once its marks and rings are plain
 pub record Bears (o : Opening) (T : Tables) (b : Book) : Type 0 where
@@ -305,6 +308,8 @@ demand3 x masks lent n is a =
       same-live = ap plainly (end .held .wrote .holds) ∙ end .same;
       same-opening = opening-held x masks lent is;
       book = book-holds o (bookAtEnd o (opened o masks) T is) (end .sound);
+      in-transit = originals-in-transit (x .sizes) (bookAtEnd o (opened o masks) T is .live)
+          (subst (Each (λ (c : Copy). nearCopy (x .sizes) c ≡ true)) (ap (λ (q : LiveBy plain). q .queue .waiting) (end .same)) (end .held .fits .queue .near));
     }
 
 -- and for list after list, each begun by an accepted opening

@@ -17,7 +17,8 @@ use Rattle.fault_blocks.specs.declared.BlockWindow.{BlockWindow}
 use Rattle.fault_blocks.specs.Blocks.{windowOf}
 use Rattle.spec_network.specs.Lists.{bit, count, some-of}
 use Rattle.spec_network.specs.Opening.{Settings, Opening}
-use Rattle.spec_network.specs.Live.{plainly, marked}
+use Rattle.spec_network.specs.Layout.{plain}
+use Rattle.spec_network.specs.Live.{LiveBy, plainly, isOriginal, marked, inTransit}
 use Rattle.table_log.specs.Log.{Log, emptyLog}
 use Rattle.spec_network.specs.Accept.{messageOf, selected, chosen, entered, Booked, booked, noCounts, tally, total}
 use Rattle.spec_network.specs.Flush.{Row, handled, due, loggedAll}
@@ -208,6 +209,11 @@ pub record OpeningHeld (x : Settings) (names : List ℕ) (T : Tables) : Type 0 w
   pub keys : (from to : ℕ) → from < x .sizes .tills → to < x .sizes .tills → keyOf (x .sizes .tills) (T .keys) from to ≡ bookKey x from to
   pub costs : (from to bytes : ℕ) → from < x .sizes .tills → to < x .sizes .tills → costAt x (T .prices) from to bytes ≡ bookCost x from to bytes
 
+-- the originals in transit to the first n tills, together
+abbrev pub inTransitTo : ℕ → LiveBy plain → ℕ
+inTransitTo zero s = 0
+inTransitTo (suc n) s = inTransitTo n s + inTransit s n
+
 -- ---- DEMAND 3, of an accepted opening and the list of calls that follows it
 
 module _ (x : Settings) (masks : List ℕ) (lent : Tables) where
@@ -230,6 +236,8 @@ module _ (x : Settings) (masks : List ℕ) (lent : Tables) where
     pub same-live : plainly (live (x .sizes) (endTables is)) ≡ endBook is .live
     pub same-opening : OpeningHeld x (lent .names) (endTables is)
     pub book : BookHolds bookOpening (endBook is)
+    -- document 02, M-101: in transit, over all tills, is the originals that wait, each one time
+    pub in-transit : inTransitTo (x .sizes .tills) (endBook is .live) ≡ count isOriginal (endBook is .live .queue .waiting)
 
 -- ---- A later accepted opening begins another list, on whatever tables it was lent
 

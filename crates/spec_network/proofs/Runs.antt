@@ -229,7 +229,7 @@ pub record Echoes : Type 0 where
   pub first-words : cell (tables echoing (hello ∷ []) .words) 1 ≡ 8
   pub second-words : cell (tables echoing (hello ∷ []) .words) 2 ≡ 11
   pub ring : map length (held echoing (hello ∷ []) .rings) ≡ replicate 33 0 ++ (2 ∷ [])
-  pub in-transit : replyBy echoing (tables echoing (hello ∷ [])) (reading (transit 2)) .answer ≡ number 1 3
+  pub in-transit : replyBy echoing (tables echoing (hello ∷ [])) (reading (transit 2)) .answer ≡ number 1 1
   -- the log of one place: five rows, four forced out, the tallies exact
   pub log-of-one : replyBy echoing (tables echoing (hello ∷ flush 2000000 5 ∷ [])) (reading (tallyOf 2)) .answer ≡ tallied (record { deliveries = 5; bytes = 5 })
   pub forced-out : held echoing (hello ∷ flush 2000000 5 ∷ []) .log .forced ≡ 4

@@ -1,6 +1,6 @@
 -- Document 01, 'The book': what of it the calls go by.
 use Prim.Native.Nat.{ℕ, _*_}
-use mathlib.Core.Bool.{Bool, not, _||_}
+use mathlib.Core.Bool.{Bool, not, _&&_, _||_}
 use mathlib.Core.List.{List, [], map}
 use lib.Dec.{eqb}
 use lib.ListN.{getD, replicate}
@@ -129,9 +129,12 @@ isUp s t = not (eqb (tillAt s t .up) 0)
 abbrev pub stopped : {k : Layout} → LiveBy k → ℕ → ℕ → ℕ → Bool
 stopped s from to at = not (isUp s from) || not (isUp s to) || blocked from to at (s .engine .blocks)
 
--- in transit to a till is the number of copies waiting for it
+-- in transit to a till is the number of originals waiting for it (document 02, M-101); duplicates and replays are left out
+abbrev pub movesTo : ℕ → Copy → Bool
+movesTo t c = isOriginal c && eqb (c .delivery .to) t
+
 abbrev pub inTransit : {k : Layout} → LiveBy k → ℕ → ℕ
-inTransit s t = count (λ (c : Copy). eqb (c .delivery .to) t) (s .queue .waiting)
+inTransit s t = count (movesTo t) (s .queue .waiting)
 
 -- a ring for each type and scope
 abbrev pub ringsOf : Sizes → ℕ

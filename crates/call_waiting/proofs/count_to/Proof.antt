@@ -21,8 +21,8 @@ mul-get c = omega arith
 get-requires : tie.Need-get-requires Inv-loop μ-loop
 get-requires c κs = omega arith
 
-same-requires : tie.Need-same-requires Inv-loop μ-loop
-same-requires c κs = omega arith
+moves-requires : tie.Need-moves-requires Inv-loop μ-loop
+moves-requires c κs = omega arith
 
 add-k : tie.Need-add-k Inv-loop μ-loop
 add-k c = omega arith
@@ -42,9 +42,9 @@ loop-again c =
     let a = start .args in
     let l = at-loop .loop in (
       omega arith,
-      omega (arith, l .inv .1, c .same .ensures .1),
-      transit-more (a .t) (a .waiting .now) (a .n) (l .i) (l .k) (c .same .result) (at-get .get .result) (at-loop-test .loop-test .taken) (l .inv .2)
-          (at-get .get .ensures) (c .same .ensures .0),
+      omega (arith, l .inv .1, c .moves .ensures .1),
+      transit-more (a .t) (a .waiting .now) (a .n) (l .i) (l .k) (c .moves .result) (at-get .get .result) (at-loop-test .loop-test .taken) (l .inv .2)
+          (at-get .get .ensures) (c .moves .ensures .0),
     )
 
 returns : tie.Need-returns Inv-loop μ-loop
@@ -59,7 +59,7 @@ count-to-spec =
     loop-holds
     mul-get
     get-requires
-    same-requires
+    moves-requires
     add-k
     add-i
     loop-less

@@ -37,9 +37,21 @@ differs-requires-3 c κs = search needs
 plus-requires-2 : tie.Need-plus-requires-2
 plus-requires-2 c κs = search needs
 
+in-transit-requires : tie.Need-in-transit-requires
+in-transit-requires c κs = search needs
+
+agrees-requires-4 : tie.Need-agrees-requires-4
+agrees-requires-4 c κs = search needs
+
+differs-requires-4 : tie.Need-differs-requires-4
+differs-requires-4 c κs = search needs
+
+plus-requires-3 : tie.Need-plus-requires-3
+plus-requires-3 c κs = search needs
+
 returns : tie.Need-returns
 unfolding copiesDiffer
-returns c = sums (sums (said (c .before .before .before .before .before .before .before .before .before .before .originals .ensures) (c .before .before .before .before .before .before .before .before .before .agrees .ensures) (c .before .before .before .before .before .before .before .before .differs .ensures)) (said (c .before .before .before .before .before .before .before .echoes .ensures) (c .before .before .before .before .before .before .agrees2 .ensures) (c .before .before .before .before .before .differs2 .ensures)) (c .before .before .before .before .plus .ensures)) (said (c .before .before .before .copies .ensures) (c .before .before .agrees3 .ensures) (c .before .differs3 .ensures)) (c .plus2 .ensures)
+returns c = sums (sums (sums (said (c .before .before .before .before .before .before .before .before .before .before .before .before .before .before .originals .ensures) (c .before .before .before .before .before .before .before .before .before .before .before .before .before .agrees .ensures) (c .before .before .before .before .before .before .before .before .before .before .before .before .differs .ensures)) (said (c .before .before .before .before .before .before .before .before .before .before .before .echoes .ensures) (c .before .before .before .before .before .before .before .before .before .before .agrees2 .ensures) (c .before .before .before .before .before .before .before .before .before .differs2 .ensures)) (c .before .before .before .before .before .before .before .before .plus .ensures)) (said (c .before .before .before .before .before .before .before .copies .ensures) (c .before .before .before .before .before .before .agrees3 .ensures) (c .before .before .before .before .before .differs3 .ensures)) (c .before .before .before .before .plus2 .ensures)) (said (c .before .before .before .in-transit .ensures) (c .before .before .agrees4 .ensures) (c .before .differs4 .ensures)) (c .plus3 .ensures)
 
 pub copies-differ-spec : {M : Type 1} → statement M
 copies-differ-spec =
@@ -56,4 +68,8 @@ copies-differ-spec =
     agrees-requires-3
     differs-requires-3
     plus-requires-2
+    in-transit-requires
+    agrees-requires-4
+    differs-requires-4
+    plus-requires-3
     returns)

@@ -12,6 +12,9 @@ least-requires c κs = search needs
 waiting-copies-requires : tie.Need-waiting-copies-requires
 waiting-copies-requires c κs = search needs
 
+transits-requires : tie.Need-transits-requires
+transits-requires c κs = search needs
+
 tallies-requires : tie.Need-tallies-requires
 tallies-requires c κs = search needs
 
@@ -25,7 +28,7 @@ same-length : tie.Need-same-length
 same-length c = search needs
 
 returns : tie.Need-returns
-returns c = ends _ _ _ _ _ _ _ _ _ _ _ _ (c .before .before .before .before .before .before .before .before .before .before .before .before .before .before .cell .ensures) (c .before .before .before .before .before .before .before .before .before .before .before .before .before .least .ensures .0) (c .before .before .before .before .before .before .before .before .before .before .before .waiting-copies .ensures) (c .before .before .before .before .before .before .before .tallies .ensures) (c .before .before .before .marks .ensures) (c .before .before .stands .ensures)
+returns c = ends _ _ _ _ _ _ _ _ _ _ _ _ _ (c .before .before .before .before .before .before .before .before .before .before .before .before .before .before .before .before .before .before .cell .ensures) (c .before .before .before .before .before .before .before .before .before .before .before .before .before .before .before .before .before .least .ensures .0) (c .before .before .before .before .before .before .before .before .before .before .before .before .before .before .before .waiting-copies .ensures) (c .before .before .before .before .before .before .before .before .before .before .before .transits .ensures) (c .before .before .before .before .before .before .before .tallies .ensures) (c .before .before .before .marks .ensures) (c .before .before .stands .ensures)
 
 pub ended-spec : {M : Type 1} → statement M
 ended-spec =
@@ -34,6 +37,7 @@ ended-spec =
     cell-requires
     least-requires
     waiting-copies-requires
+    transits-requires
     tallies-requires
     marks-requires
     stands-requires

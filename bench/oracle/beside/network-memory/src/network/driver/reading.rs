@@ -94,8 +94,9 @@ impl Driver {
             ("seen", [t]) => self.seen(self.till(t)? as usize, o),
             ("transit", [t]) => {
                 let to = self.till(t)?;
-                let copies = self.net.pending_gossip.iter().filter(|c| c.0.record.to == to).count();
-                let _ = writeln!(o, "transit {copies}");
+                // the original has no such figure: its waiting copies that have an id are counted (document 02, M-101)
+                let originals = self.waiting().iter().filter(|c| c.to == to && c.id.is_some()).count();
+                let _ = writeln!(o, "transit {originals}");
             }
             ("state", []) => {
                 for part in STATE {
