@@ -19,9 +19,9 @@
  *  10  a selected till has no free seen slot
  *  11  the waiting slots do not take three copies for each selected till
  *  12  no rule or block place is free, or 4,294,967,295 rules were installed
- *  13  the drop card is not exact
+ *  13  the drop card is not exact: bit 7 of its map set, bit 6 without bit 5, a tier above 3, or another length than the map says
  *  14  the output has no row for some copy due
- *  18  a window's end is at or before its start; asked after 13
+ *  18  a window's end is at or before its start, a closed window's before it; asked after 13
  *
  * Question 1 asks of each table that a call is lent, `setup` always among them:
  *
@@ -153,7 +153,8 @@ struct GossipDone gossip_unblock(const uint64_t *setup, size_t setup_n, uint64_t
 struct GossipValue gossip_is_blocked(const uint64_t *setup, size_t setup_n, const uint64_t *net, size_t net_n,
     const uint64_t *blocks, size_t blocks_n, uint64_t from, uint64_t to, uint64_t now);
 
-/* Questions 1, 12, 13, 18. value is the rule's id. 18 is asked of a card whose bit 5 stands. */
+/* Questions 1, 12, 13, 18. value is the rule's id. 18 is asked of a card whose bit 5 stands; bit 6 beside it, which has no bytes,
+ * says that the window's end belongs to it. */
 struct GossipValue gossip_install(const uint64_t *setup, size_t setup_n, uint64_t *net, size_t net_n, uint64_t *rules,
     size_t rules_n, const uint8_t *card, size_t card_n);
 

@@ -89,7 +89,9 @@ def cards():
                 if len(c) == 1 and c[0] == 0:
                     ids += 1
                     out.append('remove %d' % (ids - 1))
-        install(whole)
+        # bit 6 beside bit 5 is a closed window, which the original does not know: closed.py
+        if not 96 <= map < 128:
+            install(whole)
         if map < 64:
             messages(3)
             out.append('fired %d' % ids)
@@ -197,7 +199,7 @@ def mixed(calls):
         if k < 2 and len(live) < 64:
             c = any_card(rng.randrange(64) | rng.choice([16, 18, 20, 22, 48, 0]))
             if rng.randrange(12) == 0:
-                install(rng.choice([c[:-1], c + b'\1', bytes([c[0] | 64]) + c[1:], bytes([c[0] | 128]) + c[1:]]))
+                install(rng.choice([c[:-1], c + b'\1', bytes([c[0] | (128 if c[0] & 32 else 64)]) + c[1:], bytes([c[0] | 128]) + c[1:]]))
                 if out[-1] == 'install x00':
                     live.add(ever)
                     ever += 1

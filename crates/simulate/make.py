@@ -7,6 +7,7 @@ import subprocess
 import sys
 
 HERE = os.path.dirname(os.path.abspath(__file__))
+BOOK = os.path.join(HERE, '..', '..', 'bench', 'oracle', 'book', 'book.py')
 rng = random.Random(7)
 LAST = 2 ** 64 - 1
 out = []
@@ -233,7 +234,7 @@ def second_part():
     say('blocks', 'blocks edges=0 windows=0')
     # 18 (document 02, M-110): an end at or before its start, of a block and of a card with bit 5
     say(opens(more=' slots=7 seen=2'), 'open ok')
-    ids = 0
+    ids = closed = 0
     for start, end in ((5, 5), (5, 4), (5, 6), (LAST, LAST), (LAST, LAST - 1), (LAST - 1, LAST), (LAST, 0), (0, 0), (0, 1), (0, LAST), (LAST, 1), (1, LAST)):
         taken = start < end
         say('blockd 0 1 %d %d' % (start, end), 'blockd ok' if taken else 'blockd refused 18')
@@ -241,6 +242,16 @@ def second_part():
         ids += taken
     say('blocks', 'blocks edges=1 windows=%d' % ids)
     say('rules', ' '.join(['rules %d' % ids] + ['%d:0' % i for i in range(ids)]))
+    # bit 6 (M-111): a closed window is refused only where its end is before its start; bit 6 without bit 5, and bit 7, are not exact
+    for start, end in ((5, 5), (5, 4), (5, 6), (LAST, LAST), (LAST, LAST - 1), (LAST, 0), (0, 0), (0, LAST)):
+        taken = start <= end
+        say('install x60' + card(window=(start, end))[1:].hex(), 'install id=%d' % ids if taken else 'install refused 18')
+        say('install xe0' + card(window=(start, end))[1:].hex(), 'install refused 13')
+        closed += taken
+        ids += taken
+    say('install x40', 'install refused 13')
+    say('install x4100', 'install refused 13')
+    say('install x60' + card(window=(5, 8))[1:].hex() + '00', 'install refused 13')
     # after 4 and 12, after 13; not asked of a card without bit 5
     turned = card(window=(8, 5))
     say('blockd 0 3 8 5', 'blockd refused 4')
@@ -253,7 +264,7 @@ def second_part():
     say('install x' + card(kind=0).hex(), 'install id=%d' % (ids + 1))
     say('setrules 4294967295', 'setrules ok')
     say('install x' + turned.hex(), 'install refused 12')
-    for i in range(256 - ids):
+    for i in range(256 - (ids - closed)):
         say('block 0 1', 'block ok')
     say('blockd 0 1 8 5', 'blockd refused 12')
     say('blocks', 'blocks edges=1 windows=256')
@@ -322,6 +333,10 @@ def main():
         script.append('# Part %d: by %s; the answers are the original\'s.' % (part, name))
         script += more.splitlines()
         said.append(printed([oracle], more))
+    more = printed([sys.executable, os.path.join(HERE, 'closed.py')], '')
+    script.append('# Part 6: by closed.py; the answers are those of the book in Python, bench/oracle/book.')
+    script += more.splitlines()
+    said.append(printed([sys.executable, BOOK, 'answers'], more))
     with open(os.path.join(HERE, 'stdin'), 'w') as f:
         f.write('\n'.join(script) + '\n')
     with open(os.path.join(HERE, 'stdout'), 'w') as f:

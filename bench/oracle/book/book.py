@@ -1,6 +1,7 @@
 #!/usr/bin/env python3
 """book.py SCRIPT...: the book of documents 01 and 02, kept from their text alone and not from the Rust, against SCRIPT's .expected beside it.
 book.py wrong SCRIPT...: each error of wrong.py in turn; the scripts must notice every one.
+book.py answers <SCRIPT: the book's own answers to a script.
 The status is not 0 where an answer differs, or an error goes unnoticed."""
 import pathlib
 import struct
@@ -15,6 +16,9 @@ from wrong import wrong
 RING = 64
 COUNTS = ('sent', 'dedup', 'partition', 'loss', 'fault')
 CARD = (1, 4, 4, 1, 8, 16)
+# no now is later; where each call has its own
+LATEST = 2 ** 60
+NOW = {'accept': 1, 'flush': 0, 'isblocked': 2, 'decide': 4}
 
 
 def dash(v):
@@ -40,13 +44,26 @@ def parts(value):
     return [] if value == 'none' else value.split(',')
 
 
+class Window:
+    """Document 02, M-111: the end of a closed window belongs to it."""
+
+    def __init__(self, start, end, closed=False):
+        self.start, self.end, self.closed = start, end, closed
+
+    def holds(self, t):
+        return self.start <= t < self.end or self.closed and t == self.end
+
+    def turned(self):
+        """Document 02, M-110: the end is at or before the start; of a closed window, before it."""
+        return self.end < self.start or self.end == self.start and not self.closed
+
+
 def holds(window, t):
-    return window is None or window[0] <= t < window[1]
+    return window is None or window.holds(t)
 
 
 def turned(window):
-    """Document 02, M-110: the end is at or before the start."""
-    return window is not None and window[1] <= window[0]
+    return window is not None and window.turned()
 
 
 class Copy:
@@ -80,11 +97,11 @@ class Till:
 
 
 class Rule:
-    def __init__(self, number, fields):
+    def __init__(self, number, fields, closed):
         whole = [None if f is None else int.from_bytes(f, 'little') for f in fields]
         self.number, self.fired = number, 0
         self.kind, self.sender, self.to, self.tier = whole[:4]
-        self.window = None if fields[5] is None else struct.unpack('<QQ', fields[5])
+        self.window = None if fields[5] is None else Window(*struct.unpack('<QQ', fields[5]), closed)
         self.probability = None
         if fields[4] is not None:
             p = struct.unpack('<d', fields[4])[0]
@@ -209,10 +226,11 @@ class Book:
         for k, size in enumerate(CARD):
             if card and card[0] >> k & 1:
                 fields[k], rest = rest[:size], rest[size:]
-        exact = card and card[0] < 64 and not rest and all(f is None or len(f) == CARD[k] for k, f in enumerate(fields))
+        closed = bool(card) and card[0] >> 6 & 1 == 1
+        exact = card and card[0] < 128 and (fields[5] is not None or not closed) and not rest and all(f is None or len(f) == CARD[k] for k, f in enumerate(fields))
         if not exact or fields[3] is not None and fields[3][0] > 3:
             return ['install refused 13']
-        rule = Rule(self.installed, fields)
+        rule = Rule(self.installed, fields, closed)
         if turned(rule.window):
             return ['install refused 18']
         self.rules.append(rule)
@@ -388,7 +406,7 @@ class Book:
         elif call == 'unblock':
             self.unblock((t, int(w[1])))
         else:
-            window = tuple(map(int, w[2:])) or None
+            window = Window(*map(int, w[2:])) if w[2:] else None
             if turned(window):
                 return [call + ' refused 18']
             self.windows.append(((t, int(w[1])), window))
@@ -396,6 +414,9 @@ class Book:
 
     def answer(self, line):
         call, *w = line.split()
+        # question 7
+        if call in NOW and int(w[NOW[call]]) > LATEST:
+            return [call + ' refused 7']
         if call == 'accept':
             return self.accept(*w)
         if call == 'latency':
@@ -424,14 +445,21 @@ class Book:
         return [self.seen(w[0])] if call == 'seen' and w else self.reading(call)
 
 
-def first_difference(path):
-    """The lines compared, and the first that differs, or None."""
-    wanted, at, book = path.with_suffix('.expected').read_text().splitlines(), 0, None
-    for n, line in enumerate(path.read_text().splitlines(), 1):
+def told_by_line(lines):
+    """Each line, and what the book answers."""
+    book = None
+    for line in lines:
         if line.startswith('open '):
             book, told = Book(line), ['open ok']
         else:
             told = book.answer(line)
+        yield line, told
+
+
+def first_difference(path):
+    """The lines compared, and the first that differs, or None."""
+    wanted, at = path.with_suffix('.expected').read_text().splitlines(), 0
+    for n, (line, told) in enumerate(told_by_line(path.read_text().splitlines()), 1):
         for mine, rust in zip(told, wanted[at:at + len(told)] + ['(nothing)'] * len(told)):
             if mine != rust:
                 return at, f'{path} line {n}: {line[:150]}\n  book {mine[:250]}\n  rust {rust[:250]}'
@@ -463,6 +491,10 @@ def unnoticed(paths):
 
 def main():
     args = sys.argv[1:]
+    if args == ['answers']:
+        for _, told in told_by_line(sys.stdin.read().splitlines()):
+            print('\n'.join(told))
+        return
     trying = args[:1] == ['wrong']
     paths = [pathlib.Path(a) for a in args[trying:]]
     if not paths:

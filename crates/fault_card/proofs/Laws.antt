@@ -1,6 +1,6 @@
 -- Bytes read one by one, little-endian; a card's places and fields; when a card is exact.
 use mathlib.Core.Path.{_≡_, refl, sym, ap, _∙_}
-use mathlib.Core.Bool.{Bool, true, false, cond, _&&_}
+use mathlib.Core.Bool.{Bool, true, false, cond, not, _&&_, _||_}
 use mathlib.Core.List.{List}
 use Prim.Native.Nat.{ℕ, suc, _+_, _-_, _*_, _^_, _<_, _≤_}
 use native.Mathlib.Nat.{pow-suc, pow-le-pow-right}
@@ -9,11 +9,11 @@ use lib.Dec.{lit<, ltb, eqb}
 use lib.ListN.{length, getD}
 use borrow.Author.Tests.{eq-eqb, ne-eqb, le-leb, lt-leb, lt-ltb, le-ltb}
 use Rattle.fault_rule.specs.declared.DropSpec.{DropSpec}
-use Rattle.fault_rule.specs.Rule.{has, kindBit, fromBit, toBit, tierBit, probabilityBit, windowBit}
+use Rattle.fault_rule.specs.Rule.{has, kindBit, fromBit, toBit, tierBit, probabilityBit, windowBit, closedBit}
 use Rattle.fault_rule.proofs.Laws.{yes, no}
 use Rattle.fault_card.specs.declared.Card.the-variants.{Exact, Inexact}
 use Rattle.fault_card.specs.declared.Places.{Places}
-use Rattle.fault_card.specs.Card.{leAt, sizeOf, placesOf, fieldOf, specOf, mapOf, fieldsOf, exact, cardOf}
+use Rattle.fault_card.specs.Card.{leAt, sizeOf, placesOf, fieldOf, specOf, mapOf, fieldsOf, mapExact, exact, cardOf}
 
 -- ---- the bytes from i + k to i + w are read: their number is below 256 ^ (w - k)
 pub room : (v n : ℕ) → v < 256 ^ n → n < 8 → v * 256 + 255 < 2 ^ 64
@@ -67,6 +67,20 @@ pub read-fields : (s : List ℕ) (map : ℕ) (at : Places) (k f t i p b e : ℕ)
 unfolding specOf
 read-fields s map at k f t i p b e hk hf ht hi hp hb he = cc
 
+-- ---- the ways through `map_exact`
+pub bit-7 : (map : ℕ) → 128 ≤ map → false ≡ mapExact map
+unfolding mapExact
+bit-7 map h = ap (λ (b : Bool). b && (has map windowBit || not (has map closedBit))) (sym (le-ltb map 128 h))
+
+module _ (map : ℕ) (low : map < 128) where
+  pub beside-5 : has map windowBit ≡ true → true ≡ mapExact map
+  unfolding mapExact
+  beside-5 h = rw (lt-ltb map 128 low, h)
+
+  pub without-5 : has map windowBit ≡ false → (b : Bool) → b ≡ has map closedBit → not b ≡ mapExact map
+  unfolding mapExact
+  without-5 h b e = rw (lt-ltb map 128 low, h, e)
+
 -- ---- the ways through `read`, whose first byte is m
 all-three : (a b c : Bool) → a ≡ true → b ≡ true → c ≡ true → a && b && c ≡ true
 all-three a b c p q r = rw (p, q, r)
@@ -81,16 +95,16 @@ not-third : (a b c : Bool) → a ≡ true → b ≡ true → c ≡ false → a &
 not-third a b c p q r = rw (p, q, r)
 
 module _ (s : List ℕ) (m : ℕ) (first : m ≡ mapOf s) where
-  pub high-bit : 64 ≤ m → Inexact ≡ cardOf s
+  pub bad-map : mapExact m ≡ false → Inexact ≡ cardOf s
   unfolding cardOf exact
-  high-bit h = no _ _ _ _ (not-first _ _ _ (le-ltb (mapOf s) 64 (omega arith))) refl
+  bad-map h = no _ _ _ _ (not-first _ _ _ (ap mapExact (sym first) ∙ h)) refl
 
-  module _ (low : m < 64) (at : Places) (are : at ≡ placesOf m) where
+  module _ (good : mapExact m ≡ true) (at : Places) (are : at ≡ placesOf m) where
     ends : at .end ≡ placesOf (mapOf s) .end
     ends = ap (λ (x : Places). x .end) (are ∙ ap placesOf first)
 
-    clear : ltb (mapOf s) 64 ≡ true
-    clear = lt-ltb (mapOf s) 64 (omega arith)
+    clear : mapExact (mapOf s) ≡ true
+    clear = ap mapExact (sym first) ∙ good
 
     pub other-length : (length s ≡ at .end → ⊥) → Inexact ≡ cardOf s
     unfolding cardOf exact

@@ -1,11 +1,11 @@
--- Document 01, fault engine, and question 13: a drop card and the fields that it carries.
-use mathlib.Core.Bool.{Bool, cond, _&&_}
+-- Document 01, fault engine, and question 13: a drop card and the fields that it carries. Document 02, M-111: bit 6, a closed window.
+use mathlib.Core.Bool.{Bool, cond, not, _&&_, _||_}
 use mathlib.Core.List.{List}
 use Prim.Native.Nat.{ℕ, zero, suc, _+_, _*_, _≤_}
 use lib.ListN.{length, getD}
 use lib.Dec.{ltb, leb, eqb}
 use Rattle.fault_rule.specs.declared.DropSpec.{DropSpec}
-use Rattle.fault_rule.specs.Rule.{has, kindBit, fromBit, toBit, tierBit, probabilityBit, windowBit}
+use Rattle.fault_rule.specs.Rule.{has, kindBit, fromBit, toBit, tierBit, probabilityBit, windowBit, closedBit}
 use Rattle.fault_card.specs.declared.Card.{Card}
 use Rattle.fault_card.specs.declared.Card.the-variants.{Exact, Inexact}
 use Rattle.fault_card.specs.declared.Places.{Places}
@@ -89,9 +89,13 @@ mapOf s = getD s 0 0
 abbrev pub fieldsOf : List ℕ → DropSpec
 fieldsOf s = specOf s (mapOf s) (placesOf (mapOf s))
 
--- question 13: bits 6 and 7 clear, length as the map says, tier at most 3
+-- bit 7 clear, and bit 6 only beside bit 5
+unfoldable pub mapExact : ℕ → Bool
+mapExact map = ltb map 128 && (has map windowBit || not (has map closedBit))
+
+-- question 13: such a map, length as the map says, tier at most 3
 unfoldable pub exact : List ℕ → Bool
-exact s = ltb (mapOf s) 64 && eqb (length s) (placesOf (mapOf s) .end) && leb (fieldsOf s .tier) 3
+exact s = mapExact (mapOf s) && eqb (length s) (placesOf (mapOf s) .end) && leb (fieldsOf s .tier) 3
 
 unfoldable pub cardOf : List ℕ → Card
 cardOf s = cond (exact s) (Exact (fieldsOf s)) Inexact

@@ -1,8 +1,8 @@
-// Drop cards: one byte as bit map, then only the fields whose bit stands, lowest first, little-endian.
+// Drop cards: one byte as bit map, then only the fields whose bit stands, lowest first, little-endian. Bit 6 closes the window and has no field.
 ghost use mathlib.Core.Path.{_≡_};
 ghost use Prim.Native.Nat.{_<_, _≤_};
 ghost use lib.ListN.{getD};
-ghost use Rattle.fault_card.specs.Card.{longest, Within, leAt, sizeOf, placesOf, fieldOf, specOf, cardOf};
+ghost use Rattle.fault_card.specs.Card.{longest, Within, leAt, sizeOf, placesOf, fieldOf, specOf, mapExact, cardOf};
 use fault_rule::DropSpec;
 
 // What a card holds; one that is not exact is refused.
@@ -113,12 +113,25 @@ fn fields(s: &[u8], map: u64, at: Places) -> DropSpec
     }
 }
 
-// Question 13: bits 6 and 7 clear, length as the map says, tier at most 3.
+// Is bit 7 clear, and bit 6 only beside bit 5?
+fn map_exact(map: u64) -> bool
+    ensures { λ r. ⌜ r ≡ mapExact map ⌝ }
+{
+    if 128 <= map {
+        return false;
+    }
+    if fault_rule::has(map, fault_rule::WINDOW) {
+        return true;
+    }
+    !fault_rule::has(map, fault_rule::CLOSED)
+}
+
+// Question 13: such a map, length as the map says, tier at most 3.
 pub fn read(s: &[u8]) -> Card
     ensures { λ r. ⌜ r ≡ cardOf (now (s .entry)) ⌝ }
 {
     let map = byte(s, 0);
-    if 64 <= map {
+    if !map_exact(map) {
         return Card::Inexact;
     }
     let at = lay_out(map);

@@ -2,10 +2,10 @@
 use mathlib.Core.Path.{_≡_, sym, ap, _∙_}
 use mathlib.Core.Bool.{Bool, true, false, cond, _&&_}
 use Prim.Native.Nat.{ℕ, _<_, _≤_}
-use lib.Dec.{ltb}
+use lib.Dec.{leb, ltb}
 use borrow.Author.Tests.{lt-leb, le-leb}
 use Rattle.fault_rule.specs.declared.TimeWindow.{TimeWindow}
-use Rattle.fault_rule.specs.declared.TimeWindow.the-variants.{During}
+use Rattle.fault_rule.specs.declared.TimeWindow.the-variants.{During, Closed}
 use Rattle.fault_rule.specs.Rule.{holds}
 
 -- a choice whose test is known
@@ -39,3 +39,11 @@ early w s e t q h = ap (λ (b : Bool). b && ltb t e) (sym (lt-leb s t h)) ∙ ap
 pub late : (w : TimeWindow) (s e t : ℕ) → w ≡ During s e → s ≤ t → ltb t e ≡ holds w t
 unfolding holds
 late w s e t q h = ap (λ (b : Bool). b && ltb t e) (sym (le-leb s t h)) ∙ ap (λ (x : TimeWindow). holds x t) (sym q)
+
+pub closed-early : (w : TimeWindow) (s e t : ℕ) → w ≡ Closed s e → t < s → false ≡ holds w t
+unfolding holds
+closed-early w s e t q h = ap (λ (b : Bool). b && leb t e) (sym (lt-leb s t h)) ∙ ap (λ (x : TimeWindow). holds x t) (sym q)
+
+pub closed-late : (w : TimeWindow) (s e t : ℕ) → w ≡ Closed s e → s ≤ t → leb t e ≡ holds w t
+unfolding holds
+closed-late w s e t q h = ap (λ (b : Bool). b && leb t e) (sym (le-leb s t h)) ∙ ap (λ (x : TimeWindow). holds x t) (sym q)

@@ -1,4 +1,4 @@
--- Document 01, fault engine: a drop rule, its window, its filters and its action. Document 02, M-110: a window the wrong way round.
+-- Document 01, fault engine: a drop rule, its window, its filters and its action. Document 02, M-110: a window the wrong way round; M-111: a closed window.
 use mathlib.Core.Path.{_≡_}
 use mathlib.Core.Bool.{Bool, true, cond, _&&_}
 use Prim.Native.Nat.{ℕ, _/_, _%_, _^_}
@@ -8,7 +8,7 @@ use Rattle.math_float.specs.Float.{clamped}
 use Rattle.fault_rule.specs.declared.Filter.{Filter}
 use Rattle.fault_rule.specs.declared.Filter.the-variants.{Any, Is}
 use Rattle.fault_rule.specs.declared.TimeWindow.{TimeWindow}
-use Rattle.fault_rule.specs.declared.TimeWindow.the-variants.{Always, During}
+use Rattle.fault_rule.specs.declared.TimeWindow.the-variants.{Always, During, Closed}
 use Rattle.fault_rule.specs.declared.FaultAction.{FaultAction}
 use Rattle.fault_rule.specs.declared.FaultAction.the-variants.{Drop, DropWithProbability}
 use Rattle.fault_rule.specs.declared.DropSpec.{DropSpec}
@@ -34,6 +34,10 @@ probabilityBit = 4
 abbrev pub windowBit : ℕ
 windowBit = 5
 
+-- the window's end belongs to it; no bytes of its own
+abbrev pub closedBit : ℕ
+closedBit = 6
+
 -- bit k of a map stands
 unfoldable pub has : ℕ → ℕ → Bool
 has map k = eqb (map / 2 ^ k % 2) 1
@@ -43,7 +47,7 @@ unfoldable pub filterOf : ℕ → ℕ → ℕ → Filter
 filterOf map k x = cond (has map k) (Is x) Any
 
 unfoldable pub windowOf : ℕ → ℕ → ℕ → TimeWindow
-windowOf map start end = cond (has map windowBit) (During start end) Always
+windowOf map start end = cond (has map windowBit) (cond (has map closedBit) (Closed start end) (During start end)) Always
 
 -- the window that a card's fields give
 abbrev pub windowIn : DropSpec → TimeWindow
@@ -63,15 +67,17 @@ ruleOf s = record {
   window = windowIn s;
 }
 
--- a window holds its start and not its end
+-- a window holds its start and not its end; a closed one holds both
 unfoldable pub holds : TimeWindow → ℕ → Bool
 holds Always now = true
 holds (During start end) now = leb start now && ltb now end
+holds (Closed start end) now = leb start now && leb now end
 
--- the end is after the start; a window that always holds has neither
+-- the end is after the start, of a closed window not before it; a window that always holds has neither
 unfoldable pub forward : TimeWindow → Bool
 forward Always = true
 forward (During start end) = ltb start end
+forward (Closed start end) = leb start end
 
 -- a window that is not empty: it holds some time
 pub record HoldsSome (w : TimeWindow) : Type 0 where

@@ -16,16 +16,20 @@ pub const PROBABILITY: u64 = 4;
 
 pub const WINDOW: u64 = 5;
 
+// The window's end belongs to it; no bytes of its own.
+pub const CLOSED: u64 = 6;
+
 // A host, a type or a tier that a rule asks for.
 pub enum Filter {
     Any,
     Is(u64),
 }
 
-// When a rule or a block is active.
+// When a rule or a block is active: always, from a start up to an end, or from a start to an end that is in it too.
 pub enum TimeWindow {
     Always,
     During { start: u64, end: u64 },
+    Closed { start: u64, end: u64 },
 }
 
 pub enum FaultAction {
@@ -85,10 +89,13 @@ fn filter_of(map: u64, k: u64, x: u64) -> Filter
 fn window_of(map: u64, start: u64, end: u64) -> TimeWindow
     ensures { λ r. ⌜ r ≡ windowOf map start end ⌝ }
 {
-    if has(map, WINDOW) {
-        return TimeWindow::During { start, end };
+    if !has(map, WINDOW) {
+        return TimeWindow::Always;
     }
-    TimeWindow::Always
+    if has(map, CLOSED) {
+        return TimeWindow::Closed { start, end };
+    }
+    TimeWindow::During { start, end }
 }
 
 // Any 64 bits are a probability, clamped to 0..1; a NaN stays one.
@@ -120,7 +127,7 @@ pub fn rule_of(s: DropSpec) -> Rule
     }
 }
 
-// Does the window hold the time? It holds its start, and not its end.
+// Does the window hold the time? It holds its start, and not its end; a closed one holds both.
 pub fn window_holds(w: TimeWindow, now: u64) -> bool
     ensures { λ r. ⌜ r ≡ holds w now ⌝ }
 {
@@ -132,16 +139,23 @@ pub fn window_holds(w: TimeWindow, now: u64) -> bool
             }
             now < end
         }
+        TimeWindow::Closed { start, end } => {
+            if now < start {
+                return false;
+            }
+            now <= end
+        }
     }
 }
 
-// Is the window's end after its start? One that always holds has neither.
+// Is the window's end after its start, a closed one's not before it? One that always holds has neither.
 pub fn window_forward(w: TimeWindow) -> bool
     ensures { λ r. ⌜ r ≡ forward w ⌝ }
 {
     match w {
         TimeWindow::Always => true,
         TimeWindow::During { start, end } => start < end,
+        TimeWindow::Closed { start, end } => start <= end,
     }
 }
 

@@ -144,9 +144,15 @@ rowsTo r = map (λ (x : Row). x .copy .delivery .to) (rowsIn (r .answer))
 
 -- ---- Questions
 
--- a drop card with a window alone, of ends below 256
+-- a drop card with this map and a window alone, of ends below 256: half-open, and closed
+abbrev cardBy : ℕ → ℕ → ℕ → List ℕ
+cardBy map start end = map ∷ start ∷ 0 ∷ 0 ∷ 0 ∷ 0 ∷ 0 ∷ 0 ∷ 0 ∷ end ∷ 0 ∷ 0 ∷ 0 ∷ 0 ∷ 0 ∷ 0 ∷ 0 ∷ []
+
 abbrev windowCard : ℕ → ℕ → List ℕ
-windowCard start end = 32 ∷ start ∷ 0 ∷ 0 ∷ 0 ∷ 0 ∷ 0 ∷ 0 ∷ 0 ∷ end ∷ 0 ∷ 0 ∷ 0 ∷ 0 ∷ 0 ∷ 0 ∷ 0 ∷ []
+windowCard start end = cardBy 32 start end
+
+abbrev closedCard : ℕ → ℕ → List ℕ
+closedCard start end = cardBy 96 start end
 
 -- no block place is free
 abbrev full : Engine → Engine
@@ -171,6 +177,11 @@ pub record Numbers : Type 0 where
   pub turned-long : reply [] (install (windowCard 8 5 ++ (0 ∷ []))) .number ≡ 13
   pub turned-no-place : firstNo (asked plain (withEngine (held plain []) (full (held plain [] .engine))) (blockDuring 0 1 8 5)) ≡ 12
   pub no-window : reply [] (install (1 ∷ 1 ∷ [])) .number ≡ 0
+  -- a closed window may have equal ends, and is refused only the wrong way round; bit 6 stands only beside bit 5, bit 7 never
+  pub closed-moment : reply [] (install (closedCard 5 5)) .number ≡ 0
+  pub closed-turned : reply [] (install (closedCard 6 5)) .number ≡ 18
+  pub bit-7 : reply [] (install (cardBy 160 5 8)) .number ≡ 13
+  pub bits-6-7 : reply [] (install (cardBy 224 5 8)) .number ≡ 13
   -- a payload that does not open is answered with zero counts
   pub not-opening : reply [] (accept (entry 0 1000 global 5) false) ≡ record { number = 0; answer = counted (five 0 0 0 0 0) }
 
@@ -196,6 +207,12 @@ pub record Accepts : Type 0 where
   pub in-window : counts (reply (install windowed ∷ []) (accept (entry 0 5 global 5) true)) ≡ five 1 0 0 0 1
   pub before-window : counts (reply (install windowed ∷ []) (accept (entry 0 4 global 5) true)) ≡ five 2 0 0 0 0
   pub after-window : counts (reply (install windowed ∷ []) (accept (entry 0 8 global 5) true)) ≡ five 2 0 0 0 0
+  -- a closed window holds both its ends, and nothing beside them
+  pub closed-before : counts (reply (install (closedCard 5 8) ∷ []) (accept (entry 0 4 global 5) true)) ≡ five 2 0 0 0 0
+  pub closed-start : counts (reply (install (closedCard 5 8) ∷ []) (accept (entry 0 5 global 5) true)) ≡ five 0 0 0 0 2
+  pub closed-end : counts (reply (install (closedCard 5 8) ∷ []) (accept (entry 0 8 global 5) true)) ≡ five 0 0 0 0 2
+  pub closed-after : counts (reply (install (closedCard 5 8) ∷ []) (accept (entry 0 9 global 5) true)) ≡ five 2 0 0 0 0
+  pub closed-one : counts (reply (install (closedCard 5 5) ∷ []) (accept (entry 0 5 global 5) true)) ≡ five 0 0 0 0 2
   -- a rule that drops sets no mark: once it is removed, the same entry is sent
   pub fault-unmarked : held plain (install always ∷ hello ∷ []) .seen ≡ [] ∷ [] ∷ [] ∷ []
   pub fault-resent : counts (reply (install always ∷ hello ∷ remove 0 ∷ []) hello) ≡ five 2 0 0 0 0
@@ -340,11 +357,11 @@ pub record Runs : Type 0 where
   pub marks : Marks
 
 pub runs : Runs
-unfolding real.chance fraction.hitsAt fraction.hitWords ieee.lt admitted.latencyAdmitted admitted.fractionAdmitted admitted.rateAdmitted ieee.eq ieee.le ieee.ofBits waiting.before marks.halve marks.position ring.slotOf ring.pushSlot ring.pushedAt log.tallyAt log.talliedAt log.notedAt log.pushed log.clearedAt table.over rows.kept shift.putWords shift.closed rules.without rules.readingOf rules.fireAt rules.installNumber rules.installTable rules.indexOf rules.removeTable rules.fireTable rules.putAt blocks.windowOf blocks.joins blocks.stops blocks.blocked blocks.blockTable blocks.openCount blocks.unblockTable blocks.putAt rule.has rule.filterOf rule.windowOf rule.actionOf rule.ruleOf rule.holds rule.forward rule.passes rule.applies card.leAt card.sizeOf card.placesOf card.fieldOf card.specOf card.exact word.le8 word.le4 real.keysOf link.linkKey link.linkBytes real.pricedBy digest.hash digest.tree chunk.chunk chunk.blocks chunk.parent compress.compressed compress.folded accepting.drawn accepting.offered
+unfolding real.chance fraction.hitsAt fraction.hitWords ieee.lt admitted.latencyAdmitted admitted.fractionAdmitted admitted.rateAdmitted ieee.eq ieee.le ieee.ofBits waiting.before marks.halve marks.position ring.slotOf ring.pushSlot ring.pushedAt log.tallyAt log.talliedAt log.notedAt log.pushed log.clearedAt table.over rows.kept shift.putWords shift.closed rules.without rules.readingOf rules.fireAt rules.installNumber rules.installTable rules.indexOf rules.removeTable rules.fireTable rules.putAt blocks.windowOf blocks.joins blocks.stops blocks.blocked blocks.blockTable blocks.openCount blocks.unblockTable blocks.putAt rule.has rule.filterOf rule.windowOf rule.actionOf rule.ruleOf rule.holds rule.forward rule.passes rule.applies card.leAt card.sizeOf card.placesOf card.fieldOf card.specOf card.mapExact card.exact word.le8 word.le4 real.keysOf link.linkKey link.linkBytes real.pricedBy digest.hash digest.tree chunk.chunk chunk.blocks chunk.parent compress.compressed compress.folded accepting.drawn accepting.offered
 runs = record {
   rates = record { at-zero = λ key words. refl; at-minus-zero = λ key words. refl; above-zero = λ key words. refl };
-  numbers = record { opens = refl; key-short = refl; never-opened = refl; no-till = refl; no-shard = refl; too-late = refl; no-mark-free = refl; no-row = refl; bad-card = refl; no-end = refl; turned = refl; one-moment = refl; turned-card = refl; one-moment-card = refl; turned-long = refl; turned-no-place = refl; no-window = refl; not-opening = refl };
-  accepts = record { sender-down = refl; to-shard = refl; blocked-now = refl; blocked-words = refl; no-loss-draw = refl; in-window = refl; before-window = refl; after-window = refl; fault-unmarked = refl; fault-resent = refl; fired = refl; gone = refl };
+  numbers = record { opens = refl; key-short = refl; never-opened = refl; no-till = refl; no-shard = refl; too-late = refl; no-mark-free = refl; no-row = refl; bad-card = refl; no-end = refl; turned = refl; one-moment = refl; turned-card = refl; one-moment-card = refl; turned-long = refl; turned-no-place = refl; no-window = refl; closed-moment = refl; closed-turned = refl; bit-7 = refl; bits-6-7 = refl; not-opening = refl };
+  accepts = record { sender-down = refl; to-shard = refl; blocked-now = refl; blocked-words = refl; no-loss-draw = refl; in-window = refl; before-window = refl; after-window = refl; closed-before = refl; closed-start = refl; closed-end = refl; closed-after = refl; closed-one = refl; fault-unmarked = refl; fault-resent = refl; fired = refl; gone = refl };
   losses = record { lost = refl; lost-words = refl; resent = refl; resent-words = refl };
   echoes = record { kinds = refl; sequences = refl; ids = refl; first-words = refl; second-words = refl; ring = refl; in-transit = refl; log-of-one = refl; forced-out = refl; drained-short = refl; drained-empty = refl };
   flushes = record { lands = refl; delivered = refl; dropped = refl; mark-gone = refl; sent-again = refl; window-ends = refl; down-in-flight = refl; up-again = refl; unhandled = refl; sender-gone = refl; two-wait = refl; second-unmarked = refl; host-shard = refl; host-global = refl; not-due = refl; next = refl; unblock-all = refl; is-blocked = refl; end-open = refl };

@@ -34,9 +34,9 @@ use Rattle.math_float.specs.Float as float
 use Rattle.spec_runs.specs.RealRuns.{Drawn, Planned}
 
 pub drawn : Drawn
-unfolding admitted.latencyAdmitted admitted.fractionAdmitted admitted.rateAdmitted ieee.eq ieee.le ieee.ofBits waiting.before marks.halve marks.position ring.slotOf ring.pushSlot ring.pushedAt log.tallyAt log.talliedAt log.notedAt log.pushed log.clearedAt table.over rows.kept shift.putWords shift.closed rules.without rules.readingOf rules.fireAt rules.installNumber rules.installTable rules.indexOf rules.removeTable rules.fireTable rules.putAt blocks.windowOf blocks.joins blocks.stops blocks.blocked blocks.blockTable blocks.openCount blocks.unblockTable blocks.putAt rule.has rule.filterOf rule.windowOf rule.actionOf rule.ruleOf rule.holds rule.forward rule.passes rule.applies card.leAt card.sizeOf card.placesOf card.fieldOf card.specOf card.exact word.le8 word.le4 word.leWord real.keysOf link.linkKey link.linkBytes real.pricedBy digest.hash digest.tree chunk.chunk chunk.blocks chunk.parent compress.compressed compress.folded accepting.drawn accepting.offered real.chance real.idOf real.drawsOf ieee.lt ieee.add ieee.sub ieee.mul ieee.div ieee.neg ieee.ofInt fraction.fraction fraction.fractionAt fraction.hitsAt fraction.hitWords ranges.realOf ranges.realAt drawing.again drawing.carries drawing.wholeOf drawing.drawsOf drawing.whole32At drawing.words32At streams.wordPair seconds.seconds seconds.times latency.jitterRange latency.jitters latency.jitterOf latency.jitterWords latency.floored latency.delayOf latency.unspiked latency.spikeAt latency.spikeCount latency.latencyAt latency.latencyWords geography.costOf deciding.decideOf chacha.wordAt chacha.blockOf chacha.sums chacha.initial chacha.doubleRounds chacha.columns chacha.diagonals chacha.quarterAt chacha.quarterOf chacha.halfOf chacha.putQuad word.add32 word.xor32 word.rotl32 word.rotr32 compress.iv compress.rounds compress.columns compress.diagonals compress.permuted compress.mixAt compress.mixOf compress.halfOf compress.putQuad compress.initial chunk.wordsOf geography.atLeastOne geography.regionOf geography.transmissionOf geography.bandOf geography.drawnLink geography.linkWords geography.rowCount geography.allCount geography.pairLink geography.linkIn geography.putLink geography.putPair geography.pricedRow geography.pricedAll geography.pricesOf geography.linkAt geography.linkAdmitted geography.linkCost drawing.whole64At drawing.words64At bytes.derive bytes.hostBytes bytes.linksBytes real.faultKeyOf compress.roundOf deciding.tryRule deciding.tryAction deciding.hits float.clamped
+unfolding admitted.latencyAdmitted admitted.fractionAdmitted admitted.rateAdmitted ieee.eq ieee.le ieee.ofBits waiting.before marks.halve marks.position ring.slotOf ring.pushSlot ring.pushedAt log.tallyAt log.talliedAt log.notedAt log.pushed log.clearedAt table.over rows.kept shift.putWords shift.closed rules.without rules.readingOf rules.fireAt rules.installNumber rules.installTable rules.indexOf rules.removeTable rules.fireTable rules.putAt blocks.windowOf blocks.joins blocks.stops blocks.blocked blocks.blockTable blocks.openCount blocks.unblockTable blocks.putAt rule.has rule.filterOf rule.windowOf rule.actionOf rule.ruleOf rule.holds rule.forward rule.passes rule.applies card.leAt card.sizeOf card.placesOf card.fieldOf card.specOf card.exact word.le8 word.le4 word.leWord real.keysOf link.linkKey link.linkBytes real.pricedBy digest.hash digest.tree chunk.chunk chunk.blocks chunk.parent compress.compressed compress.folded accepting.drawn accepting.offered real.chance real.idOf real.drawsOf ieee.lt ieee.add ieee.sub ieee.mul ieee.div ieee.neg ieee.ofInt fraction.fraction fraction.fractionAt fraction.hitsAt fraction.hitWords ranges.realOf ranges.realAt drawing.again drawing.carries drawing.wholeOf drawing.drawsOf drawing.whole32At drawing.words32At streams.wordPair seconds.seconds seconds.times latency.jitterRange latency.jitters latency.jitterOf latency.jitterWords latency.floored latency.delayOf latency.unspiked latency.spikeAt latency.spikeCount latency.latencyAt latency.latencyWords geography.costOf deciding.decideOf chacha.wordAt chacha.blockOf chacha.sums chacha.initial chacha.doubleRounds chacha.columns chacha.diagonals chacha.quarterAt chacha.quarterOf chacha.halfOf chacha.putQuad word.add32 word.xor32 word.rotl32 word.rotr32 compress.iv compress.rounds compress.columns compress.diagonals compress.permuted compress.mixAt compress.mixOf compress.halfOf compress.putQuad compress.initial chunk.wordsOf geography.atLeastOne geography.regionOf geography.transmissionOf geography.bandOf geography.drawnLink geography.linkWords geography.rowCount geography.allCount geography.pairLink geography.linkIn geography.putLink geography.putPair geography.pricedRow geography.pricedAll geography.pricesOf geography.linkAt geography.linkAdmitted geography.linkCost drawing.whole64At drawing.words64At bytes.derive bytes.hostBytes bytes.linksBytes real.faultKeyOf compress.roundOf deciding.tryRule deciding.tryAction deciding.hits float.clamped card.mapExact
 drawn = record { opens = refl; counts = refl; waits = refl; words = (refl, refl) }
 
 pub planned-drawn : Planned
-unfolding admitted.latencyAdmitted admitted.fractionAdmitted admitted.rateAdmitted ieee.eq ieee.le ieee.ofBits waiting.before marks.halve marks.position ring.slotOf ring.pushSlot ring.pushedAt log.tallyAt log.talliedAt log.notedAt log.pushed log.clearedAt table.over rows.kept shift.putWords shift.closed rules.without rules.readingOf rules.fireAt rules.installNumber rules.installTable rules.indexOf rules.removeTable rules.fireTable rules.putAt blocks.windowOf blocks.joins blocks.stops blocks.blocked blocks.blockTable blocks.openCount blocks.unblockTable blocks.putAt rule.has rule.filterOf rule.windowOf rule.actionOf rule.ruleOf rule.holds rule.forward rule.passes rule.applies card.leAt card.sizeOf card.placesOf card.fieldOf card.specOf card.exact word.le8 word.le4 word.leWord real.keysOf link.linkKey link.linkBytes real.pricedBy digest.hash digest.tree chunk.chunk chunk.blocks chunk.parent compress.compressed compress.folded accepting.drawn accepting.offered real.chance real.idOf real.drawsOf ieee.lt ieee.add ieee.sub ieee.mul ieee.div ieee.neg ieee.ofInt fraction.fraction fraction.fractionAt fraction.hitsAt fraction.hitWords ranges.realOf ranges.realAt drawing.again drawing.carries drawing.wholeOf drawing.drawsOf drawing.whole32At drawing.words32At streams.wordPair seconds.seconds seconds.times latency.jitterRange latency.jitters latency.jitterOf latency.jitterWords latency.floored latency.delayOf latency.unspiked latency.spikeAt latency.spikeCount latency.latencyAt latency.latencyWords geography.costOf deciding.decideOf chacha.wordAt chacha.blockOf chacha.sums chacha.initial chacha.doubleRounds chacha.columns chacha.diagonals chacha.quarterAt chacha.quarterOf chacha.halfOf chacha.putQuad word.add32 word.xor32 word.rotl32 word.rotr32 compress.iv compress.rounds compress.columns compress.diagonals compress.permuted compress.mixAt compress.mixOf compress.halfOf compress.putQuad compress.initial chunk.wordsOf geography.atLeastOne geography.regionOf geography.transmissionOf geography.bandOf geography.drawnLink geography.linkWords geography.rowCount geography.allCount geography.pairLink geography.linkIn geography.putLink geography.putPair geography.pricedRow geography.pricedAll geography.pricesOf geography.linkAt geography.linkAdmitted geography.linkCost drawing.whole64At drawing.words64At bytes.derive bytes.hostBytes bytes.linksBytes real.faultKeyOf compress.roundOf deciding.tryRule deciding.tryAction deciding.hits float.clamped
+unfolding admitted.latencyAdmitted admitted.fractionAdmitted admitted.rateAdmitted ieee.eq ieee.le ieee.ofBits waiting.before marks.halve marks.position ring.slotOf ring.pushSlot ring.pushedAt log.tallyAt log.talliedAt log.notedAt log.pushed log.clearedAt table.over rows.kept shift.putWords shift.closed rules.without rules.readingOf rules.fireAt rules.installNumber rules.installTable rules.indexOf rules.removeTable rules.fireTable rules.putAt blocks.windowOf blocks.joins blocks.stops blocks.blocked blocks.blockTable blocks.openCount blocks.unblockTable blocks.putAt rule.has rule.filterOf rule.windowOf rule.actionOf rule.ruleOf rule.holds rule.forward rule.passes rule.applies card.leAt card.sizeOf card.placesOf card.fieldOf card.specOf card.exact word.le8 word.le4 word.leWord real.keysOf link.linkKey link.linkBytes real.pricedBy digest.hash digest.tree chunk.chunk chunk.blocks chunk.parent compress.compressed compress.folded accepting.drawn accepting.offered real.chance real.idOf real.drawsOf ieee.lt ieee.add ieee.sub ieee.mul ieee.div ieee.neg ieee.ofInt fraction.fraction fraction.fractionAt fraction.hitsAt fraction.hitWords ranges.realOf ranges.realAt drawing.again drawing.carries drawing.wholeOf drawing.drawsOf drawing.whole32At drawing.words32At streams.wordPair seconds.seconds seconds.times latency.jitterRange latency.jitters latency.jitterOf latency.jitterWords latency.floored latency.delayOf latency.unspiked latency.spikeAt latency.spikeCount latency.latencyAt latency.latencyWords geography.costOf deciding.decideOf chacha.wordAt chacha.blockOf chacha.sums chacha.initial chacha.doubleRounds chacha.columns chacha.diagonals chacha.quarterAt chacha.quarterOf chacha.halfOf chacha.putQuad word.add32 word.xor32 word.rotl32 word.rotr32 compress.iv compress.rounds compress.columns compress.diagonals compress.permuted compress.mixAt compress.mixOf compress.halfOf compress.putQuad compress.initial chunk.wordsOf geography.atLeastOne geography.regionOf geography.transmissionOf geography.bandOf geography.drawnLink geography.linkWords geography.rowCount geography.allCount geography.pairLink geography.linkIn geography.putLink geography.putPair geography.pricedRow geography.pricedAll geography.pricesOf geography.linkAt geography.linkAdmitted geography.linkCost drawing.whole64At drawing.words64At bytes.derive bytes.hostBytes bytes.linksBytes real.faultKeyOf compress.roundOf deciding.tryRule deciding.tryAction deciding.hits float.clamped card.mapExact
 planned-drawn = record { opens = refl; counts = refl; waits = refl; words = (refl, refl) }

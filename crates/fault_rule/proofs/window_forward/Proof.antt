@@ -1,4 +1,3 @@
-use Rattle.fault_rule.specs.declared.TimeWindow.{TimeWindow}
 use Rattle.fault_rule.specs.Rule.{forward}
 use mathlib.Core.Path.{sym, ap}
 use borrow.Author.Needs.{needs}
@@ -11,6 +10,9 @@ enum-told c = search needs
 enum-known-w : tie.Need-enum-known-w
 enum-known-w c = search needs
 
+enum-known-w-2 : tie.Need-enum-known-w-2
+enum-known-w-2 c = search needs
+
 returns : tie.Need-returns
 unfolding forward
 returns c = search needs
@@ -19,5 +21,10 @@ returns-2 : tie.Need-returns-2
 unfolding forward
 returns-2 c = sym (ap forward (c .before .w .given .1))
 
+returns-3 : tie.Need-returns-3
+unfolding forward
+returns-3 c = sym (ap forward (c .before .w2 .given .1))
+
 pub window-forward-spec : {M : Type 1} → statement M
-window-forward-spec = tie.close (tie.spec enum-told enum-known-w returns returns-2)
+window-forward-spec =
+    tie.close (tie.spec enum-told enum-known-w enum-known-w-2 returns returns-2 returns-3)

@@ -424,12 +424,12 @@ impl Writer {
     /// A card, now and then one that is not exact.
     fn install(&mut self) {
         let (mut card, turned) = self.card();
-        // not exact: a byte too many, one too few, a bit that means nothing
+        // not exact: a byte too many, one too few, a bit that means nothing (bit 6 beside bit 5 closes the window, which the original does not know)
         let wrong = self.dice.below(60);
         match wrong {
             0 => card.push(0),
             1 => _ = card.pop(),
-            2 => card[0] |= self.dice.pick(&[0x40, 0x80]),
+            2 => card[0] |= if card[0] & 0x20 == 0 { self.dice.pick(&[0x40, 0x80]) } else { 0x80 },
             _ => {}
         }
         let digits: String = card.iter().map(|b| format!("{b:02x}")).collect();

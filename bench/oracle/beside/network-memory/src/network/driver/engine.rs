@@ -24,7 +24,7 @@ fn next_time(card: &mut &[u8]) -> Option<Duration> {
     next(card).map(|b| time(u64::from_le_bytes(b)))
 }
 
-/// What a card says; `None` where it is not exact.
+/// What a card says; `None` where it is not exact. The original has no closed windows (bit 6, document 02): no such card is asked of it.
 fn spec(mut card: &[u8], names: &[&'static str]) -> Option<DropSpec> {
     let rest = &mut card;
     let [map] = next(rest)?;
