@@ -2,12 +2,51 @@
 # check.py ORACLE [--write]: the expected output of each script, made from the answers of the original Rust (the oracle's program) and a count of its
 # own over them, and never from the program under test. Without --write it compares with the file stdout of simulate_scenarios.
 # check.py --program PROGRAM: what the program writes for each script on its standard input, against the same file.
-# Marks are read by `seen` lines put behind every call, waiting copies and tallies by `waiting` and `drain` at the end.
-import pathlib, re, subprocess, sys
+# Marks are read by `seen` lines put behind every call, fired counts by `rules`, waiting copies and tallies by `waiting` and `drain` at a page's end.
+# Bad lines are found and told by a reading of its own. A page's figures are compared with counts from other lines, as docs/CHECKLIST.md says.
+import pathlib, re, shutil, subprocess, sys
 PROGRAM = pathlib.Path(__file__).parent.parent / 'crates/simulate_scenarios'
 HEAD = 'RUN OF '
 WIDE, LABEL = 48, 28
 MOST_WORDS, LAST = 2 ** 40, 2 ** 32 - 1
+KIT = pathlib.Path(shutil.which('rt') or '/').resolve().parent.parent / 'KIT-ID'
+# the calls that scenarios make, by how many words each takes; d: decimal
+WORDS = dict(accept='dddd....', flush='d', down='d', up='d.', handlers='d..', block='dd', blockd='dddd', unblock='dd', isblocked='ddd', install='.', remove='d', fired='d', decide='ddddd',
+             drain='', waiting='', transit='d', next='', seen='d', setfired='dd', setseq='d', setrules='d')
+
+
+# why a line is bad, or nothing
+def wrong(line, opened):
+    w = line.split()
+    if w[0] == 'open' or w[0] == 'setwords':
+        return None
+    if w[0] not in WORDS:
+        return w[0] + ' is no call'
+    if w == ['seen'] or w[0] == 'flush' and len(w) == 3:
+        return None
+    for k, kind in enumerate(WORDS[w[0]]):
+        if len(w) <= k + 1:
+            return 'a word is missing'
+        if kind == 'd' and not w[k + 1].isdigit():
+            return w[k + 1] + ' is malformed'
+    if len(w) > len(WORDS[w[0]]) + 1:
+        return w[len(WORDS[w[0]]) + 1] + ' is one word too many'
+    return None if opened else 'no network is open'
+
+
+# the pages of a script: those before the first opening go with it; of each line its number, and why it is bad
+def pages(lines):
+    out, opened = [[]], False
+    for n, l in enumerate(lines, 1):
+        if not l.strip() or l.startswith('#'):
+            continue
+        why = wrong(l, opened)
+        if l.startswith('open '):
+            if opened:
+                out.append([])
+            opened = True
+        out[-1].append((n, l, why))
+    return out
 
 
 def oracle(program, lines, *words):
@@ -50,6 +89,12 @@ class Counters:
         return 'accept refused 8' if spent else 'accept refused 9' if passes else None
 
 
+# what document 01 refuses and the original has no way to say: a sender that does not exist
+def refusal(line, tills):
+    w = line.split()
+    return 'accept refused 4' if w[0] == 'accept' and int(w[1]) >= tills else None
+
+
 # The sequences of the answers as they are where `setseq` sets the counter: a copy's is that of the original, moved by the last jump before it was
 # scheduled. Due and waiting copies stand by time, then sequence; equal ones as they were scheduled.
 class Sequences:
@@ -76,36 +121,46 @@ class Sequences:
         return [' '.join(w) for w in sorted(words, key=lambda w: (int(w[6]), int(w[9])))]
 
 
-# each line of the script with its own answer lines and the marks of each till behind it
-def calls(program, lines):
-    script = [l for l in lines if l.strip() and not l.startswith('#')]
+# each line of a page with its own answer lines, and behind it the marks of each till and how often the rules have fired
+def calls(program, page):
+    bad = [(n, l, why) for n, l, why in page if why]
+    script = [l for n, l, why in page if not why]
     tills = int(fields(script[0])['tills'])
     counters, sequences = Counters(tills), Sequences()
-    fixed = [counters.answer(l) for l in script]
+    fixed = [counters.answer(l) or refusal(l, tills) for l in script]
     marked = []
     for l, answer in zip(script, fixed):
-        marked += [] if answer else [l, 'seen', 'fired 0']
+        marked += [] if answer else [l, 'seen', 'rules', 'fired 0']
     out = oracle(program, marked + ['waiting', 'drain']).splitlines()
-    at, got, marks, told = 0, [], [0] * tills, []
+    at, got, marks, fired, told = 0, [], [0] * tills, 0, []
     for l, answer in zip(script, fixed):
         own = [answer]
         if not answer:
-            end = next(k for k in range(at, len(out)) if out[k].startswith('fired ') and out[k - 1].startswith('seen ') and not (l.startswith('fired') and k == at))
+            end = next(k for k in range(at, len(out)) if out[k].startswith('fired ') and out[k - 1].startswith('rules ') and out[k - 2].startswith('seen '))
             part = out[at:end]
-            own, seen = part[:-tills], part[-tills:]
+            own, seen, rules = part[:-tills - 1], part[-tills - 1:-1], part[-1]
             assert all(s.startswith('seen ') for s in seen)
             at, marks = end + 1, [int(s.split()[2]) for s in seen]
+            fired = sum(int(w.split(':')[1]) for w in rules.split()[2:]) % 2 ** 64
             told += own
-        got.append((l, sequences.told(l, own), marks))
+        got.append((l, sequences.told(l, own), marks, fired))
     assert told == oracle(program, [l for l, answer in zip(script, fixed) if not answer]).splitlines()
+    for n, l, why in bad:
+        k = sum(1 for m, _, w in page if not w and m < n)
+        got.insert(k + sum(1 for m, _, _ in bad if m < n), (l, [f'err {n}: {why}'], None, None))
     end = next(k for k in range(at, len(out)) if out[k].startswith('drain '))
     return got, sequences.told('waiting', out[at:end]) + out[end:]
 
 
 class Count:
-    def __init__(c, line):
+    def __init__(c, line, opening):
         f = fields(line)
+        c.f, c.opening, c.calls, c.bad, c.hooks = f, opening, 0, 0, 0
         c.tills, c.log = int(f['tills']), int(f['log'])
+        c.down_now, c.windows, c.given = set(), [], 0
+        c.cut, c.fired, c.own, c.behind, c.flushed = [0, 0], 0, 0, 0, (0, 0)
+        c.sure = c.older = 0
+        c.by = [dict(since=0, held=0, astray=0, stood=0, meant=0, got=0, home=0, lost=0, away=0) for _ in range(c.tills)]
         c.mask = [int(m, 16) for m in f['masks'].split(',')]
         c.accepts = c.flushes = c.recipients = c.sequence = 0
         c.refused = {}
@@ -117,20 +172,37 @@ class Count:
         c.kept = [[0, 0] for _ in range(8)]
         c.tally = [[0, 0] for _ in range(8)]
 
-    def call(c, line, own, before, after):
+    def call(c, line, own, before, after, fired):
         w = line.split()
+        if after is None:
+            c.bad += 1
+            return
+        c.calls += 1
         m = re.match(r'\S+ refused (\d+)$', own[0]) if own else None
         if m:
             c.refused[int(m[1])] = c.refused.get(int(m[1]), 0) + 1
         elif w[0] == 'accept':
             c.accept(w, fields(own[0]))
+            c.fired += max(fired[1] - fired[0], 0)
         elif w[0] == 'flush':
-            c.flush(own, sum(before) - sum(after))
+            c.flush(int(w[1]), own, sum(before) - sum(after))
         elif w[0] == 'down':
-            c.mask[int(w[1])] = 0
+            t = int(w[1])
+            c.mask[t] = 0
             c.down += sum(before) - sum(after)
+            c.down_now.add(t)
+            c.by[t].update(since=c.sequence, held=0, astray=0)
         elif w[0] == 'up':
             c.mask[int(w[1])] = int(w[2], 16)
+            c.down_now.discard(int(w[1]))
+        elif w[0] == 'block':
+            c.windows.append((int(w[1]), int(w[2]), 0, 2 ** 64 - 1))
+        elif w[0] == 'blockd':
+            c.windows.append(tuple(map(int, w[1:5])))
+        elif w[0] == 'unblock':
+            c.windows = [x for x in c.windows if x[:2] != (int(w[1]), int(w[2]))]
+        elif w[0].startswith('set'):
+            c.hooks += 1
         elif w[0] == 'drain':
             c.drained(own[0])
         c.standing = sum(after)
@@ -139,13 +211,42 @@ class Count:
         me, shard = int(w[1]), None if w[5] == 'g' else int(w[5][1:])
         c.accepts += 1
         if w[7] == '1':
-            c.recipients += sum(1 for t in range(c.tills) if t != me and (shard is None or c.mask[t] >> shard & 1))
+            chosen = [t for t in range(c.tills) if t != me and (shard is None or c.mask[t] >> shard & 1)]
+            c.recipients += len(chosen)
+            c.expect(me, int(w[2]), chosen, int(f['dedup']))
         for k in c.five:
             c.five[k] += int(f[k])
             c.till[me][k] += int(f[k])
         c.sequence = int(f['sequence'])
 
-    def flush(c, own, gone):
+    # recipients that are down, or whose sender is, are never deduplicated: they have no mark; of those behind a window as many may be as the answer says
+    def expect(c, me, now, chosen, dedup):
+        down = [t for t in chosen if me in c.down_now or t in c.down_now]
+        behind = [t for t in chosen if t not in down and any(a == me and b == t and s <= now < e for a, b, s, e in c.windows)]
+        c.cut[0] += len(down) + max(len(behind) - dedup, 0)
+        c.cut[1] += len(down) + len(behind)
+        for t in chosen:
+            c.by[t]['meant'] += 1
+
+    # any copy that is found: in a flush, or waiting at the end
+    def found(c, r, place):
+        me, to, time, sequence = int(r[1]), int(r[2]), int(r[6]), int(r[9])
+        c.own += me == to
+        c.behind += time <= c.flushed[0] and sequence <= c.flushed[1]
+        if r[10] == '-':
+            return
+        new = sequence > c.by[to]['since']
+        c.by[to]['got'] += 1
+        c.by[me][place] += 1
+        if place != 'lost':
+            c.by[to]['held'] += new
+        elif new:
+            c.sure += 1
+        else:
+            c.older += 1
+            c.by[to]['astray'] += 1
+
+    def flush(c, now, own, gone):
         c.flushes += 1
         c.gone += gone
         f = fields(own[0])
@@ -155,6 +256,7 @@ class Count:
         for line in own[1:]:
             r = line.split()
             me, to, cls, time, wire, sequence, echo = int(r[1]), int(r[2]), int(r[4]), int(r[6]), int(r[8]), int(r[9]), int(r[10] == '-')
+            c.found(r, 'lost' if r[0] == 'drop' else 'home')
             if r[0] == 'drop':
                 c.drops[echo] += 1
                 c.till[to]['lost_to'] += 1
@@ -167,6 +269,8 @@ class Count:
             last = (time, sequence)
             c.kept[cls][0] += 1
             c.kept[cls][1] += wire
+        if now >= c.flushed[0]:
+            c.flushed = (now, c.sequence)
 
     def drained(c, line):
         for k, pair in enumerate(fields(line)['tallies'].split(',')):
@@ -178,6 +282,7 @@ class Count:
         for line in rest:
             r = line.split()
             if r[0] == 'copy':
+                c.found(r, 'away')
                 c.waits[r[10] == '-'] += 1
                 c.till[int(r[2])]['transit'] += r[10] != '-'
             if r[0] == 'drain':
@@ -208,17 +313,23 @@ class Count:
         for what, n in zip(('sent', 'deduplicated', 'partition', 'loss', 'fault rule'), five):
             c.line(what, n)
         c.pair('the five together', sum(five), 'recipients by the masks', c.recipients)
+        c.pair('copies to their own sender', c.own, 'there should be', 0)
         page += ['', 'B. SEEN MARKS']
         c.line('set by sent originals', five[0])
         c.line('gone with take-downs', c.down)
         c.line('gone with flush drops', c.gone)
         c.pair('so these should stand', five[0] - c.down - c.gone, 'standing in the tables', c.standing)
-        c.pair('gone with flush drops', c.gone, 'at most: originals dropped', c.drops[0], c.gone <= c.drops[0])
+        c.most('at least, by the drops', max(c.sure - c.older, 0), 'gone with flush drops', c.gone)
+        c.most('gone with flush drops', c.gone, 'at most, by the drops', c.sure + c.older)
         page += ['', 'C. DROPS BY CAUSE']
         for what, n in zip(('partition', 'loss', 'fault rule'), five[2:]):
             c.line(what, n)
         c.pair('dropped at accept', sum(five[2:]), 'recipients - dedup. - sent', c.recipients - five[1] - five[0])
         c.pair('copies dropped by flushes', sum(c.drops), "by the flushes' own counts", c.said['dropped'])
+        c.most('at least, by the script', c.cut[0], 'partition', five[2])
+        c.most('partition', five[2], 'at most, by the script', c.cut[1])
+        c.most('loss', five[3], 'at most; at rate 0 none', c.recipients if int(c.f['loss'], 16) else 0)
+        c.pair('fault rule', five[4], 'fired, by the rules', c.fired)
         page += ['drops by the till that sent', 'till  partition       loss      fault      flush']
         cols = [[t[k] for k in ('partition', 'loss', 'fault', 'lost_from')] for t in c.till]
         for t, row in enumerate(cols):
@@ -239,6 +350,7 @@ class Count:
         page += ['', 'E. DELIVERY ORDER AND CLASS TALLIES']
         c.pair('rows', sum(c.rows), "by the flushes' own counts", c.said['rows'])
         c.pair('rows out of order', c.late, 'there should be', 0)
+        c.pair('left behind by a flush', c.behind, 'there should be', 0)
         c.pair('rows with a handler', c.handled, "delivered, flushes' counts", c.said['delivered'])
         for what, k in (('deliveries by class', 0), ('wire bytes by class', 1)):
             page.append(what)
@@ -251,45 +363,80 @@ class Count:
                 if n or m:
                     page.append(str(cls).rjust(5) + str(n).rjust(21) + str(m).rjust(22))
             page.append(c.verdict(all(n[k] == m[k] for n, m in zip(c.kept, c.tally))).rjust(WIDE))
+        c.by_till()
         return c.head() + page + c.slips()
 
+    def most(c, what, n, other, m):
+        c.pair(what, n, other, m, n <= m)
+
+    def by_till(c):
+        c.page += ['', 'F. TILL BY TILL', 'till   messages  originals       held      marks']
+        same = True
+        for t, b in enumerate(c.by):
+            c.table(str(t).rjust(4), [b[k] for k in ('meant', 'got', 'held', 'stood')])
+            tests = b['got'] <= b['meant'], b['held'] - b['astray'] <= b['stood'], b['stood'] <= b['held'], c.till[t]['sent'] == b['home'] + b['lost'] + b['away']
+            c.differ += len(tests) - sum(tests)
+            same = same and all(tests)
+        c.page += ['messages for it, originals to it (not more), of', 'these landed or waiting since it was last taken', 'down, its marks (as many); and of what it sent',
+                   'all has landed, was dropped on the way, or waits', ('agrees' if same else 'DIFFERS').rjust(WIDE)]
+
+    # the verdict: full slots (10, 11) fail, other refusals are a warning
     def head(c):
-        page, c.page = c.page, ['', 'CHECKLIST OF THE RUN']
-        c.line('tills', c.tills)
-        c.line('messages accepted', c.accepts)
-        c.line('flushes', c.flushes)
-        c.line('calls refused', sum(c.refused.values()))
+        page, c.page = c.page, ['', 'CHECKLIST OF THE RUN', 'kit ' + KIT.read_text().strip()]
+        f = c.f
+        sizes = lambda k: 0 if f[k] == 'none' else len(f[k].split(','))
+        for what, n in (('opening', c.opening), ('seed', f['seed']), ('tills', c.tills), ('types', sizes('types')), ('shards', sizes('shards')), ('waiting slots', f.get('slots', 4096)),
+                        ('seen marks a till', f.get('seen', 4096)), ('log records', c.log), ('regions', 0 if f['regions'] == 'none' else f['regions'].split(':')[0]), ('latency in ns', f['lat'])):
+            c.line(what, n)
+        for what, k in (('jitter', 'jit'), ('loss rate', 'loss'), ('duplicate rate', 'dup'), ('replay rate', 'rep'), ('spike rate', 'spike')):
+            c.page.append((what + ', f64').ljust(32) + f[k])
+        for what, n in (('calls', c.calls), ('messages accepted', c.accepts), ('flushes', c.flushes), ('bad lines', c.bad), ('calls refused', sum(c.refused.values()))):
+            c.line(what, n)
         for number in sorted(c.refused):
             c.page.append('  by question ' + str(number).rjust(2) + str(c.refused[number]).rjust(32))
         c.line('comparisons that differ', c.differ)
+        full = c.refused.get(10, 0) + c.refused.get(11, 0)
+        for what, n in (('WARNING: calls refused', sum(c.refused.values()) - full), ('A TEST: counters set by hand', c.hooks)):
+            if n:
+                c.line(what, n)
+        c.page.append('FAIL' if c.bad or c.differ or full else 'PASS')
         head, c.page = c.page, page
         return head
 
     def slips(c):
         c.page = ['', 'CLOSING SLIPS: S as sender, R as receiver']
-        names = (('S sent', 'sent'), ('S deduplicated', 'dedup'), ('S dropped by partition', 'partition'), ('S dropped by loss', 'loss'),
-                 ('S dropped by a fault rule', 'fault'), ('R received', 'got'), ('R dropped by a flush', 'lost_to'), ('R in transit', 'transit'))
+        names = (('S sent', 'sent', 'first copies that it put on their way'), ('S of these landed', 'home', 'they arrived where they should'),
+                 ('S of these dropped', 'lost', 'lost on the way, to be sent again'), ('S of these waiting', 'away', 'still on their way when the run ended'),
+                 ('S had it already', 'dedup', 'tills that had the message before'), ('S stopped by a partition', 'partition', 'tills that were down or behind a cut line'),
+                 ('S lost at sending', 'loss', 'copies that the line lost as they were sent'), ('S stopped by a fault rule', 'fault', 'copies that a fault rule dropped'),
+                 ('R received', 'got', 'copies that arrived here, echoes among them'), ('R dropped on the way here', 'lost_to', 'copies for this till that a flush dropped'),
+                 ('R on the way here', 'transit', 'first copies for this till that still wait'))
         for t, row in enumerate(c.till):
             c.page.append('')
             c.line('TILL', t)
-            for what, k in names:
-                c.line(what, row[k])
+            for what, k, sentence in names:
+                c.line(what, c.by[t][k] if k in ('home', 'lost', 'away') else row[k])
+                c.page.append('  ' + sentence)
         return c.page
 
 
-# the answers to a script, and its page
+# the answers to a script, and its pages
 def expected(program, lines):
-    got, rest = calls(program, lines)
-    answers = [a for _, own, _ in got for a in own]
-    assert not any(a.startswith('err') for a in answers)
-    c, before = Count(got[0][0]), [0] * 64
-    for line, own, after in got:
-        c.call(line, own, before, after)
-        before = after
-    c.end(rest)
-    page = c.print()
-    assert all(len(p) <= WIDE for p in page)
-    return '\n'.join(answers + page) + '\n'
+    text = []
+    for opening, page in enumerate(pages(lines), 1):
+        got, rest = calls(program, page)
+        text += [a for _, own, _, _ in got for a in own]
+        c, before, fired = Count(next(l for _, l, _ in page if l.startswith('open ')), opening), [0] * 64, 0
+        for line, own, after, count in got:
+            c.call(line, own, before, after, (fired, count))
+            before, fired = (before, fired) if after is None else (after, count)
+        for t, n in enumerate(before):
+            c.by[t]['stood'] = n
+        c.end(rest)
+        sheet = c.print()
+        assert all(len(p) <= WIDE for p in sheet)
+        text += sheet
+    return '\n'.join(text) + '\n'
 
 
 # the parts of the file stdout, by the name above each

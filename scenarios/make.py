@@ -235,9 +235,11 @@ def crash():
 
 def put_back():
     s = Script('put_back', [
-        'A put-back that is lost and sent again: a fault rule drops every stamp.put_back from till 1 for ten minutes. The',
+        'Put-backs that are lost and sent again. First a fault rule drops every stamp.put_back from till 1 for ten minutes. The',
         'stamp itself arrives. The put-back is sent again while the rule stands (dropped again) and after it was removed.',
-        'Look for: fault drops of till 1 only, no mark set by them, and the last put-back sent to all.'], 6)
+        'Then a put-back is lost on its way: the line to till 2 is cut before it arrives, and the flush drops it.',
+        'Look for: fault drops of till 1 only, no mark set by them, and the put-back sent to all behind the rule; one mark gone',
+        'with the flush drop, so that the put-back sent again goes to till 2 alone, and the other three have it already.'], 6)
     s.open([[0, 1, 2, 3, 4]], 31, lat=60)
     s.say('the rule: type stamp.put_back, from till 1, for 600 seconds from 100 s on')
     s.call('install', 'x' + '23' + '%02x' % PUT_BACK + struct.pack('<I', 1).hex() + struct.pack('<QQ', 100 * SECOND, 700 * SECOND).hex())
@@ -258,6 +260,14 @@ def put_back():
     s.accept(1, 695, PUT_BACK, 0, 'put back card 12 9')
     s.accept(1, 696, PUT_BACK, 0, 'put back card 12 9')
     s.flush(700)
+    s.say('a put-back is on its way to till 2 when the line is cut: the flush drops it, and its mark goes')
+    s.accept(1, 710, PUT_BACK, 0, 'put back card 14 1')
+    s.call('blockd', 1, 2, 710 * SECOND, 711 * SECOND)
+    s.flush(711)
+    s.call('seen', 2)
+    s.say('the line is back, and it is sent again: to till 2 alone, the others have it')
+    s.accept(1, 712, PUT_BACK, 0, 'put back card 14 1')
+    s.flush(713)
     s.write()
 
 
@@ -288,7 +298,8 @@ def skipped():
     s = Script('skipped', [
         'Counters set by hand, so that the checklist has something to find. First each limit is tried, and the counter put back: questions',
         '8 (words), 9 (sequences) and 12 (rules) refuse. Then the sequence jumps to 500, as if copies had been scheduled that nobody saw.',
-        'Look for: four calls refused, by question; in part D echoes and all DIFFER by what was skipped, and originals agree.'], 2)
+        'Look for: four calls refused, by question; in part D echoes and all DIFFER by what was skipped, and originals agree; in part C',
+        'the rule whose count passes 2^64 reads as if it had not fired.'], 2)
     s.open([[0, 1, 2], [3]], 17, lat=50, jit=0.2, loss=0.1, dup=0.4, rep=0.3)
     s.say('the fault stream has given its 2^40 words; then the link from till 1 to till 2 has')
     s.call('setwords', 'fault', 2 ** 40)
@@ -339,6 +350,27 @@ def repeated():
     s.write()
 
 
+def mistyped():
+    s = Script('mistyped', [
+        'A script full of slips of the pen, and two networks. The bad lines change nothing; each is told with its number, its word and why.',
+        'A later opening ends the page and begins another: the first says FAIL for its bad lines, the second PASS.',
+        'Look for: two pages; a refused call as a warning, which is no failure.'], 3)
+    s.call('accept', 0, 1, 0, 0, 'g', 'x00', 1, 1)
+    s.open([[0, 1, 2]], 5, lat=50, jit=0.0)
+    s.call('accpet', 0, 1, 0, 0, 'g', 'x00', 1, 1)
+    s.call('accept', 0, 1, 0, 0, 'g', 'x00', 1)
+    s.call('accept', 0, 1, 0, 0, 'g', 'x00', 1, 1, 7)
+    s.call('flush', '1s')
+    s.accept(0, 1, ADD, None, 'card 1 +1')
+    s.flush(2)
+    s.say('the second network: a till that it does not have is refused')
+    s.open([[0, 1], [2, 3]], 6, lat=50, jit=0.0)
+    s.accept(1, 1, ADD, 0, 'card 2 +1')
+    s.accept(9, 1, ADD, 0, 'card 2 +1')
+    s.flush(2)
+    s.write()
+
+
 # the morning again, as the text that the program carries
 def embedded():
     text = (PROGRAM / 'data/morning.script').read_text()
@@ -354,7 +386,7 @@ def words():
     (PROGRAM / 'args').write_text('\n'.join(['checklist'] + scripts + ['morning']) + '\n')
 
 
-for make in (morning, partition, lossy, crash, put_back, storm, skipped, repeated):
+for make in (morning, partition, lossy, crash, put_back, storm, skipped, repeated, mistyped):
     make()
 embedded()
 words()

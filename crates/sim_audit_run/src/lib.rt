@@ -30,7 +30,7 @@ fn run(
     account: &mut [u64],
 ) {
     let mut i = input::start(from, 0);
-    let mut r = lines::fresh();
+    let mut r = lines::fresh(false, false);
     let mut left = TURNS;
     while 0 < left {
         let t = sim_audit_turn::next(piece, line, room, out, text, account, i, r);

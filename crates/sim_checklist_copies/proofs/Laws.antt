@@ -1,18 +1,19 @@
 -- The rows and tables of parts D and E from their pieces.
 use mathlib.Core.Path.{_≡_, ap, ap₂, subst, sym, _∙_}
 use mathlib.Core.Bool.{Bool, true, false}
-use mathlib.Core.List.{List, [], _∷_}
+use mathlib.Core.List.{List, [], _∷_, _++_}
 use Prim.Native.Nat.{ℕ, _+_, _%_, _^_}
 use lib.Dec.{eqb}
 use lib.ListN.{getD}
 use borrow.Author.Tests.{eq-eqb, ne-eqb}
 use Rattle.sim_printer.specs.Printer.{Page, Spelled}
-use Rattle.sim_figures.specs.Figures.{logAt}
+use Rattle.sim_figures.specs.Figures.{logAt, sentOf, tillRow}
+use Rattle.sim_expected.specs.Places.{tillAt}
 use Rattle.sim_comparison.specs.declared.Pair.{Pair}
 use Rattle.sim_comparison.specs.Compared.{classOf, classesDiffer}
 use Rattle.sim_sheet.specs.Sheet.{figure, Prints, wide, bytes, saying, newline, atRight, verdictLine, threeOf}
 use Rattle.sim_sheet.proofs.Laws.{onward, nothing, figured, shown-three, shown-none}
-use Rattle.sim_checklist_copies.specs.Copies.{kindsOf, noneIn, classLine, classLines, classTable, asSender, asReceiver}
+use Rattle.sim_checklist_copies.specs.Copies.{kindsOf, noneIn, classLine, classLines, classTable, toldOf, onTheWay, senderDrops, asSender, asReceiver}
 
 pub of-kinds :
     (p q : Page) (l what : List ℕ) (b n m s : ℕ) → n ≡ getD l b 0 → m ≡ getD l (b + 1) 0 → s ≡ (n + m) % 2 ^ 64 → Prints (threeOf what n m s) p q → Prints (kindsOf l what b) p q
@@ -58,8 +59,18 @@ a-log p m o q l of n d e z a b ed v =
 
 -- ---- Slips: the till's row by its place
 
-pub sender-at : (p q : Page) (l : List ℕ) (b r : ℕ) → b ≡ r → Prints (asSender l b) p q → Prints (asSender l r) p q
-sender-at p q l b r e a = subst (λ (x : ℕ). Prints (asSender l x) p q) e a
+pub shown-told : (p q : Page) (what : List ℕ) (n m : ℕ) (sentence : List ℕ) → n ≡ m → Prints (toldOf what n sentence) p q → Prints (toldOf what m sentence) p q
+shown-told p q what n m sentence e a = subst (λ (x : ℕ). Prints (toldOf what x sentence) p q) e a
+
+pub as-sender :
+    (p m o q : Page) (l : List ℕ) (t b r g : ℕ) → b ≡ tillRow t → g ≡ getD l (b + sentOf) 0
+    → Prints (toldOf (bytes "S sent") g (bytes "  first copies that it put on their way\n")) p m → r ≡ tillAt t → Prints (onTheWay l r) m o → Prints (senderDrops l b) o q
+    → Prints (asSender l t) p q
+unfolding asSender
+as-sender p m o q l t b r g eb eg a er c d =
+    onward (toldOf (bytes "S sent") (getD l (tillRow t + sentOf) 0) (bytes "  first copies that it put on their way\n")) (onTheWay l (tillAt t) ++ senderDrops l (tillRow t)) p m q
+    (shown-told p m (bytes "S sent") g (getD l (tillRow t + sentOf) 0) (bytes "  first copies that it put on their way\n") (eg ∙ ap (λ (x : ℕ). getD l (x + sentOf) 0) eb) a)
+    (onward (onTheWay l (tillAt t)) (senderDrops l (tillRow t)) m o q (subst (λ (x : ℕ). Prints (onTheWay l x) m o) er c) (subst (λ (x : ℕ). Prints (senderDrops l x) o q) eb d))
 
 pub receiver-at : (p q : Page) (l : List ℕ) (b r : ℕ) → b ≡ r → Prints (asReceiver l b) p q → Prints (asReceiver l r) p q
 receiver-at p q l b r e a = subst (λ (x : ℕ). Prints (asReceiver l x) p q) e a

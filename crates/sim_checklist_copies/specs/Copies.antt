@@ -6,8 +6,9 @@ use lib.Dec.{eqb}
 use lib.ListN.{getD}
 use Rattle.sim_figures.specs.Figures.{tillsAt, logAt, landedAt, droppedAt, waitingAt, sentOf, receivedOf, lostToOf, transitOf, tillRow}
 use Rattle.sim_comparison.specs.declared.Pair.{Pair}
-use Rattle.sim_comparison.specs.Compared.{plus, originalsOf, echoesOf, copiesOf, inTransitOf, rowsOf, orderOf, deliveredOf, classOf, agreed, classesDiffer}
-use Rattle.sim_sheet.specs.Sheet.{Piece, figure, wide, bytes, saying, newline, labelled, atRight, lineOf, verdictIn, verdictLine, comparedLines, tableOf, threeOf}
+use Rattle.sim_comparison.specs.Compared.{plus, originalsOf, echoesOf, copiesOf, rowsOf, orderOf, behindOf, deliveredOf, classOf, agreed, classesDiffer, inTransitOf}
+use Rattle.sim_expected.specs.Places.{tillAt, homeOf, lostOf, awayOf}
+use Rattle.sim_sheet.specs.Sheet.{Piece, text, figure, wide, bytes, saying, newline, labelled, atRight, lineOf, verdictIn, verdictLine, comparedLines, tableOf, threeOf}
 
 -- ---- D
 
@@ -34,7 +35,8 @@ unfoldable pub orderPart : List ℕ → List Piece
 orderPart l =
     saying "\nE. DELIVERY ORDER AND CLASS TALLIES\n" ++ (comparedLines (rowsOf l) (bytes "= rows") (bytes "= by the flushes' own counts")
     ++ (comparedLines (orderOf l) (bytes "= rows out of order") (bytes "= there should be")
-    ++ comparedLines (deliveredOf l) (bytes "= rows with a handler") (bytes "= delivered, flushes' counts")))
+    ++ (comparedLines (behindOf l) (bytes "= left behind by a flush") (bytes "= there should be")
+    ++ comparedLines (deliveredOf l) (bytes "= rows with a handler") (bytes "= delivered, flushes' counts"))))
 
 -- are both figures 0?
 abbrev pub noneIn : Pair → Bool
@@ -54,26 +56,40 @@ classTable l of =
 
 -- ---- The closing slips; b is where the till's row starts
 
+-- a line, and a plain sentence under it
+abbrev pub toldOf : (what : List ℕ) → ℕ → (sentence : List ℕ) → List Piece
+toldOf what n sentence = lineOf what n ++ (text sentence ∷ [])
+
 unfoldable pub senderDrops : List ℕ → ℕ → List Piece
 senderDrops l b =
-    lineOf (bytes "S dropped by partition") (getD l (b + (sentOf + 2)) 0) ++ (lineOf (bytes "S dropped by loss") (getD l (b + (sentOf + 3)) 0)
-    ++ lineOf (bytes "S dropped by a fault rule") (getD l (b + (sentOf + 4)) 0))
+    toldOf (bytes "S had it already") (getD l (b + (sentOf + 1)) 0) (bytes "  tills that had the message before\n")
+    ++ (toldOf (bytes "S stopped by a partition") (getD l (b + (sentOf + 2)) 0) (bytes "  tills that were down or behind a cut line\n")
+    ++ (toldOf (bytes "S lost at sending") (getD l (b + (sentOf + 3)) 0) (bytes "  copies that the line lost as they were sent\n")
+    ++ toldOf (bytes "S stopped by a fault rule") (getD l (b + (sentOf + 4)) 0) (bytes "  copies that a fault rule dropped\n")))
+
+-- b is where its row of what is expected starts
+unfoldable pub onTheWay : List ℕ → ℕ → List Piece
+onTheWay l b =
+    toldOf (bytes "S of these landed") (getD l (b + homeOf) 0) (bytes "  they arrived where they should\n")
+    ++ (toldOf (bytes "S of these dropped") (getD l (b + lostOf) 0) (bytes "  lost on the way, to be sent again\n")
+    ++ toldOf (bytes "S of these waiting") (getD l (b + awayOf) 0) (bytes "  still on their way when the run ended\n"))
 
 unfoldable pub asSender : List ℕ → ℕ → List Piece
-asSender l b = lineOf (bytes "S sent") (getD l (b + sentOf) 0) ++ (lineOf (bytes "S deduplicated") (getD l (b + (sentOf + 1)) 0) ++ senderDrops l b)
+asSender l t =
+    toldOf (bytes "S sent") (getD l (tillRow t + sentOf) 0) (bytes "  first copies that it put on their way\n") ++ (onTheWay l (tillAt t) ++ senderDrops l (tillRow t))
 
 unfoldable pub asReceiver : List ℕ → ℕ → List Piece
 asReceiver l b =
-    lineOf (bytes "R received") (getD l (b + receivedOf) 0) ++ (lineOf (bytes "R dropped by a flush") (getD l (b + lostToOf) 0)
-    ++ lineOf (bytes "R in transit") (getD l (b + transitOf) 0))
+    toldOf (bytes "R received") (getD l (b + receivedOf) 0) (bytes "  copies that arrived here, echoes among them\n")
+    ++ (toldOf (bytes "R dropped on the way here") (getD l (b + lostToOf) 0) (bytes "  copies for this till that a flush dropped\n")
+    ++ toldOf (bytes "R on the way here") (getD l (b + transitOf) 0) (bytes "  first copies for this till that still wait\n"))
 
 unfoldable pub slipOf : List ℕ → ℕ → List Piece
-slipOf l t = newline ++ (lineOf (bytes "TILL") t ++ (asSender l (tillRow t) ++ asReceiver l (tillRow t)))
+slipOf l t = newline ++ (lineOf (bytes "TILL") t ++ (asSender l t ++ asReceiver l (tillRow t)))
 
 unfoldable pub slipsPart : List ℕ → List Piece
 slipsPart l = saying "\nCLOSING SLIPS: S as sender, R as receiver\n" ++ tableOf (slipOf l) (min (getD l tillsAt 0) 64)
 
--- the log's part, and the slips
-unfoldable pub tablesPart : List ℕ → List Piece
-tablesPart l =
-    saying "deliveries by class\n" ++ (classTable l 0 ++ (saying "wire bytes by class\n" ++ (classTable l 1 ++ slipsPart l)))
+-- the log's part
+unfoldable pub talliesPart : List ℕ → List Piece
+talliesPart l = saying "deliveries by class\n" ++ (classTable l 0 ++ (saying "wire bytes by class\n" ++ classTable l 1))

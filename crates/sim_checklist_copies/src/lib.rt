@@ -1,6 +1,7 @@
 // Parts D and E of the checklist, and the closing slips, printed: copies, the order of deliveries, class tallies.
 mod slips;
 
+pub use slips::closing;
 ghost use mathlib.Core.Path.{_≡_};
 ghost use Prim.Native.Nat.{_≤_};
 ghost use Rattle.sim_printer.specs.Printer.{page};
@@ -95,9 +96,16 @@ pub fn order(figures: &[u64], buf: &mut [u8], used: usize) -> usize
         b"= rows out of order",
         b"= there should be",
     );
-    compared(
+    let d = compared(
         buf,
         c,
+        sim_comparison::behind(figures),
+        b"= left behind by a flush",
+        b"= there should be",
+    );
+    compared(
+        buf,
+        d,
         sim_comparison::delivered(figures),
         b"= rows with a handler",
         b"= delivered, flushes' counts",
@@ -161,13 +169,12 @@ fn class_table(figures: &[u64], buf: &mut [u8], used: usize, of: usize) -> usize
     verdict(buf, c, sim_comparison::classes_differ(figures, of) == 0)
 }
 
-// The log's part, and the slips.
-pub fn tables(figures: &[u64], buf: &mut [u8], used: usize) -> usize
-    ensures { λ r. ⌜ Prints (is.tablesPart (now (figures .entry))) (page (now (buf .entry)) used) (page (now (buf .exit)) r) ⌝ }
+// The log's part.
+pub fn tallies(figures: &[u64], buf: &mut [u8], used: usize) -> usize
+    ensures { λ r. ⌜ Prints (is.talliesPart (now (figures .entry))) (page (now (buf .entry)) used) (page (now (buf .exit)) r) ⌝ }
 {
     let a = say(buf, used, b"deliveries by class\n");
     let b = class_table(figures, buf, a, 0);
     let c = say(buf, b, b"wire bytes by class\n");
-    let d = class_table(figures, buf, c, 1);
-    slips::slips(figures, buf, d)
+    class_table(figures, buf, c, 1)
 }

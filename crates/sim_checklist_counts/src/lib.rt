@@ -1,21 +1,18 @@
-// The head of the checklist and its parts A to C, printed: recipients, seen marks, drops by cause and by the till that sent.
-ghost use Rattle.sim_figures.specs.Figures.{mostNumbers};
+// Parts A to C and F of the checklist, printed: recipients, seen marks, drops by cause and by the till that sent; till by till.
 ghost use Rattle.sim_printer.specs.Printer.{page};
 ghost use Rattle.sim_sheet.specs.Sheet.{Prints};
 ghost use Rattle.sim_checklist_counts.specs.Counts as is;
-use sim_figures::ACCEPTS;
+use sim_expected::GOT;
+use sim_expected::HELD;
+use sim_expected::MEANT;
+use sim_expected::STOOD;
+use sim_expected::till_at;
 use sim_figures::DOWN_MARKS;
 use sim_figures::FIVE;
 use sim_figures::FLUSH_MARKS;
-use sim_figures::FLUSHES;
 use sim_figures::LOST_FROM;
-use sim_figures::MOST_NUMBERS;
-use sim_figures::NUMBERS;
-use sim_figures::REFUSED;
 use sim_figures::SENT;
-use sim_figures::TILLS;
 use sim_figures::get;
-use sim_figures::refused_at;
 use sim_figures::till_row;
 use sim_sheet::bounded;
 use sim_sheet::compared;
@@ -23,56 +20,6 @@ use sim_sheet::four;
 use sim_sheet::line;
 use sim_sheet::say;
 use sim_sheet::verdict;
-
-// How many calls a question refused; nothing where none.
-fn refusal(figures: &[u64], buf: &mut [u8], used: usize, number: u64) -> usize
-    ensures { λ r. ⌜ Prints (is.refusalOf (now (figures .entry)) number) (page (now (buf .entry)) used) (page (now (buf .exit)) r) ⌝ }
-{
-    let n = get(figures, refused_at(number));
-    if n == 0 {
-        return used;
-    }
-    let a = say(buf, used, b"  by question ");
-    let b = sim_printer::decimal_right(buf, a, number, 2);
-    let c = sim_printer::decimal_right(buf, b, n, 32);
-    say(buf, c, b"\n")
-}
-
-// The same of every question.
-fn refusals(figures: &[u64], buf: &mut [u8], used: usize) -> usize
-    ensures { λ r. ⌜ Prints (is.refusalsOf (now (figures .entry)) mostNumbers) (page (now (buf .entry)) used) (page (now (buf .exit)) r) ⌝ }
-{
-    let mut u = used;
-    let mut n: u64 = 0;
-    while n < MOST_NUMBERS {
-        u = refusal(figures, buf, u, n + 1);
-        n += 1;
-    }
-    u
-}
-
-// How much there was, what was refused, and how many comparisons differ.
-pub fn head(figures: &[u64], buf: &mut [u8], used: usize) -> usize
-    ensures { λ r. ⌜ Prints (is.headOf (now (figures .entry))) (page (now (buf .entry)) used) (page (now (buf .exit)) r) ⌝ }
-{
-    let a = say(buf, used, b"CHECKLIST OF THE RUN\n");
-    let b = line(buf, a, b"tills", get(figures, TILLS));
-    let c = line(buf, b, b"messages accepted", get(figures, ACCEPTS));
-    let d = line(buf, c, b"flushes", get(figures, FLUSHES));
-    let e = line(
-        buf,
-        d,
-        b"calls refused",
-        sim_comparison::sum(figures, REFUSED, NUMBERS),
-    );
-    let f = refusals(figures, buf, e);
-    line(
-        buf,
-        f,
-        b"comparisons that differ",
-        sim_comparison::differ(figures),
-    )
-}
 
 // Part A.
 pub fn recipients(figures: &[u64], buf: &mut [u8], used: usize) -> usize
@@ -84,12 +31,19 @@ pub fn recipients(figures: &[u64], buf: &mut [u8], used: usize) -> usize
     let d = line(buf, c, b"partition", get(figures, FIVE + 2));
     let e = line(buf, d, b"loss", get(figures, FIVE + 3));
     let f = line(buf, e, b"fault rule", get(figures, FIVE + 4));
-    compared(
+    let g = compared(
         buf,
         f,
         sim_comparison::counts(figures),
         b"= the five together",
         b"= recipients by the masks",
+    );
+    compared(
+        buf,
+        g,
+        sim_comparison::own(figures),
+        b"= copies to their own sender",
+        b"= there should be",
     )
 }
 
@@ -108,12 +62,19 @@ pub fn marks(figures: &[u64], buf: &mut [u8], used: usize) -> usize
         b"= so these should stand",
         b"= standing in the tables",
     );
-    bounded(
+    let f = bounded(
         buf,
         e,
-        sim_comparison::cleared(figures),
+        sim_comparison::gone_least(figures),
+        b"= at least, by the drops",
         b"= gone with flush drops",
-        b"= at most: originals dropped",
+    );
+    bounded(
+        buf,
+        f,
+        sim_comparison::gone_most(figures),
+        b"= gone with flush drops",
+        b"= at most, by the drops",
     )
 }
 
@@ -139,6 +100,88 @@ pub fn drops(figures: &[u64], buf: &mut [u8], used: usize) -> usize
         b"= copies dropped by flushes",
         b"= by the flushes' own counts",
     )
+}
+
+// Part C, each cause against what the script and the rules say.
+pub fn causes(figures: &[u64], buf: &mut [u8], used: usize) -> usize
+    ensures { λ r. ⌜ Prints (is.causesPart (now (figures .entry))) (page (now (buf .entry)) used) (page (now (buf .exit)) r) ⌝ }
+{
+    let a = bounded(
+        buf,
+        used,
+        sim_comparison::cut_least(figures),
+        b"= at least, by the script",
+        b"= partition",
+    );
+    let b = bounded(
+        buf,
+        a,
+        sim_comparison::cut_most(figures),
+        b"= partition",
+        b"= at most, by the script",
+    );
+    let c = bounded(
+        buf,
+        b,
+        sim_comparison::loss(figures),
+        b"= loss",
+        b"= at most; at rate 0 none",
+    );
+    compared(
+        buf,
+        c,
+        sim_comparison::fired(figures),
+        b"= fault rule",
+        b"= fired, by the rules",
+    )
+}
+
+// A till's messages, originals, held originals and marks.
+fn till_line(figures: &[u64], buf: &mut [u8], used: usize, t: u64) -> usize
+    ensures { λ r. ⌜ Prints (is.tillLine (now (figures .entry)) t) (page (now (buf .entry)) used) (page (now (buf .exit)) r) ⌝ }
+{
+    let b = till_at(t);
+    let a = sim_printer::decimal_right(buf, used, t, 4);
+    four(
+        buf,
+        a,
+        get(figures, b + MEANT),
+        get(figures, b + GOT),
+        get(figures, b + HELD),
+        get(figures, b + STOOD),
+    )
+}
+
+// The same of the first tills.
+fn till_lines(figures: &[u64], buf: &mut [u8], used: usize, tills: u64) -> usize
+    ensures { λ r. ⌜ Prints (is.tillLines (now (figures .entry)) tills) (page (now (buf .entry)) used) (page (now (buf .exit)) r) ⌝ }
+{
+    let mut u = used;
+    let mut t: u64 = 0;
+    while t < tills {
+        u = till_line(figures, buf, u, t);
+        t += 1;
+    }
+    u
+}
+
+// Part F.
+pub fn by_till(figures: &[u64], buf: &mut [u8], used: usize) -> usize
+    ensures { λ r. ⌜ Prints (is.tillsPart (now (figures .entry))) (page (now (buf .entry)) used) (page (now (buf .exit)) r) ⌝ }
+{
+    let a = say(buf, used, b"\nF. TILL BY TILL\n");
+    let b = say(
+        buf,
+        a,
+        b"till   messages  originals       held      marks\n",
+    );
+    let c = till_lines(figures, buf, b, sim_sheet::tills(figures));
+    let d = say(
+        buf,
+        c,
+        b"messages for it, originals to it (not more), of\nthese landed or waiting since it was last taken\ndown, its marks (as many); and of what it sent\nall has landed, was dropped on the way, or waits\n",
+    );
+    verdict(buf, d, sim_comparison::tills_differ(figures) == 0)
 }
 
 // The drops of what a till sent.

@@ -1,7 +1,24 @@
-// What the checklist compares with what, from the figures of a run, and how many comparisons differ.
+// What the checklist compares with what, from the figures of a run; how many comparisons differ; the verdict.
 ghost use mathlib.Core.Path.{_≡_};
 ghost use Prim.Native.Nat.{_+_, _-_, _≤_};
 ghost use Rattle.sim_comparison.specs.Compared as is;
+use sim_expected::ASTRAY;
+use sim_expected::AWAY;
+use sim_expected::BEHIND;
+use sim_expected::CUT_LEAST;
+use sim_expected::CUT_MOST;
+use sim_expected::FIRED;
+use sim_expected::GOT;
+use sim_expected::HELD;
+use sim_expected::HOME;
+use sim_expected::LOST;
+use sim_expected::MEANT;
+use sim_expected::OLDER;
+use sim_expected::OWN;
+use sim_expected::STOOD;
+use sim_expected::SURE;
+use sim_expected::till_at;
+use sim_figures::BAD;
 use sim_figures::DOWN_MARKS;
 use sim_figures::DROPPED;
 use sim_figures::FIRST;
@@ -13,8 +30,12 @@ use sim_figures::LAST;
 use sim_figures::LATE;
 use sim_figures::LOG;
 use sim_figures::LOGGED;
+use sim_figures::LOSS_RATE;
 use sim_figures::LOST_FROM;
+use sim_figures::NUMBERS;
+use sim_figures::OPENINGS;
 use sim_figures::RECIPIENTS;
+use sim_figures::REFUSED;
 use sim_figures::SAID_DELIVERED;
 use sim_figures::SAID_DROPPED;
 use sim_figures::SAID_ROWS;
@@ -24,6 +45,7 @@ use sim_figures::TRANSIT;
 use sim_figures::WAITING;
 use sim_figures::class_row;
 use sim_figures::get;
+use sim_figures::refused_at;
 use sim_figures::till_row;
 
 // Two figures that should be the same.
@@ -97,12 +119,125 @@ pub fn marks(figures: &[u64]) -> Pair
     }
 }
 
-pub fn cleared(figures: &[u64]) -> Pair
-    ensures { λ r. ⌜ r ≡ is.clearedOf (now (figures .entry)) ⌝ }
+// Marks that flushes should have taken at least; and at most.
+pub fn gone_least(figures: &[u64]) -> Pair
+    ensures { λ r. ⌜ r ≡ is.goneLeast (now (figures .entry)) ⌝ }
+{
+    Pair {
+        left: less(get(figures, SURE), get(figures, OLDER)),
+        right: get(figures, FLUSH_MARKS),
+    }
+}
+
+pub fn gone_most(figures: &[u64]) -> Pair
+    ensures { λ r. ⌜ r ≡ is.goneMost (now (figures .entry)) ⌝ }
 {
     Pair {
         left: get(figures, FLUSH_MARKS),
-        right: get(figures, DROPPED),
+        right: plus(get(figures, SURE), get(figures, OLDER)),
+    }
+}
+
+// Recipients that blocks and take-downs stop at least; and at most.
+pub fn cut_least(figures: &[u64]) -> Pair
+    ensures { λ r. ⌜ r ≡ is.cutLeast (now (figures .entry)) ⌝ }
+{
+    Pair {
+        left: get(figures, CUT_LEAST),
+        right: get(figures, FIVE + 2),
+    }
+}
+
+pub fn cut_most(figures: &[u64]) -> Pair
+    ensures { λ r. ⌜ r ≡ is.cutMost (now (figures .entry)) ⌝ }
+{
+    Pair {
+        left: get(figures, FIVE + 2),
+        right: get(figures, CUT_MOST),
+    }
+}
+
+pub fn loss(figures: &[u64]) -> Pair
+    ensures { λ r. ⌜ r ≡ is.lossOf (now (figures .entry)) ⌝ }
+{
+    let n = get(figures, FIVE + 3);
+    if get(figures, LOSS_RATE) == 0 {
+        return Pair { left: n, right: 0 };
+    }
+    Pair {
+        left: n,
+        right: get(figures, RECIPIENTS),
+    }
+}
+
+pub fn fired(figures: &[u64]) -> Pair
+    ensures { λ r. ⌜ r ≡ is.firedOf (now (figures .entry)) ⌝ }
+{
+    Pair {
+        left: get(figures, FIVE + 4),
+        right: get(figures, FIRED),
+    }
+}
+
+pub fn behind(figures: &[u64]) -> Pair
+    ensures { λ r. ⌜ r ≡ is.behindOf (now (figures .entry)) ⌝ }
+{
+    Pair {
+        left: get(figures, BEHIND),
+        right: 0,
+    }
+}
+
+pub fn own(figures: &[u64]) -> Pair
+    ensures { λ r. ⌜ r ≡ is.ownOf (now (figures .entry)) ⌝ }
+{
+    Pair {
+        left: get(figures, OWN),
+        right: 0,
+    }
+}
+
+// Originals for a till, and messages for it.
+pub fn got(figures: &[u64], t: u64) -> Pair
+    ensures { λ r. ⌜ r ≡ is.gotOf (now (figures .entry)) t ⌝ }
+{
+    let b = till_at(t);
+    Pair {
+        left: get(figures, b + GOT),
+        right: get(figures, b + MEANT),
+    }
+}
+
+// Marks that should stand at a till at least; and at most.
+pub fn held_least(figures: &[u64], t: u64) -> Pair
+    ensures { λ r. ⌜ r ≡ is.heldLeast (now (figures .entry)) t ⌝ }
+{
+    let b = till_at(t);
+    Pair {
+        left: less(get(figures, b + HELD), get(figures, b + ASTRAY)),
+        right: get(figures, b + STOOD),
+    }
+}
+
+pub fn held_most(figures: &[u64], t: u64) -> Pair
+    ensures { λ r. ⌜ r ≡ is.heldMost (now (figures .entry)) t ⌝ }
+{
+    let b = till_at(t);
+    Pair {
+        left: get(figures, b + STOOD),
+        right: get(figures, b + HELD),
+    }
+}
+
+// What a till sent, by the answers; and by the copies.
+pub fn sent_by(figures: &[u64], t: u64) -> Pair
+    ensures { λ r. ⌜ r ≡ is.sentBy (now (figures .entry)) t ⌝ }
+{
+    let b = till_at(t);
+    let went = plus(get(figures, b + HOME), get(figures, b + LOST));
+    Pair {
+        left: get(figures, till_row(t) + SENT),
+        right: plus(went, get(figures, b + AWAY)),
     }
 }
 
@@ -281,7 +416,7 @@ fn accepts_differ(figures: &[u64]) -> u64
 {
     let a = differs(agrees(counts(figures)));
     let b = plus(a, differs(agrees(marks(figures))));
-    let c = plus(b, differs(is_within(cleared(figures))));
+    let c = plus(b, differs(agrees(own(figures))));
     let d = plus(c, differs(agrees(at_accept(figures))));
     plus(d, differs(agrees(flush_drops(figures))))
 }
@@ -303,6 +438,46 @@ fn rows_differ(figures: &[u64]) -> u64
     plus(b, differs(agrees(delivered(figures))))
 }
 
+fn causes_differ(figures: &[u64]) -> u64
+    ensures { λ r. ⌜ r ≡ is.causesDiffer (now (figures .entry)) ⌝ }
+{
+    let a = differs(is_within(cut_least(figures)));
+    let b = plus(a, differs(is_within(cut_most(figures))));
+    let c = plus(b, differs(is_within(loss(figures))));
+    plus(c, differs(agrees(fired(figures))))
+}
+
+fn expected_differ(figures: &[u64]) -> u64
+    ensures { λ r. ⌜ r ≡ is.expectedDiffer (now (figures .entry)) ⌝ }
+{
+    let a = differs(is_within(gone_least(figures)));
+    let b = plus(a, differs(is_within(gone_most(figures))));
+    let c = plus(b, differs(agrees(behind(figures))));
+    plus(c, causes_differ(figures))
+}
+
+// How many of a till's comparisons differ.
+fn till_differs(figures: &[u64], t: u64) -> u64
+    ensures { λ r. ⌜ r ≡ is.tillDiffers (now (figures .entry)) t ⌝ }
+{
+    let a = differs(is_within(got(figures, t)));
+    let b = plus(a, differs(is_within(held_least(figures, t))));
+    let c = plus(b, differs(is_within(held_most(figures, t))));
+    plus(c, differs(agrees(sent_by(figures, t))))
+}
+
+pub fn tills_differ(figures: &[u64]) -> u64
+    ensures { λ r. ⌜ r ≡ is.tillsDiffer (now (figures .entry)) 65 ⌝ }
+{
+    let mut n: u64 = 0;
+    let mut t: u64 = 0;
+    while t < TILLS {
+        n = plus(n, till_differs(figures, t));
+        t += 1;
+    }
+    n
+}
+
 // How many comparisons differ.
 pub fn differ(figures: &[u64]) -> u64
     ensures { λ r. ⌜ r ≡ is.differOf (now (figures .entry)) ⌝ }
@@ -311,5 +486,43 @@ pub fn differ(figures: &[u64]) -> u64
     let b = plus(a, copies_differ(figures));
     let c = plus(b, rows_differ(figures));
     let d = plus(c, classes_differ(figures, 0));
-    plus(d, classes_differ(figures, 1))
+    let e = plus(d, classes_differ(figures, 1));
+    let more = plus(expected_differ(figures), tills_differ(figures));
+    plus(e, more)
+}
+
+// Numbers of the questions that refuse where marks or waiting copies have outgrown their slots: the run then shows less than the script asks.
+const SEEN_FULL: u64 = 10;
+
+const WAITING_FULL: u64 = 11;
+
+// The calls that full slots refused.
+pub fn full(figures: &[u64]) -> u64
+    ensures { λ r. ⌜ r ≡ is.fullOf (now (figures .entry)) ⌝ }
+{
+    let a = get(figures, refused_at(SEEN_FULL));
+    plus(a, get(figures, refused_at(WAITING_FULL)))
+}
+
+// The other refused calls.
+pub fn warned(figures: &[u64]) -> u64
+    ensures { λ r. ⌜ r ≡ is.warnedOf (now (figures .entry)) ⌝ }
+{
+    less(sum(figures, REFUSED, NUMBERS), full(figures))
+}
+
+// The verdict: a network was opened, no line was bad, no call was refused by full slots, and no comparison differs.
+pub fn passed(figures: &[u64]) -> bool
+    ensures { λ r. ⌜ r ≡ is.passedOf (now (figures .entry)) ⌝ }
+{
+    if get(figures, OPENINGS) == 0 {
+        return false;
+    }
+    if 0 < get(figures, BAD) {
+        return false;
+    }
+    if 0 < full(figures) {
+        return false;
+    }
+    differ(figures) == 0
 }

@@ -11,8 +11,8 @@ use borrow.Author.Tests.{lt-ltb, le-ltb, eq-eqb, ne-eqb, le-leb, lt-leb, leb-tru
 use Rattle.fault_rule.specs.Rule.{has}
 use Rattle.table_waiting.specs.declared.Copy.{Copy}
 use Rattle.table_waiting.specs.Waiting as waiting
-use Rattle.sim_figures.specs.Figures.{tillsAt, logAt, firstAt, lastAt, acceptsAt, recipientsAt, fiveAt, downMarksAt, flushMarksAt, standingAt, flushesAt, saidRowsAt, saidDeliveredAt, saidDroppedAt, handledAt, lateAt, timeAt, sequenceAt, landedAt, droppedAt, waitingAt, refusedPlace, logged, classRow, maskOf, sentOf, receivedOf, lostToOf, lostFromOf, transitOf, tillRow, added}
-use Rattle.sim_figures.specs.Notes.{masked, openedNote, downNote, upNote, global, receives, bit, recipientsOf, countedOf, fiveAdded, acceptedNote, refusedNote, kindOf, late, orderNote, classNote, taken, landedNote, droppedNote, waitingNote, transitNote, rowNote, dropNote, waitNote, flushedNote, talliedNote, standingNote}
+use Rattle.sim_figures.specs.Figures.{tillsAt, logAt, firstAt, lastAt, acceptsAt, recipientsAt, fiveAt, downMarksAt, flushMarksAt, standingAt, flushesAt, saidRowsAt, saidDeliveredAt, saidDroppedAt, handledAt, lateAt, timeAt, sequenceAt, landedAt, droppedAt, waitingAt, refusedPlace, openingsAt, lossRateAt, logged, classRow, maskOf, sentOf, receivedOf, lostToOf, lostFromOf, transitOf, tillRow, added}
+use Rattle.sim_figures.specs.Notes.{masked, turnedNote, openedNote, downNote, upNote, global, receives, bit, recipientsOf, countedOf, fiveAdded, acceptedNote, refusedNote, kindOf, late, orderNote, classNote, taken, landedNote, droppedNote, waitingNote, rowNote, dropNote, waitNote, flushedNote, talliedNote, standingNote, transitNote}
 
 -- ---- Places
 
@@ -49,9 +49,16 @@ mask-end l m masks t n a b e =
     let same : t ≡ n = omega arith in
     e ∙ ap (λ (k : ℕ). masked l masks k) same
 
-pub opens : (l l₁ l₂ l₃ l₄ l₅ l₆ masks : List ℕ) (tills log q n : ℕ) → l₁ ≡ replicate (length l) 0 → l₂ ≡ set l₁ tillsAt tills → l₃ ≡ set l₂ logAt log → l₄ ≡ set l₃ firstAt q → l₅ ≡ set l₄ lastAt q → n ≡ min tills (length masks) → l₆ ≡ masked l₅ masks n → l₆ ≡ openedNote l tills masks log q
+pub turns : (l l₁ l₂ : List ℕ) (n : ℕ) → n ≡ getD l openingsAt 0 → l₁ ≡ replicate (length l) 0 → l₂ ≡ set l₁ openingsAt n → l₂ ≡ turnedNote l
+unfolding turnedNote
+turns l l₁ l₂ n e e₁ e₂ = cc
+
+pub opens :
+    (l l₁ l₂ l₃ l₄ l₅ l₆ l₇ masks : List ℕ) (tills log loss q n : ℕ) → l₁ ≡ added l openingsAt 1 → l₂ ≡ set l₁ tillsAt tills → l₃ ≡ set l₂ logAt log
+    → l₄ ≡ set l₃ lossRateAt loss → l₅ ≡ set l₄ firstAt q → l₆ ≡ set l₅ lastAt q → n ≡ min tills (length masks) → l₇ ≡ masked l₆ masks n
+    → l₇ ≡ openedNote l tills masks log loss q
 unfolding openedNote
-opens l l₁ l₂ l₃ l₄ l₅ l₆ masks tills log q n e₁ e₂ e₃ e₄ e₅ m e₆ = cc
+opens l l₁ l₂ l₃ l₄ l₅ l₆ l₇ masks tills log loss q n e₁ e₂ e₃ e₄ e₅ e₆ m e₇ = cc
 
 pub down : (l l₁ l₂ : List ℕ) (r t gone : ℕ) → r ≡ tillRow t → l₁ ≡ set l (r + maskOf) 0 → l₂ ≡ added l₁ downMarksAt gone → l₂ ≡ downNote l t gone
 unfolding downNote

@@ -84,10 +84,26 @@ mostNumbers = 25
 abbrev pub refusedPlace : ℕ → ℕ
 refusedPlace number = refusedAt + min number mostNumbers
 
+-- lines that are calls, bad lines, openings accepted so far, counters set by hand; the bits of the opening's loss rate
+abbrev pub callsAt : ℕ
+callsAt = 54
+
+abbrev pub badAt : ℕ
+badAt = 55
+
+abbrev pub openingsAt : ℕ
+openingsAt = 56
+
+abbrev pub hooksAt : ℕ
+hooksAt = 57
+
+abbrev pub lossRateAt : ℕ
+lossRateAt = 58
+
 -- ---- A row a class: deliveries and bytes counted from the rows, then those of the log. A class beyond 7 shares the last row
 
 abbrev pub classRows : ℕ
-classRows = 54
+classRows = 62
 
 abbrev pub classWidth : ℕ
 classWidth = 4
@@ -102,7 +118,7 @@ classRow k = classRows + min k 8 * classWidth
 -- ---- what it sent; waiting for it. A till beyond 63 shares the last row
 
 abbrev pub tillRows : ℕ
-tillRows = 90
+tillRows = 98
 
 abbrev pub tillWidth : ℕ
 tillWidth = 10

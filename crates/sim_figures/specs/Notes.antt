@@ -7,7 +7,7 @@ use lib.ListN.{length, getD, set, drop, replicate}
 use Rattle.fault_rule.specs.Rule.{has}
 use Rattle.table_waiting.specs.declared.Copy.{Copy}
 use Rattle.table_waiting.specs.Waiting as waiting
-use Rattle.sim_figures.specs.Figures.{tillsAt, logAt, firstAt, lastAt, acceptsAt, recipientsAt, fiveAt, downMarksAt, flushMarksAt, standingAt, flushesAt, saidRowsAt, saidDeliveredAt, saidDroppedAt, handledAt, lateAt, timeAt, sequenceAt, landedAt, droppedAt, waitingAt, refusedPlace, logged, classRow, maskOf, sentOf, receivedOf, lostToOf, lostFromOf, transitOf, tillRow, added}
+use Rattle.sim_figures.specs.Figures.{tillsAt, logAt, firstAt, lastAt, acceptsAt, recipientsAt, fiveAt, downMarksAt, flushMarksAt, standingAt, flushesAt, saidRowsAt, saidDeliveredAt, saidDroppedAt, handledAt, lateAt, timeAt, sequenceAt, landedAt, droppedAt, waitingAt, refusedPlace, openingsAt, lossRateAt, logged, classRow, maskOf, sentOf, receivedOf, lostToOf, lostFromOf, transitOf, tillRow, added}
 
 -- ---- Shard masks, as the opening, the take-downs and the bring-ups give them
 
@@ -15,10 +15,14 @@ unfoldable pub masked : List ℕ → List ℕ → ℕ → List ℕ
 masked l masks zero = l
 masked l masks (suc t) = set (masked l masks t) (tillRow t + maskOf) (getD masks t 0)
 
--- all figures 0, then the opening's
-unfoldable pub openedNote : List ℕ → ℕ → List ℕ → ℕ → ℕ → List ℕ
-openedNote l tills masks log sequence =
-    masked (set (set (set (set (replicate (length l) 0) tillsAt tills) logAt log) firstAt sequence) lastAt sequence) masks (min tills (length masks))
+-- behind a page: all figures 0, but for the openings so far
+unfoldable pub turnedNote : List ℕ → List ℕ
+turnedNote l = set (replicate (length l) 0) openingsAt (getD l openingsAt 0)
+
+unfoldable pub openedNote : List ℕ → ℕ → List ℕ → ℕ → ℕ → ℕ → List ℕ
+openedNote l tills masks log loss sequence =
+    let l₁ = set (set (set (added l openingsAt 1) tillsAt tills) logAt log) lossRateAt loss in
+    masked (set (set l₁ firstAt sequence) lastAt sequence) masks (min tills (length masks))
 
 unfoldable pub downNote : List ℕ → ℕ → ℕ → List ℕ
 downNote l t gone = added (set l (tillRow t + maskOf) 0) downMarksAt gone

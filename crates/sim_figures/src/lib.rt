@@ -1,8 +1,8 @@
 // The figures of a run, the first SIZE numbers of a lent table, for the checklist that is filled in from it.
 //
-// After each accepted call the caller takes a note: opened, accepted, row and dropped for each due copy of a flush and then
+// After each accepted call the caller takes a note (and counts the line at CALLS, BAD or HOOKS): opened, accepted, row and dropped for each due copy of a flush and then
 // flushed, went_down, came_up, tallied for each class before a drain; refused for a call that a number refused. At the end it
-// notes what stands: waits for each waiting copy, tallied for each class, stands for the marks. The checklist is printed from the figures.
+// notes what stands: waits for each waiting copy, tallied for each class, stands for the marks. The checklist is printed from the figures; behind a page, turned begins the next.
 // Recipients are counted by the masks kept here, from the calls' arguments; never from the network's tables.
 ghost use mathlib.Core.Path.{_≡_};
 ghost use Prim.Native.Nat.{_+_, _≤_, min};
@@ -72,8 +72,19 @@ pub const WAITING: usize = 26;
 
 pub const REFUSED: usize = 28;
 
+// lines that are calls, bad lines, openings accepted so far, counters set by hand; the bits of the opening's loss rate
+pub const CALLS: usize = REFUSED + NUMBERS;
+
+pub const BAD: usize = CALLS + 1;
+
+pub const OPENINGS: usize = CALLS + 2;
+
+pub const HOOKS: usize = CALLS + 3;
+
+pub const LOSS_RATE: usize = CALLS + 4;
+
 // of a class: deliveries and bytes of the rows, then of the log,
-const CLASS_ROWS: usize = REFUSED + NUMBERS;
+const CLASS_ROWS: usize = CALLS + 8;
 
 const CLASS_WIDTH: usize = 4;
 
@@ -117,7 +128,8 @@ pub fn get(figures: &[u64], i: usize) -> u64
     0
 }
 
-fn put(figures: &mut [u64], i: usize, n: u64)
+// The figure at i is n.
+pub fn put(figures: &mut [u64], i: usize, n: u64)
     ensures { λ r. ⌜ now (figures .exit) ≡ set (now (figures .entry)) i n ⌝ }
 {
     if i < figures.len() {
@@ -127,7 +139,7 @@ fn put(figures: &mut [u64], i: usize, n: u64)
 }
 
 // n more at i.
-fn add(figures: &mut [u64], i: usize, n: u64)
+pub fn add(figures: &mut [u64], i: usize, n: u64)
     ensures { λ r. ⌜ now (figures .exit) ≡ at.added (now (figures .entry)) i n ⌝ }
 {
     let v = std::num::wrapping_add_u64(get(figures, i), n);
@@ -181,13 +193,23 @@ fn put_masks(figures: &mut [u64], masks: &[u64], n: usize)
     }
 }
 
-// A new run: tills, a shard mask for each, slots of the log, the sequence at the opening.
-pub fn opened(figures: &mut [u64], tills: u64, masks: &[u64], log: u64, sequence: u64)
-    ensures { λ r. ⌜ now (figures .exit) ≡ note.openedNote (now (figures .entry)) tills (now (masks .entry)) log sequence ⌝ }
+// The page is printed, and another begins: every figure is 0, but for the openings so far.
+pub fn turned(figures: &mut [u64])
+    ensures { λ r. ⌜ now (figures .exit) ≡ note.turnedNote (now (figures .entry)) ⌝ }
 {
+    let n = get(figures, OPENINGS);
     clear(figures);
+    put(figures, OPENINGS, n);
+}
+
+// An opening: tills, a shard mask for each, slots of the log, the bits of the loss rate, the sequence at the opening.
+pub fn opened(figures: &mut [u64], tills: u64, masks: &[u64], log: u64, loss: u64, sequence: u64)
+    ensures { λ r. ⌜ now (figures .exit) ≡ note.openedNote (now (figures .entry)) tills (now (masks .entry)) log loss sequence ⌝ }
+{
+    add(figures, OPENINGS, 1);
     put(figures, TILLS, tills);
     put(figures, LOG, log);
+    put(figures, LOSS_RATE, loss);
     put(figures, FIRST, sequence);
     put(figures, LAST, sequence);
     let n = least(tills, masks.len() as u64);
@@ -210,7 +232,7 @@ pub fn came_up(figures: &mut [u64], t: u64, mask: u64)
 }
 
 // Is t a recipient other than the sender?
-fn receives(figures: &[u64], from: u64, scope: u64, t: u64) -> bool
+pub fn receives(figures: &[u64], from: u64, scope: u64, t: u64) -> bool
     ensures { λ r. ⌜ r ≡ note.receives (now (figures .entry)) from scope t ⌝ }
 {
     if t == from {
@@ -225,7 +247,8 @@ fn receives(figures: &[u64], from: u64, scope: u64, t: u64) -> bool
     false
 }
 
-fn bit(b: bool) -> u64
+// 1 or 0.
+pub fn bit(b: bool) -> u64
     ensures is { λ r. ⌜ r ≡ note.bit b ⌝ }
     ensures within { λ r. ⌜ r ≤ 1 ⌝ }
 {
@@ -407,7 +430,7 @@ fn note_waiting(figures: &mut [u64], c: Copy)
 }
 
 // Has the table n words from b on?
-fn has_words(table: &[u64], b: usize, n: usize) -> bool
+pub fn has_words(table: &[u64], b: usize, n: usize) -> bool
     requires { ⌜ n ≤ at.size ⌝ }
     ensures { λ r. ⌜ r ≡ leb (b + n) (length (now (table .entry))) ⌝ }
 {

@@ -1,14 +1,14 @@
 -- What is noted behind each line of a script. One table holds the figures of the run and, behind them, the copies that were due at the last flush.
-use mathlib.Core.Bool.{cond}
+use mathlib.Core.Bool.{Bool, false, cond}
 use mathlib.Core.List.{List}
 use Prim.Native.Nat.{ℕ, zero, suc, _+_, _*_, _-_, _%_, _^_, min}
-use lib.Dec.{eqb, ltb}
+use lib.Dec.{eqb, ltb, leb}
 use lib.ListN.{getD, take}
 use Rattle.table_delivery.specs.Delivery as delivery
 use Rattle.table_waiting.specs.Waiting as waiting
 use Rattle.table_log.specs.Log.{sizeOf}
 use Rattle.spec_network.specs.Opening.{mostTills, mostClasses, mostSlots}
-use Rattle.spec_network.specs.Tables.{cell, sizesAt, sequenceAt, waitingAt}
+use Rattle.spec_network.specs.Tables.{cell, sizesAt, sequenceAt, waitingAt, rulesAt}
 use Rattle.spec_network.specs.Writes.{callReply}
 use Rattle.spec_network.specs.Calls.{reading, transit}
 use Rattle.spec_network.specs.Lending.{lendLog, lendWaiting, noTables}
@@ -16,8 +16,11 @@ use Rattle.call_reply.specs.Reply.{valueOf}
 use Rattle.call_reply.specs.declared.Value.{Value}
 use Rattle.call_log.specs.Call.{talliedOf, tallyCall}
 use Rattle.call_log.specs.declared.Tallied.{Tallied}
-use Rattle.sim_figures.specs.Figures.{size}
-use Rattle.sim_figures.specs.Notes.{openedNote, downNote, upNote, acceptedNote, refusedNote, rowNote, dropNote, waitNote, transitNote, flushedNote, talliedNote, standingNote}
+use Rattle.fault_rules.specs.Rules.{ruleWidth, firedWord}
+use Rattle.sim_expected.specs.Places.{placesEnd, windowsAt}
+use Rattle.sim_expected.specs.Expected as expected
+use Rattle.sim_figures.specs.Figures.{callsAt, badAt, hooksAt, added, size}
+use Rattle.sim_figures.specs.Notes.{openedNote, downNote, upNote, acceptedNote, refusedNote, rowNote, dropNote, waitNote, flushedNote, talliedNote, standingNote, transitNote}
 
 -- ---- The lines of a script that are noted, by number
 
@@ -36,8 +39,27 @@ downLine = 5
 abbrev pub upLine : ℕ
 upLine = 6
 
+abbrev pub blockLine : ℕ
+blockLine = 8
+
+abbrev pub blockDuringLine : ℕ
+blockDuringLine = 9
+
+abbrev pub unblockLine : ℕ
+unblockLine = 10
+
 abbrev pub drainLine : ℕ
 drainLine = 17
+
+-- the first and the last of the lines that set a counter by hand
+abbrev pub firstHook : ℕ
+firstHook = 29
+
+abbrev pub lastHook : ℕ
+lastHook = 33
+
+unfoldable pub isHook : (which : ℕ) → Bool
+isHook which = cond (ltb which firstHook) false (leb which lastHook)
 
 -- the last number of a question
 abbrev pub lastNumber : ℕ
@@ -49,8 +71,23 @@ unfoldable pub totalOf : List ℕ → ℕ → ℕ
 totalOf seen zero = 0
 totalOf seen (suc t) = (totalOf seen t + cell seen t) % 2 ^ 64
 
+abbrev pub tillsIn : (setup : List ℕ) → ℕ
+tillsIn setup = min (sizesAt setup .tills) mostTills
+
 unfoldable pub marksIn : (setup seen : List ℕ) → ℕ
-marksIn setup seen = totalOf seen (min (sizesAt setup .tills) mostTills)
+marksIn setup seen = totalOf seen (tillsIn setup)
+
+-- ---- How often the first n rules have fired; the rules that stand; what an accept added to it
+
+unfoldable pub firedOf : (rules : List ℕ) → ℕ → ℕ
+firedOf rules zero = 0
+firedOf rules (suc i) = (firedOf rules i + cell rules (i * ruleWidth + firedWord)) % 2 ^ 64
+
+unfoldable pub firedIn : (net rules : List ℕ) → ℕ
+firedIn net rules = firedOf rules (min (cell net rulesAt) 64)
+
+unfoldable pub firesNote : List ℕ → (which before : ℕ) → (net rules : List ℕ) → List ℕ
+firesNote l which before net rules = cond (eqb which acceptLine) (expected.firedNote l before (firedIn net rules)) l
 
 -- ---- The log's tallies of every class, as `tally_of` answers them: what a drain takes away, and what stands at the end
 
@@ -87,7 +124,7 @@ rowWidth = waiting.width + 2
 
 -- where the due copies stand, and where the last of them and the last of the rows end
 abbrev pub copiesAt : ℕ
-copiesAt = size
+copiesAt = placesEnd
 
 abbrev pub copiesEnd : ℕ
 copiesEnd = copiesAt + mostSlots * waiting.width
@@ -106,8 +143,8 @@ noted l row = record { held = l; row = row }
 unfoldable pub dueNote : Noted → (out : List ℕ) → (at : ℕ) → Noted
 dueNote p out at =
     cond (eqb (getD (p .held) (at + sequenceOf) 0) (getD out (p .row + sequenceOf) 0))
-    (noted (rowNote (p .held) out (p .row)) (p .row + rowWidth))
-    (noted (dropNote (p .held) (p .held) at) (p .row))
+    (noted (expected.rowNote (rowNote (p .held) out (p .row)) out (p .row)) (p .row + rowWidth))
+    (noted (expected.dropNote (dropNote (p .held) (p .held) at) (dropNote (p .held) (p .held) at) at) (p .row))
 
 -- the first n copies that were due
 unfoldable pub dueNotes : List ℕ → (out : List ℕ) → ℕ → Noted
@@ -119,34 +156,61 @@ abbrev pub rowsWords : ℕ → ℕ
 rowsWords rows = min rows mostSlots * rowWidth
 
 -- the counts are the flush's rows, delivered and dropped copies, and how many were due
-unfoldable pub flushNote : List ℕ → (counts : List ℕ) → (gone : ℕ) → (out : List ℕ) → List ℕ
-flushNote l counts gone out =
-    flushedNote (dueNotes l (take (rowsWords (cell counts 0)) out) (min (cell counts 3) mostSlots) .held) (cell counts 0) (cell counts 1) (cell counts 2) gone
+unfoldable pub flushNote : List ℕ → (at : ℕ) → (counts : List ℕ) → (gone : ℕ) → (out : List ℕ) → List ℕ
+flushNote l at counts gone out =
+    expected.flushNote (flushedNote (dueNotes l (take (rowsWords (cell counts 0)) out) (min (cell counts 3) mostSlots) .held) (cell counts 0) (cell counts 1) (cell counts 2) gone) at
 
 -- ---- A line that no number refused, from its words and the call's counts; gone is how many marks went
 
 -- the words of an accept's line are its sender first, its scope and whether its payload opens behind; its counts are the five
 unfoldable pub acceptNote : List ℕ → (v counts : List ℕ) → (net : List ℕ) → List ℕ
 acceptNote l v counts net =
-    acceptedNote l (cell v 0) (cell v 4) (cell v 6) (cell counts 0) (cell counts 1) (cell counts 2) (cell counts 3) (cell counts 4) (cell net sequenceAt)
+    expected.acceptNote
+    (acceptedNote l (cell v 0) (cell v 4) (cell v 6) (cell counts 0) (cell counts 1) (cell counts 2) (cell counts 3) (cell counts 4) (cell net sequenceAt))
+    (cell v 0) (cell v 4) (cell v 6) (cell v 1) (cell counts 1)
+
+unfoldable pub downLineNote : List ℕ → (t gone : ℕ) → List ℕ
+downLineNote l t gone = expected.downNote (downNote l t gone) t
+
+unfoldable pub upLineNote : List ℕ → (t mask : ℕ) → List ℕ
+upLineNote l t mask = expected.upNote (upNote l t mask) t
+
+-- a window without an end
+abbrev pub forever : ℕ
+forever = 18446744073709551615
+
+-- a line on blocks; a counter set by hand
+unfoldable pub otherNote : List ℕ → (which : ℕ) → (v : List ℕ) → List ℕ
+otherNote l which v =
+    cond (eqb which blockLine) (expected.blockNote l (cell v 0) (cell v 1) 0 forever)
+    (cond (eqb which blockDuringLine) (expected.blockNote l (cell v 0) (cell v 1) (cell v 2) (cell v 3))
+    (cond (eqb which unblockLine) (expected.unblockNote l (cell v 0) (cell v 1) (cell l windowsAt))
+    (cond (isHook which) (added l hooksAt 1) l)))
 
 unfoldable pub takenNote : List ℕ → (which : ℕ) → (v counts : List ℕ) → (gone : ℕ) → (net out : List ℕ) → List ℕ
 takenNote l which v counts gone net out =
     cond (eqb which acceptLine) (acceptNote l v counts net)
-    (cond (eqb which flushLine) (flushNote l counts gone out)
-    (cond (eqb which flushRowsLine) (flushNote l counts gone out)
-    (cond (eqb which downLine) (downNote l (cell v 0) gone)
-    (cond (eqb which upLine) (upNote l (cell v 0) (cell v 1)) l))))
+    (cond (eqb which flushLine) (flushNote l (cell v 0) counts gone out)
+    (cond (eqb which flushRowsLine) (flushNote l (cell v 0) counts gone out)
+    (cond (eqb which downLine) (downLineNote l (cell v 0) gone)
+    (cond (eqb which upLine) (upLineNote l (cell v 0) (cell v 1)) (otherNote l which v)))))
 
--- ---- Behind a line: nothing where it is no call, its number where one refused it; so many marks stood before it
+-- ---- Behind a line: it is a bad one where it is no call; else a call, with its number where one refused it; so many marks stood before it
+
+unfoldable pub badNote : List ℕ → List ℕ
+badNote l = added l badAt 1
+
+unfoldable pub calledNote : List ℕ → List ℕ
+calledNote l = added l callsAt 1
 
 unfoldable pub afterNote : List ℕ → (which : ℕ) → (v : List ℕ) → (number : ℕ) → (counts : List ℕ) → (stood : ℕ) → (setup net seen out : List ℕ) → List ℕ
 afterNote l which v number counts stood setup net seen out =
-    cond (ltb lastNumber number) l (cond (ltb 0 number) (refusedNote l number) (takenNote l which v counts (stood - marksIn setup seen) net out))
+    cond (ltb lastNumber number) (badNote l)
+    (cond (ltb 0 number) (refusedNote (calledNote l) number) (takenNote (calledNote l) which v counts (stood - marksIn setup seen) net out))
 
-unfoldable pub openingNote : List ℕ → (number tills : ℕ) → (masks : List ℕ) → (log : ℕ) → (net : List ℕ) → List ℕ
-openingNote l number tills masks log net =
-    cond (ltb lastNumber number) l (cond (ltb 0 number) (refusedNote l number) (openedNote l tills masks log (cell net sequenceAt)))
+unfoldable pub openingNote : List ℕ → (number tills : ℕ) → (masks : List ℕ) → (log loss : ℕ) → (net : List ℕ) → List ℕ
+openingNote l number tills masks log loss net =
+    cond (ltb 0 number) (refusedNote (calledNote l) number) (openedNote (calledNote l) tills masks log loss (cell net sequenceAt))
 
 -- ---- In transit to every till, as the reading answers it
 
@@ -171,10 +235,15 @@ transitsNote l setup net copies = transitsOf l setup net (take (waitWords setup)
 
 -- ---- At the end: what waits, what is in transit, the tallies and the marks that stand
 
+unfoldable pub waitsOne : List ℕ → (waiting : List ℕ) → ℕ → List ℕ
+waitsOne l copies b = expected.waitNote (waitNote l copies b) copies b
+
 unfoldable pub waitsOf : List ℕ → (waiting : List ℕ) → ℕ → List ℕ
 waitsOf l copies zero = l
-waitsOf l copies (suc n) = waitNote (waitsOf l copies n) copies (n * waiting.width)
+waitsOf l copies (suc n) = waitsOne (waitsOf l copies n) copies (n * waiting.width)
 
 unfoldable pub endNote : List ℕ → (setup net seen waiting log : List ℕ) → List ℕ
 endNote l setup net seen copies log =
-    standingNote (talliesNote (transitsNote (waitsOf l copies (min (cell net waitingAt) mostSlots)) setup net copies) setup log) (marksIn setup seen)
+    expected.stoodNote
+    (standingNote (talliesNote (transitsNote (waitsOf l copies (min (cell net waitingAt) mostSlots)) setup net copies) setup log) (marksIn setup seen)) seen
+    (tillsIn setup)

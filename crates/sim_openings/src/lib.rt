@@ -405,3 +405,78 @@ pub fn open_line(s: &[u8], out: &mut [u8], shards: &mut [u64], l: Layout) -> Ope
     o.shards = lists.shards;
     o
 }
+
+// Is w one of the fields that stand as text, or one that may be left out?
+fn is_text_field(w: &[u8]) -> bool {
+    if is_field(w, b"fkey") {
+        return true;
+    }
+    if is_field(w, b"regions") {
+        return true;
+    }
+    if is_field(w, b"types") {
+        return true;
+    }
+    if is_field(w, b"shards") {
+        return true;
+    }
+    if is_field(w, b"masks") {
+        return true;
+    }
+    if is_field(w, b"slots") {
+        return true;
+    }
+    is_field(w, b"seen")
+}
+
+// Is w a field of an opening?
+fn is_known(w: &[u8]) -> bool {
+    if is_field(w, b"tills") {
+        return true;
+    }
+    if is_field(w, b"seed") {
+        return true;
+    }
+    if is_field(w, b"log") {
+        return true;
+    }
+    if is_field(w, b"lat") {
+        return true;
+    }
+    if is_field(w, b"jit") {
+        return true;
+    }
+    if is_field(w, b"loss") {
+        return true;
+    }
+    if is_field(w, b"dup") {
+        return true;
+    }
+    if is_field(w, b"rep") {
+        return true;
+    }
+    if is_field(w, b"spike") {
+        return true;
+    }
+    is_text_field(w)
+}
+
+// The first word from `from` on that is no field of an opening; empty where there is none.
+pub fn unknown(s: &[u8], from: usize) -> Span {
+    let mut at = from;
+    let mut left = s.len();
+    while 0 < left {
+        let w = next_word(s, at);
+        let start = w.start;
+        let end = w.end;
+        if start == end {
+            return w;
+        }
+        if !is_known(part(s, start, end)) {
+            return w;
+        }
+        at = end;
+        left -= 1;
+    }
+    next_word(s, s.len())
+}

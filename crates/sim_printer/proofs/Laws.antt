@@ -1,4 +1,4 @@
--- One byte more, by the three cases; a text byte by byte; spaces one by one.
+-- One byte more, by the four cases; a text byte by byte; spaces one by one.
 use mathlib.Core.Path.{_≡_, refl, ap, sym, _∙_}
 use mathlib.Core.List.{List}
 use Prim.Native.Nat.{ℕ, zero, suc, _+_, _-_, _≤_, _<_}
@@ -6,21 +6,25 @@ use native.Mathlib.Numerals.{add-one}
 use native.Mathlib.Omega.{arith}
 use lib.ListN.{length, set, drop, getD, drop-of-length-le}
 use lib.Seq.{drop-cons}
-use borrow.Author.Tests.{lt-ltb, le-ltb}
+use borrow.Author.Tests.{eq-eqb, ne-eqb, lt-ltb, le-ltb}
 use Rattle.io.specs.Digits.{digits, Fewest}
-use Rattle.sim_printer.specs.Printer.{Page, page, more, gathered, blanks, Spelled}
+use Rattle.sim_printer.specs.Printer.{Page, page, mute, more, gathered, blanks, Spelled}
 
-pub behind : (l : List ℕ) (u b : ℕ) → u < length l → page (set l u b) (u + 1) ≡ more (page l u) b
+pub quiet : (l : List ℕ) (u b : ℕ) → u ≡ mute → page l mute ≡ more (page l u) b
 unfolding more
-behind l u b h = simp (lt-ltb u (length l) h)
+quiet l u b e = simp (eq-eqb u mute e) (ap (λ (n : ℕ). page l n) (sym e))
 
-pub first : (l : List ℕ) (u b : ℕ) → length l ≤ u → 0 < length l → page (set l 0 b) 1 ≡ more (page l u) b
+pub behind : (l : List ℕ) (u b : ℕ) → (u ≡ mute → ⊥) → u < length l → page (set l u b) (u + 1) ≡ more (page l u) b
 unfolding more
-first l u b f h = simp (le-ltb u (length l) f, lt-ltb 0 (length l) h)
+behind l u b n h = simp (ne-eqb u mute n, lt-ltb u (length l) h)
 
-pub nowhere : (l : List ℕ) (u b : ℕ) → length l ≤ u → length l ≤ 0 → page l 0 ≡ more (page l u) b
+pub first : (l : List ℕ) (u b : ℕ) → (u ≡ mute → ⊥) → length l ≤ u → 0 < length l → page (set l 0 b) 1 ≡ more (page l u) b
 unfolding more
-nowhere l u b f h = simp (le-ltb u (length l) f, le-ltb 0 (length l) h)
+first l u b n f h = simp (ne-eqb u mute n, le-ltb u (length l) f, lt-ltb 0 (length l) h)
+
+pub nowhere : (l : List ℕ) (u b : ℕ) → (u ≡ mute → ⊥) → length l ≤ u → length l ≤ 0 → page l 0 ≡ more (page l u) b
+unfolding more
+nowhere l u b n f h = simp (ne-eqb u mute n, le-ltb u (length l) f, le-ltb 0 (length l) h)
 
 -- the text from i on is its byte at i and the text from i + 1 on
 pub next : (p q s : Page) (t : List ℕ) (i : ℕ) → i < length t → gathered p (drop i t) ≡ s → q ≡ more p (getD t i 0) → gathered q (drop (i + 1) t) ≡ s

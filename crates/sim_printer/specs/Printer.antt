@@ -3,7 +3,7 @@ use mathlib.Core.Path.{_≡_}
 use mathlib.Core.Bool.{cond}
 use mathlib.Core.List.{List, [], _∷_}
 use Prim.Native.Nat.{ℕ, zero, suc, _+_, _-_}
-use lib.Dec.{ltb}
+use lib.Dec.{eqb, ltb}
 use lib.ListN.{length, set}
 use Rattle.io.specs.Digits.{digits, Fewest}
 
@@ -15,11 +15,16 @@ pub record Page : Type 0 where
 abbrev pub page : List ℕ → ℕ → Page
 page l n = record { held = l; used = n }
 
--- one byte more: behind those that count; in a full buffer, which was written out, the first; a buffer of no bytes holds none
+-- in place of how many bytes count: a page that takes nothing
+abbrev pub mute : ℕ
+mute = 18446744073709551615
+
+-- one byte more: nothing where the page is mute; behind those that count; in a full buffer, which was written out, the first; a buffer of no bytes holds none
 unfoldable pub more : Page → ℕ → Page
 more p b =
-    cond (ltb (p .used) (length (p .held))) (page (set (p .held) (p .used) b) (p .used + 1))
-    (cond (ltb 0 (length (p .held))) (page (set (p .held) 0 b) 1) (page (p .held) 0))
+    cond (eqb (p .used) mute) p
+    (cond (ltb (p .used) (length (p .held))) (page (set (p .held) (p .used) b) (p .used + 1))
+    (cond (ltb 0 (length (p .held))) (page (set (p .held) 0 b) 1) (page (p .held) 0)))
 
 -- a text more, byte by byte
 unfoldable pub gathered : Page → List ℕ → Page

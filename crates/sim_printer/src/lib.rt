@@ -1,13 +1,19 @@
 // Text for standard output, gathered in a lent buffer and written when that is full. Each call takes how many of the buffer's
-// bytes count and answers how many count then; more than the buffer has counts as full.
+// bytes count and answers how many count then; more than the buffer has counts as full, and MUTE gathers and writes nothing.
 ghost use mathlib.Core.Path.{_≡_};
 ghost use Prim.Native.Nat.{_-_, min, max};
 ghost use Rattle.sim_printer.specs.Printer.{page, more, gathered, blanks, Spelled};
+
+// In place of how many bytes count: text that nobody is to read.
+pub const MUTE: usize = 18446744073709551615;
 
 // One byte more.
 fn byte(buf: &mut [u8], used: usize, b: u8) -> usize
     ensures { λ r. ⌜ page (now (buf .exit)) r ≡ more (page (now (buf .entry)) used) b ⌝ }
 {
+    if used == MUTE {
+        return MUTE;
+    }
     if used < buf.len() {
         buf[used] = b;
         return used + 1;
@@ -85,6 +91,9 @@ fn less(a: usize, b: usize) -> usize
 pub fn finish(buf: &mut [u8], used: usize) -> usize
     ensures { λ r. ⌜ page (now (buf .exit)) r ≡ page (now (buf .entry)) 0 ⌝ }
 {
+    if used == MUTE {
+        return 0;
+    }
     if used < buf.len() {
         io::write_all(libc::STDOUT_FILENO, &buf[0..used]);
         return 0;

@@ -1,8 +1,8 @@
 // Runs of scripts on networks: a script is read line by line, and every answer goes to standard output; what the words behind a program's
 // name ask for. The programs over it are `simulate` and `simulate_scenarios`.
 use sim_openings::Opening;
-use sim_run_parts::CHECKLIST;
-use sim_run_parts::MORNING;
+use sim_run_parts::words::MORNING;
+use sim_run_parts::words::USAGE;
 use sim_script::calls;
 use sim_session::input::NOWHERE;
 use sim_session::lines;
@@ -32,11 +32,13 @@ fn act(
     out: &mut [u64],
     due: &mut [u64],
     text: &mut [u8],
+    said: &[u8],
+    asked: u64,
 ) -> Session {
     let which = lines::verdict(p, o, r);
     let v = p.v;
     if lines::passes(which) {
-        return lines::passed(text, r, which);
+        return sim_run_parts::passed(which, p, r, said, due, text);
     }
     if which == calls::OPEN {
         return sim_run_parts::open_line(
@@ -59,12 +61,14 @@ fn act(
             out,
             due,
             text,
+            asked,
         );
     }
-    sim_acts::call(
+    let fired = sim_notes::fired_in(net, rules);
+    let after = sim_acts::call(
         which,
         v,
-        r,
+        lines::muted(r),
         room,
         setup,
         net,
@@ -82,7 +86,9 @@ fn act(
         out,
         due,
         text,
-    )
+    );
+    sim_notes::fired(due, which, fired, net, rules);
+    lines::restored(text, r, after)
 }
 
 // No run has more lines.
@@ -114,10 +120,11 @@ fn run(
 ) {
     let begun = sim_run_parts::source(asked, from, piece);
     let mut i = begun;
-    let mut r = lines::fresh();
+    let mut r = sim_run_parts::begun(asked);
     let mut left = TURNS;
     while 0 < left {
         let t = turns::next(piece, line, room, out, i, r);
+        let n = t.input.n;
         let after = act(
             t.parsed,
             t.opening,
@@ -139,6 +146,8 @@ fn run(
             out,
             due,
             text,
+            sim_spelling::words::part(line, 0, n),
+            asked,
         );
         i = t.input;
         r = after;
@@ -210,46 +219,54 @@ fn on_tables(asked: u64, from: i32) {
     );
 }
 
-// The run of the script that a file has, with the checklist. A file that does not open is told on standard error.
-fn file(name: &[u8]) {
+// The run of the script that a file has. A file that does not open is told on standard error.
+fn file(asked: u64, name: &[u8]) {
     let from = os::open_read(name);
     if from < 0 {
         os::fail(name);
         return;
     }
     sim_run_parts::headed(name);
-    on_tables(CHECKLIST, from);
+    on_tables(asked, from);
     libc::close(from);
 }
 
 // The run that word k names: `morning`, or a file's.
-fn named(k: usize) {
+fn named(asked: u64, k: usize) {
     let mut room = io::buffer();
     let n = os::arg(k, &mut room);
     let name = sim_spelling::words::part(&room, 0, n);
-    if sim_run_parts::asked_by(name) == MORNING {
+    if sim_run_parts::words::asked_by(name) == MORNING {
         sim_run_parts::headed(name);
         on_tables(MORNING, NOWHERE);
         return;
     }
-    file(name);
+    file(asked, name);
 }
 
 // The runs that the words from k on name, one after the other.
-fn each(k: usize, words: usize) {
+fn each(asked: u64, k: usize, words: usize) {
     let mut i = k;
     while i < words {
-        named(i);
+        named(asked, i);
         i += 1;
     }
 }
 
-// What the words behind the program's name ask for: a run for each word behind `checklist`, where there are any, or one run.
+// What the words behind the program's name ask for: the usage, a run for each file that is named, or one run.
 pub fn words() {
-    let asked = sim_run_parts::asked();
     let n = os::arg_count();
-    if sim_run_parts::names_files(asked, n) {
-        each(sim_run_parts::FILES, n);
+    let asked = sim_run_parts::words::asked(n);
+    if asked == USAGE {
+        sim_run_parts::usage::usage();
+        return;
+    }
+    if sim_run_parts::usage::is_short() {
+        return;
+    }
+    let first = sim_run_parts::words::files_from(asked, n);
+    if first < n {
+        each(asked, first, n);
         return;
     }
     on_tables(asked, libc::STDIN_FILENO);

@@ -1,45 +1,16 @@
-// The parts of a run beside its calls: the words behind the program's name, where the lines come from, an opening, the end.
+// The parts of a run beside its calls: where the lines come from, bad lines, an opening, the end of a page; the words behind the program's name.
+pub mod usage;
+pub mod words;
+
 use sim_openings::Opening;
 use sim_session::input;
 use sim_session::lines;
+use sim_session::lines::Parsed;
 use sim_session::lines::Session;
 use sim_session::opens;
-
-// What a word behind the program's name asks for.
-const NOTHING: u64 = 0;
-
-pub const CHECKLIST: u64 = 1;
-
-pub const MORNING: u64 = 2;
-
-// The first word that can name a file, behind the program's name and `checklist`.
-pub const FILES: usize = 2;
-
-// What a word asks for.
-pub fn asked_by(word: &[u8]) -> u64 {
-    if sim_spelling::words::same(word, b"checklist") {
-        return CHECKLIST;
-    }
-    if sim_spelling::words::same(word, b"morning") {
-        return MORNING;
-    }
-    NOTHING
-}
-
-// What the first word behind the program's name asks for.
-pub fn asked() -> u64 {
-    let mut word = [0u8; 16];
-    let n = os::arg(1, &mut word);
-    asked_by(sim_spelling::words::part(&word, 0, n))
-}
-
-// Of so many words, do some name files with scripts?
-pub fn names_files(asked: u64, words: usize) -> bool {
-    if asked == CHECKLIST {
-        return FILES < words;
-    }
-    false
-}
+use words::MORNING;
+use words::NOTHING;
+use words::ONLY;
 
 // The line above the answers to a file's script.
 pub fn headed(name: &[u8]) {
@@ -56,7 +27,73 @@ pub fn source(asked: u64, from: i32, piece: &mut [u8]) -> input::Input {
     input::start(from, 0)
 }
 
-// An opening.
+// A run's beginning: whether it is checked, and whether its answers are left out.
+pub fn begun(asked: u64) -> Session {
+    lines::fresh(asked != NOTHING, asked == ONLY)
+}
+
+// A line that is skipped, or bad.
+pub fn passed(
+    which: u64,
+    p: Parsed,
+    r: Session,
+    said: &[u8],
+    due: &mut [u64],
+    text: &mut [u8],
+) -> Session {
+    if which == lines::SKIPPED {
+        return r;
+    }
+    sim_notes::bad(due);
+    lines::passed(text, r, p, said)
+}
+
+// The page of the network that is open, where it was asked for.
+fn page(
+    asked: u64,
+    due: &mut [u64],
+    setup: &[u64],
+    net: &[u64],
+    seen: &[u64],
+    waiting: &[u64],
+    log: &[u64],
+    text: &mut [u8],
+    used: usize,
+) -> usize {
+    if asked == NOTHING {
+        return used;
+    }
+    sim_notes::ended(due, setup, net, seen, waiting, log);
+    let a = sim_printer::text(text, used, b"\n");
+    sim_checklist::print(due, setup, text, a)
+}
+
+// Before a later opening that no number will refuse: the page of the network that was open ends, and another begins.
+fn turned(
+    asked: u64,
+    refused: u64,
+    r: Session,
+    due: &mut [u64],
+    setup: &[u64],
+    net: &[u64],
+    seen: &[u64],
+    waiting: &[u64],
+    log: &[u64],
+    text: &mut [u8],
+) -> Session {
+    let mut next = r;
+    if refused != 0 {
+        return next;
+    }
+    if r.opened {
+        next.used = page(asked, due, setup, net, seen, waiting, log, text, r.used);
+        sim_figures::turned(due);
+        return next;
+    }
+    next
+}
+
+// An opening, behind the page of the network that it takes the place of.
 pub fn open_line(
     o: Opening,
     r: Session,
@@ -77,7 +114,10 @@ pub fn open_line(
     out: &[u64],
     due: &mut [u64],
     text: &mut [u8],
+    asked: u64,
 ) -> Session {
+    let refused = opens::refusal(o, room, out);
+    let before = turned(asked, refused, r, due, setup, net, seen, waiting, log, text);
     let number = opens::opened(
         o,
         room,
@@ -96,11 +136,11 @@ pub fn open_line(
         blocks,
         log,
     );
-    sim_notes::opened(due, number, o.tills, out, o.log, net);
-    lines::begun(text, r, number)
+    sim_notes::opened(due, number, o.tills, out, o.log, o.loss, net);
+    lines::begun(text, before, number)
 }
 
-// The end of a run: the checklist and the slips, where they were asked for.
+// The end of a run: its last page, where it was asked for.
 pub fn finish(
     asked: u64,
     due: &mut [u64],
@@ -112,11 +152,6 @@ pub fn finish(
     text: &mut [u8],
     used: usize,
 ) -> usize {
-    if asked == NOTHING {
-        return sim_printer::finish(text, used);
-    }
-    sim_notes::ended(due, setup, net, seen, waiting, log);
-    let a = sim_printer::text(text, used, b"\n");
-    let b = sim_checklist::print(due, text, a);
-    sim_printer::finish(text, b)
+    let a = page(asked, due, setup, net, seen, waiting, log, text, used);
+    sim_printer::finish(text, a)
 }

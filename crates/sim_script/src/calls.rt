@@ -121,10 +121,21 @@ pub struct Call {
     pub at: usize,
 }
 
-// The words of a call, read: eight at most, and whether all are there, each is sound and none is left.
+// What is wrong with a line's words: nothing; a word that is malformed, missing, or one too many.
+pub const FINE: u64 = 0;
+
+pub const MALFORMED: u64 = 1;
+
+pub const MISSING: u64 = 2;
+
+pub const TOO_MANY: u64 = 3;
+
+// The words of a call, read: eight at most; what is wrong with them, and the word at fault, from start up to end.
 pub struct Args {
-    pub good: bool,
+    pub wrong: u64,
     pub v: [u64; 8],
+    pub start: usize,
+    pub end: usize,
 }
 
 // The calls that change a network.
@@ -402,10 +413,11 @@ fn value(kind: u8, w: &[u8], room: &mut [u8]) -> Number {
     }
 }
 
-// A word read, and the place behind it.
+// A word read, its place, and the place behind it.
 struct Taken {
     good: bool,
     value: u64,
+    start: usize,
     end: usize,
 }
 
@@ -414,6 +426,7 @@ fn take_word(s: &[u8], at: usize, kind: u8, room: &mut [u8]) -> Taken {
         return Taken {
             good: true,
             value: 0,
+            start: at,
             end: at,
         };
     }
@@ -424,21 +437,38 @@ fn take_word(s: &[u8], at: usize, kind: u8, room: &mut [u8]) -> Taken {
     Taken {
         good: n.good,
         value: n.value,
+        start,
         end,
     }
 }
 
-fn bad_args() -> Args {
+// The words of a line with a word that is not as its call wants it.
+fn bad_args(start: usize, end: usize) -> Args {
+    let mut wrong = MALFORMED;
+    if start == end {
+        wrong = MISSING;
+    }
     Args {
-        good: false,
+        wrong,
         v: [0; 8],
+        start,
+        end,
     }
 }
 
-// Does no word stand from `at` on?
-fn is_last(s: &[u8], at: usize) -> bool {
+// The words of a line, of which none is bad: does no other stand from `at` on?
+fn whole(s: &[u8], at: usize, v: [u64; 8]) -> Args {
     let w = next_word(s, at);
-    w.start == w.end
+    let mut wrong = TOO_MANY;
+    if w.start == w.end {
+        wrong = FINE;
+    }
+    Args {
+        wrong,
+        v,
+        start: w.start,
+        end: w.end,
+    }
 }
 
 // The words from `at` on, each as its kind says; bytes and keys go to `room`.
@@ -450,14 +480,11 @@ pub fn read(s: &[u8], at: usize, which: u64, room: &mut [u8]) -> Args {
     while i < 8 {
         let t = take_word(s, from, form[i], room);
         if !t.good {
-            return bad_args();
+            return bad_args(t.start, t.end);
         }
         v[i] = t.value;
         from = t.end;
         i += 1;
     }
-    Args {
-        good: is_last(s, from),
-        v,
-    }
+    whole(s, from, v)
 }

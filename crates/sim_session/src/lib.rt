@@ -3,4 +3,5 @@ pub mod input;
 pub mod lines;
 pub mod opens;
 pub mod progress;
+pub mod reasons;
 pub mod turns;

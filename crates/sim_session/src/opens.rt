@@ -1,7 +1,11 @@
 // The opening of a script: its line, its tables, its answer.
+ghost use mathlib.Core.Path.{_≡_};
+ghost use lib.ListN.{length};
 use ask_opening::NetworkConfig;
 use ask_opening::NetworkSizes;
 use ask_opening::RegionPlan;
+use ask_opening::TableLengths;
+use ask_opening::TableSizes;
 use sim_openings::Layout;
 use sim_openings::Opening;
 use sim_script::calls;
@@ -163,6 +167,45 @@ pub fn read(line: &[u8], n: usize, which: u64, fresh: &mut [u8], out: &mut [u64]
     let o = sim_openings::open_line(sim_spelling::words::part(line, 0, n), fresh, out, layout());
     own_key(fresh, o);
     o
+}
+
+// The lengths of the tables that the opening is lent.
+fn lengths(n: TableSizes, names: &[u8]) -> TableLengths
+    ensures { λ r. ⌜ r .names ≡ length (now (names .entry)) ⌝ }
+{
+    TableLengths {
+        setup: n.setup,
+        net: n.net,
+        names: names.len() as u64,
+        tills: n.tills,
+        words: n.words,
+        keys: n.keys,
+        prices: n.prices,
+        seen: n.seen,
+        waiting: n.waiting,
+        rings: n.rings,
+        rules: n.rules,
+        blocks: n.blocks,
+        log: n.log,
+    }
+}
+
+// The number that will refuse an opening, or 0: asked before the page of the network that is open ends.
+pub fn refusal(o: Opening, fresh: &[u8], masks: &[u64]) -> u64 {
+    let n = ask_opening::table_sizes(sizes(o), plan(o));
+    if n.number != 0 {
+        return n.number;
+    }
+    let names = sim_spelling::words::part(fresh, 0, ask_rows::NAMES_WIDTH);
+    ask_opening::refusal(
+        config(o),
+        sizes(o),
+        plan(o),
+        lengths(n, names),
+        sim_spelling::words::part(fresh, ask_rows::NAMES_WIDTH, KEY_END),
+        sim_lend::part(masks, o.tills as usize),
+        names,
+    )
 }
 
 // Opens a network in front parts of the tables that have its sizes; answers the number that refused it, or 0.

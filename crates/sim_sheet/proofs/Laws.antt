@@ -6,12 +6,13 @@ use Prim.Native.Nat.{ℕ, _+_, _-_, _≤_}
 use native.Mathlib.Numerals.{add-one}
 use native.Mathlib.Omega.{arith}
 use lib.Dec.{eqb}
+use borrow.Author.Tests.{eq-eqb, ne-eqb}
 use lib.ListN.{length}
 use Rattle.sim_printer.specs.Printer.{Page, gathered, blanks, Spelled}
 use Rattle.sim_comparison.specs.declared.Pair.{Pair}
 use Rattle.sim_comparison.specs.Compared.{agreed, within}
-use Rattle.sim_sheet.specs.Sheet.{Piece, text, spaces, figure, Prints, labelWide, figureWide, bytes, newline}
-use Rattle.sim_sheet.specs.Sheet.{labelled, atRight, lineOf, verdictIn, verdictLine, comparedLines, boundedLines, tableOf, fourOf, threeOf}
+use Rattle.sim_sheet.specs.Sheet.{Piece, text, spaces, figure, bits, Prints, labelWide, figureWide, bytes, newline}
+use Rattle.sim_sheet.specs.Sheet.{labelled, atRight, lineOf, verdictIn, verdictLine, comparedLines, boundedLines, tableOf, fourOf, threeOf, rateOf, someOf, passingLine}
 
 pub onward : (xs ys : List Piece) (p m q : Page) → Prints xs p m → Prints ys m q → Prints (xs ++ ys) p q
 unfolding Prints
@@ -19,6 +20,7 @@ onward [] ys p m q e b = subst (λ (x : Page). Prints ys x q) e b
 onward (text t ∷ xs) ys p m q a b = onward xs ys (gathered p t) m q a b
 onward (spaces n ∷ xs) ys p m q a b = onward xs ys (gathered p (blanks n)) m q a b
 onward (figure n w ∷ xs) ys p m q a b = (a .0, a .1, onward xs ys (a .0) m q (a .2) b)
+onward (bits n ∷ xs) ys p m q a b = (a .0, a .1, onward xs ys (a .0) m q (a .2) b)
 
 pub nothing : (p : Page) → Prints [] p p
 unfolding Prints
@@ -48,7 +50,28 @@ pub lined : (p m k q : Page) (what : List ℕ) (n : ℕ) → Prints (labelled wh
 lined p m k q what n a s b =
     onward (labelled what labelWide) (figure n figureWide ∷ newline) p m q a (onward (figure n figureWide ∷ []) newline m k q (figured m k n figureWide s) b)
 
+pub some-none : (p : Page) (what : List ℕ) (n : ℕ) → n ≡ 0 → Prints (someOf what n) p p
+unfolding someOf
+some-none p what n e = simp (eq-eqb n 0 e) (nothing p)
+
+pub some-line : (p q : Page) (what : List ℕ) (n : ℕ) → (n ≡ 0 → ⊥) → Prints (lineOf what n) p q → Prints (someOf what n) p q
+unfolding someOf
+some-line p q what n h a = simp (ne-eqb n 0 h) a
+
+spelled-bits : (p q : Page) (n : ℕ) → Spelled 16 16 0 n p q → Prints (bits n ∷ []) p q
+unfolding Prints
+spelled-bits p q n s = (q, s, refl)
+
+pub rated : (p m k q : Page) (what : List ℕ) (n : ℕ) → Prints (labelled what 32) p m → Spelled 16 16 0 n m k → Prints newline k q → Prints (rateOf what n) p q
+rated p m k q what n a s b = onward (labelled what 32) (bits n ∷ newline) p m q a (onward (bits n ∷ []) newline m k q (spelled-bits m k n s) b)
+
 -- ---- Verdicts
+
+pub passes : (p q : Page) (passed : Bool) → passed ≡ true → Prints (text (bytes "PASS\n") ∷ []) p q → Prints (passingLine passed) p q
+passes p q passed e a = subst (λ (b : Bool). Prints (passingLine b) p q) (sym e) a
+
+pub fails : (p q : Page) (passed : Bool) → passed ≡ false → Prints (text (bytes "FAIL\n") ∷ []) p q → Prints (passingLine passed) p q
+fails p q passed e a = subst (λ (b : Bool). Prints (passingLine b) p q) (sym e) a
 
 pub agreeing : (p q : Page) (same : Bool) (width : ℕ) → same ≡ true → Prints (atRight (bytes "agrees") width) p q → Prints (verdictIn same width) p q
 agreeing p q same width e a = subst (λ (b : Bool). Prints (verdictIn b width) p q) (sym e) a
@@ -105,6 +128,15 @@ table-end row p q i n a b t =
     subst (λ (x : ℕ). Prints (tableOf row x) p q) same t
 
 -- ---- The same with figures that are the same
+
+pub shown-some : (p q : Page) (what : List ℕ) (n m : ℕ) → n ≡ m → Prints (someOf what n) p q → Prints (someOf what m) p q
+shown-some p q what n m e a = subst (λ (x : ℕ). Prints (someOf what x) p q) e a
+
+pub shown-rate : (p q : Page) (what : List ℕ) (n m : ℕ) → n ≡ m → Prints (rateOf what n) p q → Prints (rateOf what m) p q
+shown-rate p q what n m e a = subst (λ (x : ℕ). Prints (rateOf what x) p q) e a
+
+pub shown-passing : (p q : Page) (a b : Bool) → a ≡ b → Prints (passingLine a) p q → Prints (passingLine b) p q
+shown-passing p q a b e s = subst (λ (x : Bool). Prints (passingLine x) p q) e s
 
 pub shown-table : (row : ℕ → List Piece) (p q : Page) (n m : ℕ) → n ≡ m → Prints (tableOf row n) p q → Prints (tableOf row m) p q
 shown-table row p q n m e a = subst (λ (x : ℕ). Prints (tableOf row x) p q) e a

@@ -1,10 +1,11 @@
--- The checklist as a list of pieces: texts, spaces, and figures with spaces in front; its lines; and what printing the pieces means.
+-- The checklist as a list of pieces: texts, spaces, figures with spaces in front, the bits of an f64; its lines; and what printing the pieces means.
 use mathlib.Core.Path.{_≡_}
 use mathlib.Core.Bool.{Bool, cond}
 use mathlib.Core.List.{List, [], _∷_, _++_}
 use Prim.Native.Nat.{ℕ, zero, suc, _-_}
 use Prim.Native.Char.{code}
 use Prim.Native.String.{String, [] as none, _∷_ as _then_}
+use lib.Dec.{eqb}
 use lib.ListN.{length}
 use Rattle.sim_printer.specs.Printer.{Page, gathered, blanks, Spelled}
 use Rattle.sim_comparison.specs.declared.Pair.{Pair}
@@ -14,6 +15,7 @@ pub data Piece : Type 0 where
   text : List ℕ → Piece
   spaces : ℕ → Piece
   figure : (n width : ℕ) → Piece
+  bits : ℕ → Piece
 
 -- the pieces, one behind the other, lead from the page p to the page q
 unfoldable pub Prints : List Piece → Page → Page → Type 0
@@ -21,6 +23,7 @@ Prints [] p q = q ≡ p
 Prints (text t ∷ rest) p q = Prints rest (gathered p t) q
 Prints (spaces n ∷ rest) p q = Prints rest (gathered p (blanks n)) q
 Prints (figure n width ∷ rest) p q = (m : Page) × Spelled 10 1 width n p m × Prints rest m q
+Prints (bits n ∷ rest) p q = (m : Page) × Spelled 16 16 0 n p m × Prints rest m q
 
 -- ---- Columns: of a page, of a label, of the figure behind it
 
@@ -57,6 +60,14 @@ atRight what width = spaces (width - length what) ∷ text what ∷ []
 abbrev pub lineOf : List ℕ → ℕ → List Piece
 lineOf what n = labelled what labelWide ++ (figure n figureWide ∷ newline)
 
+-- the same where the figure is not 0
+unfoldable pub someOf : List ℕ → ℕ → List Piece
+someOf what n = cond (eqb n 0) [] (lineOf what n)
+
+-- a label and the bits of an f64
+abbrev pub rateOf : List ℕ → ℕ → List Piece
+rateOf what n = labelled what 32 ++ (bits n ∷ newline)
+
 -- ---- Verdicts: THE WORD IS `agrees` WHERE THE COMPARISON AGREES, AND `DIFFERS` WHERE IT DOES NOT
 
 abbrev pub verdictWord : Bool → List ℕ
@@ -67,6 +78,10 @@ verdictIn same width = atRight (verdictWord same) width
 
 abbrev pub verdictLine : Bool → List Piece
 verdictLine same = verdictIn same wide ++ newline
+
+-- the verdict of a page
+abbrev pub passingLine : Bool → List Piece
+passingLine passed = text (cond passed (bytes "PASS\n") (bytes "FAIL\n")) ∷ []
 
 -- the two figures of a comparison, and whether they are the same; whether the left one is at most the right one
 abbrev pub comparedLines : Pair → (left other : List ℕ) → List Piece

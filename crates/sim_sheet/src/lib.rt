@@ -6,7 +6,7 @@ ghost use Prim.Native.Nat.{_-_, min};
 ghost use lib.ListN.{getD};
 ghost use Rattle.sim_printer.specs.Printer.{page};
 ghost use Rattle.sim_figures.specs.Figures.{tillsAt};
-ghost use Rattle.sim_sheet.specs.Sheet.{Prints, text, labelled, lineOf, atRight, verdictIn, verdictLine, comparedLines, boundedLines, fourOf, threeOf};
+ghost use Rattle.sim_sheet.specs.Sheet.{Prints, text, labelled, lineOf, atRight, verdictIn, verdictLine, comparedLines, boundedLines, fourOf, threeOf, rateOf, someOf, passingLine};
 use sim_comparison::Pair;
 use sim_figures::MOST_TILLS;
 use sim_figures::TILLS;
@@ -49,6 +49,38 @@ pub fn line(buf: &mut [u8], used: usize, what: &[u8], n: u64) -> usize
     let a = label(buf, used, what, LABEL);
     let b = sim_printer::decimal_right(buf, a, n, FIGURE);
     say(buf, b, b"\n")
+}
+
+// A line with a figure, where that is not 0.
+pub fn some(buf: &mut [u8], used: usize, what: &[u8], n: u64) -> usize
+    ensures { λ r. ⌜ Prints (someOf (now (what .entry)) n) (page (now (buf .entry)) used) (page (now (buf .exit)) r) ⌝ }
+{
+    if n == 0 {
+        return used;
+    }
+    line(buf, used, what, n)
+}
+
+// Digits of an f64's bits.
+const BITS: usize = 16;
+
+// A line with the bits of an f64, as an opening's line has them.
+pub fn rate(buf: &mut [u8], used: usize, what: &[u8], n: u64) -> usize
+    ensures { λ r. ⌜ Prints (rateOf (now (what .entry)) n) (page (now (buf .entry)) used) (page (now (buf .exit)) r) ⌝ }
+{
+    let a = label(buf, used, what, WIDE - BITS);
+    let b = sim_printer::hex(buf, a, n, BITS);
+    say(buf, b, b"\n")
+}
+
+// The verdict of a page: a line of one word.
+pub fn passing(buf: &mut [u8], used: usize, passed: bool) -> usize
+    ensures { λ r. ⌜ Prints (passingLine passed) (page (now (buf .entry)) used) (page (now (buf .exit)) r) ⌝ }
+{
+    if passed {
+        return say(buf, used, b"PASS\n");
+    }
+    say(buf, used, b"FAIL\n")
 }
 
 // A word at the right end of a column.

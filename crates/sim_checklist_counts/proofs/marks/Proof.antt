@@ -1,4 +1,4 @@
-use Rattle.sim_sheet.proofs.Laws.{onward, shown, shown-pair, shown-bound}
+use Rattle.sim_sheet.proofs.Laws.{onward, shown, shown-pair, shown-bound, shown-table, shown-none}
 use native.Mathlib.Omega.{arith}
 use Rattle.sim_checklist_counts.specs.Counts.{marksPart}
 use borrow.Author.Needs.{needs}
@@ -50,8 +50,8 @@ slice-aggregate-compared-2 c = search needs
 compared-requires : tie.Need-compared-requires
 compared-requires c κs = search needs
 
-cleared-requires : tie.Need-cleared-requires
-cleared-requires c κs = search needs
+gone-least-requires : tie.Need-gone-least-requires
+gone-least-requires c κs = search needs
 
 slice-aggregate-bounded : tie.Need-slice-aggregate-bounded
 slice-aggregate-bounded c = search needs
@@ -62,12 +62,24 @@ slice-aggregate-bounded-2 c = search needs
 bounded-requires : tie.Need-bounded-requires
 bounded-requires c κs = search needs
 
+gone-most-requires : tie.Need-gone-most-requires
+gone-most-requires c κs = search needs
+
+slice-aggregate-bounded-3 : tie.Need-slice-aggregate-bounded-3
+slice-aggregate-bounded-3 c = search needs
+
+slice-aggregate-bounded-4 : tie.Need-slice-aggregate-bounded-4
+slice-aggregate-bounded-4 c = search needs
+
+bounded-requires-2 : tie.Need-bounded-requires-2
+bounded-requires-2 c κs = search needs
+
 same-length : tie.Need-same-length
-same-length c = omega (arith, c .before .before .bounded .kept .0, c .before .before .before .before .before .before .before .before .before .compared .kept .0, c .before .before .before .before .before .before .before .before .before .before .before .before .before .before .before .before .line3 .kept .0, c .before .before .before .before .before .before .before .before .before .before .before .before .before .before .before .before .before .before .before .before .before .before .line2 .kept .0, c .before .before .before .before .before .before .before .before .before .before .before .before .before .before .before .before .before .before .before .before .before .before .before .before .before .before .before .before .line .kept .0, c .before .before .before .before .before .before .before .before .before .before .before .before .before .before .before .before .before .before .before .before .before .before .before .before .before .before .before .before .before .before .before .before .before .before .say .kept .0)
+same-length c = omega (arith, c .before .before .bounded2 .kept .0, c .before .before .before .before .before .before .before .before .before .bounded .kept .0, c .before .before .before .before .before .before .before .before .before .before .before .before .before .before .before .before .compared .kept .0, c .before .before .before .before .before .before .before .before .before .before .before .before .before .before .before .before .before .before .before .before .before .before .before .line3 .kept .0, c .before .before .before .before .before .before .before .before .before .before .before .before .before .before .before .before .before .before .before .before .before .before .before .before .before .before .before .before .before .line2 .kept .0, c .before .before .before .before .before .before .before .before .before .before .before .before .before .before .before .before .before .before .before .before .before .before .before .before .before .before .before .before .before .before .before .before .before .before .before .line .kept .0, c .before .before .before .before .before .before .before .before .before .before .before .before .before .before .before .before .before .before .before .before .before .before .before .before .before .before .before .before .before .before .before .before .before .before .before .before .before .before .before .before .before .say .kept .0)
 
 returns : tie.Need-returns
 unfolding marksPart
-returns c = onward _ _ _ _ _ (c .before .before .before .before .before .before .before .before .before .before .before .before .before .before .before .before .before .before .before .before .before .before .before .before .before .before .before .before .before .before .before .before .before .before .say .ensures) (onward _ _ _ _ _ (shown _ _ _ _ _ (c .before .before .before .before .before .before .before .before .before .before .before .before .before .before .before .before .before .before .before .before .before .before .before .before .before .before .before .before .before .get .ensures) (c .before .before .before .before .before .before .before .before .before .before .before .before .before .before .before .before .before .before .before .before .before .before .before .before .before .before .before .before .line .ensures)) (onward _ _ _ _ _ (shown _ _ _ _ _ (c .before .before .before .before .before .before .before .before .before .before .before .before .before .before .before .before .before .before .before .before .before .before .before .get2 .ensures) (c .before .before .before .before .before .before .before .before .before .before .before .before .before .before .before .before .before .before .before .before .before .before .line2 .ensures)) (onward _ _ _ _ _ (shown _ _ _ _ _ (c .before .before .before .before .before .before .before .before .before .before .before .before .before .before .before .before .before .get3 .ensures) (c .before .before .before .before .before .before .before .before .before .before .before .before .before .before .before .before .line3 .ensures)) (onward _ _ _ _ _ (shown-pair _ _ _ _ _ _ (c .before .before .before .before .before .before .before .before .before .before .before .before .marks .ensures) (c .before .before .before .before .before .before .before .before .before .compared .ensures)) (shown-bound _ _ _ _ _ _ (c .before .before .before .before .before .cleared .ensures) (c .before .before .bounded .ensures))))))
+returns c = onward _ _ _ _ _ (c .before .before .before .before .before .before .before .before .before .before .before .before .before .before .before .before .before .before .before .before .before .before .before .before .before .before .before .before .before .before .before .before .before .before .before .before .before .before .before .before .before .say .ensures) (onward _ _ _ _ _ (shown _ _ _ _ _ (c .before .before .before .before .before .before .before .before .before .before .before .before .before .before .before .before .before .before .before .before .before .before .before .before .before .before .before .before .before .before .before .before .before .before .before .before .get .ensures) (c .before .before .before .before .before .before .before .before .before .before .before .before .before .before .before .before .before .before .before .before .before .before .before .before .before .before .before .before .before .before .before .before .before .before .before .line .ensures)) (onward _ _ _ _ _ (shown _ _ _ _ _ (c .before .before .before .before .before .before .before .before .before .before .before .before .before .before .before .before .before .before .before .before .before .before .before .before .before .before .before .before .before .before .get2 .ensures) (c .before .before .before .before .before .before .before .before .before .before .before .before .before .before .before .before .before .before .before .before .before .before .before .before .before .before .before .before .before .line2 .ensures)) (onward _ _ _ _ _ (shown _ _ _ _ _ (c .before .before .before .before .before .before .before .before .before .before .before .before .before .before .before .before .before .before .before .before .before .before .before .before .get3 .ensures) (c .before .before .before .before .before .before .before .before .before .before .before .before .before .before .before .before .before .before .before .before .before .before .before .line3 .ensures)) (onward _ _ _ _ _ (shown-pair _ _ _ _ _ _ (c .before .before .before .before .before .before .before .before .before .before .before .before .before .before .before .before .before .before .before .marks .ensures) (c .before .before .before .before .before .before .before .before .before .before .before .before .before .before .before .before .compared .ensures)) (onward _ _ _ _ _ (shown-bound _ _ _ _ _ _ (c .before .before .before .before .before .before .before .before .before .before .before .before .gone-least .ensures) (c .before .before .before .before .before .before .before .before .before .bounded .ensures)) (shown-bound _ _ _ _ _ _ (c .before .before .before .before .before .gone-most .ensures) (c .before .before .bounded2 .ensures)))))))
 
 pub marks-spec : {M : Type 1} → statement M
 marks-spec =
@@ -88,9 +100,13 @@ marks-spec =
     slice-aggregate-compared
     slice-aggregate-compared-2
     compared-requires
-    cleared-requires
+    gone-least-requires
     slice-aggregate-bounded
     slice-aggregate-bounded-2
     bounded-requires
+    gone-most-requires
+    slice-aggregate-bounded-3
+    slice-aggregate-bounded-4
+    bounded-requires-2
     same-length
     returns)

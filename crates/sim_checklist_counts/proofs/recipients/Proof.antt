@@ -1,4 +1,4 @@
-use Rattle.sim_sheet.proofs.Laws.{onward, shown, shown-pair}
+use Rattle.sim_sheet.proofs.Laws.{onward, shown, shown-pair, shown-bound, shown-table, shown-none}
 use native.Mathlib.Omega.{arith}
 use Rattle.sim_checklist_counts.specs.Counts.{recipientsOf}
 use borrow.Author.Needs.{needs}
@@ -80,12 +80,24 @@ slice-aggregate-compared-2 c = search needs
 compared-requires : tie.Need-compared-requires
 compared-requires c κs = search needs
 
+own-requires : tie.Need-own-requires
+own-requires c κs = search needs
+
+slice-aggregate-compared-3 : tie.Need-slice-aggregate-compared-3
+slice-aggregate-compared-3 c = search needs
+
+slice-aggregate-compared-4 : tie.Need-slice-aggregate-compared-4
+slice-aggregate-compared-4 c = search needs
+
+compared-requires-2 : tie.Need-compared-requires-2
+compared-requires-2 c κs = search needs
+
 same-length : tie.Need-same-length
-same-length c = omega (arith, c .before .before .compared .kept .0, c .before .before .before .before .before .before .before .before .before .line5 .kept .0, c .before .before .before .before .before .before .before .before .before .before .before .before .before .before .before .line4 .kept .0, c .before .before .before .before .before .before .before .before .before .before .before .before .before .before .before .before .before .before .before .before .before .line3 .kept .0, c .before .before .before .before .before .before .before .before .before .before .before .before .before .before .before .before .before .before .before .before .before .before .before .before .before .before .before .line2 .kept .0, c .before .before .before .before .before .before .before .before .before .before .before .before .before .before .before .before .before .before .before .before .before .before .before .before .before .before .before .before .before .before .before .before .before .line .kept .0, c .before .before .before .before .before .before .before .before .before .before .before .before .before .before .before .before .before .before .before .before .before .before .before .before .before .before .before .before .before .before .before .before .before .before .before .before .before .before .before .say .kept .0)
+same-length c = omega (arith, c .before .before .compared2 .kept .0, c .before .before .before .before .before .before .before .before .before .compared .kept .0, c .before .before .before .before .before .before .before .before .before .before .before .before .before .before .before .before .line5 .kept .0, c .before .before .before .before .before .before .before .before .before .before .before .before .before .before .before .before .before .before .before .before .before .before .line4 .kept .0, c .before .before .before .before .before .before .before .before .before .before .before .before .before .before .before .before .before .before .before .before .before .before .before .before .before .before .before .before .line3 .kept .0, c .before .before .before .before .before .before .before .before .before .before .before .before .before .before .before .before .before .before .before .before .before .before .before .before .before .before .before .before .before .before .before .before .before .before .line2 .kept .0, c .before .before .before .before .before .before .before .before .before .before .before .before .before .before .before .before .before .before .before .before .before .before .before .before .before .before .before .before .before .before .before .before .before .before .before .before .before .before .before .before .line .kept .0, c .before .before .before .before .before .before .before .before .before .before .before .before .before .before .before .before .before .before .before .before .before .before .before .before .before .before .before .before .before .before .before .before .before .before .before .before .before .before .before .before .before .before .before .before .before .before .say .kept .0)
 
 returns : tie.Need-returns
 unfolding recipientsOf
-returns c = onward _ _ _ _ _ (c .before .before .before .before .before .before .before .before .before .before .before .before .before .before .before .before .before .before .before .before .before .before .before .before .before .before .before .before .before .before .before .before .before .before .before .before .before .before .before .say .ensures) (onward _ _ _ _ _ (shown _ _ _ _ _ (c .before .before .before .before .before .before .before .before .before .before .before .before .before .before .before .before .before .before .before .before .before .before .before .before .before .before .before .before .before .before .before .before .before .before .get .ensures) (c .before .before .before .before .before .before .before .before .before .before .before .before .before .before .before .before .before .before .before .before .before .before .before .before .before .before .before .before .before .before .before .before .before .line .ensures)) (onward _ _ _ _ _ (shown _ _ _ _ _ (c .before .before .before .before .before .before .before .before .before .before .before .before .before .before .before .before .before .before .before .before .before .before .before .before .before .before .before .before .get2 .ensures) (c .before .before .before .before .before .before .before .before .before .before .before .before .before .before .before .before .before .before .before .before .before .before .before .before .before .before .before .line2 .ensures)) (onward _ _ _ _ _ (shown _ _ _ _ _ (c .before .before .before .before .before .before .before .before .before .before .before .before .before .before .before .before .before .before .before .before .before .before .get3 .ensures) (c .before .before .before .before .before .before .before .before .before .before .before .before .before .before .before .before .before .before .before .before .before .line3 .ensures)) (onward _ _ _ _ _ (shown _ _ _ _ _ (c .before .before .before .before .before .before .before .before .before .before .before .before .before .before .before .before .get4 .ensures) (c .before .before .before .before .before .before .before .before .before .before .before .before .before .before .before .line4 .ensures)) (onward _ _ _ _ _ (shown _ _ _ _ _ (c .before .before .before .before .before .before .before .before .before .before .get5 .ensures) (c .before .before .before .before .before .before .before .before .before .line5 .ensures)) (shown-pair _ _ _ _ _ _ (c .before .before .before .before .before .counts .ensures) (c .before .before .compared .ensures)))))))
+returns c = onward _ _ _ _ _ (c .before .before .before .before .before .before .before .before .before .before .before .before .before .before .before .before .before .before .before .before .before .before .before .before .before .before .before .before .before .before .before .before .before .before .before .before .before .before .before .before .before .before .before .before .before .before .say .ensures) (onward _ _ _ _ _ (shown _ _ _ _ _ (c .before .before .before .before .before .before .before .before .before .before .before .before .before .before .before .before .before .before .before .before .before .before .before .before .before .before .before .before .before .before .before .before .before .before .before .before .before .before .before .before .before .get .ensures) (c .before .before .before .before .before .before .before .before .before .before .before .before .before .before .before .before .before .before .before .before .before .before .before .before .before .before .before .before .before .before .before .before .before .before .before .before .before .before .before .before .line .ensures)) (onward _ _ _ _ _ (shown _ _ _ _ _ (c .before .before .before .before .before .before .before .before .before .before .before .before .before .before .before .before .before .before .before .before .before .before .before .before .before .before .before .before .before .before .before .before .before .before .before .get2 .ensures) (c .before .before .before .before .before .before .before .before .before .before .before .before .before .before .before .before .before .before .before .before .before .before .before .before .before .before .before .before .before .before .before .before .before .before .line2 .ensures)) (onward _ _ _ _ _ (shown _ _ _ _ _ (c .before .before .before .before .before .before .before .before .before .before .before .before .before .before .before .before .before .before .before .before .before .before .before .before .before .before .before .before .before .get3 .ensures) (c .before .before .before .before .before .before .before .before .before .before .before .before .before .before .before .before .before .before .before .before .before .before .before .before .before .before .before .before .line3 .ensures)) (onward _ _ _ _ _ (shown _ _ _ _ _ (c .before .before .before .before .before .before .before .before .before .before .before .before .before .before .before .before .before .before .before .before .before .before .before .get4 .ensures) (c .before .before .before .before .before .before .before .before .before .before .before .before .before .before .before .before .before .before .before .before .before .before .line4 .ensures)) (onward _ _ _ _ _ (shown _ _ _ _ _ (c .before .before .before .before .before .before .before .before .before .before .before .before .before .before .before .before .before .get5 .ensures) (c .before .before .before .before .before .before .before .before .before .before .before .before .before .before .before .before .line5 .ensures)) (onward _ _ _ _ _ (shown-pair _ _ _ _ _ _ (c .before .before .before .before .before .before .before .before .before .before .before .before .counts .ensures) (c .before .before .before .before .before .before .before .before .before .compared .ensures)) (shown-pair _ _ _ _ _ _ (c .before .before .before .before .before .own .ensures) (c .before .before .compared2 .ensures))))))))
 
 pub recipients-spec : {M : Type 1} → statement M
 recipients-spec =
@@ -116,5 +128,9 @@ recipients-spec =
     slice-aggregate-compared
     slice-aggregate-compared-2
     compared-requires
+    own-requires
+    slice-aggregate-compared-3
+    slice-aggregate-compared-4
+    compared-requires-2
     same-length
     returns)

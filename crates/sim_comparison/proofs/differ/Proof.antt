@@ -37,9 +37,21 @@ classes-differ-requires-2 c κs = search needs
 plus-requires-5 : tie.Need-plus-requires-5
 plus-requires-5 c κs = search needs
 
+expected-differ-requires : tie.Need-expected-differ-requires
+expected-differ-requires c κs = search needs
+
+tills-differ-requires : tie.Need-tills-differ-requires
+tills-differ-requires c κs = search needs
+
+plus-requires-6 : tie.Need-plus-requires-6
+plus-requires-6 c κs = search needs
+
+plus-requires-7 : tie.Need-plus-requires-7
+plus-requires-7 c κs = search needs
+
 returns : tie.Need-returns
 unfolding differOf
-returns c = sums (sums (sums (sums (sums (c .before .before .before .before .before .before .before .before .before .before .accepts-differ .ensures) (c .before .before .before .before .before .before .before .before .before .senders-differ .ensures) (c .before .before .before .before .before .before .before .before .plus .ensures)) (c .before .before .before .before .before .before .before .copies-differ .ensures) (c .before .before .before .before .before .before .plus2 .ensures)) (c .before .before .before .before .before .rows-differ .ensures) (c .before .before .before .before .plus3 .ensures)) (c .before .before .before .classes-differ .ensures) (c .before .before .plus4 .ensures)) (c .before .classes-differ2 .ensures) (c .plus5 .ensures)
+returns c = sums (sums (sums (sums (sums (sums (c .before .before .before .before .before .before .before .before .before .before .before .before .before .before .accepts-differ .ensures) (c .before .before .before .before .before .before .before .before .before .before .before .before .before .senders-differ .ensures) (c .before .before .before .before .before .before .before .before .before .before .before .before .plus .ensures)) (c .before .before .before .before .before .before .before .before .before .before .before .copies-differ .ensures) (c .before .before .before .before .before .before .before .before .before .before .plus2 .ensures)) (c .before .before .before .before .before .before .before .before .before .rows-differ .ensures) (c .before .before .before .before .before .before .before .before .plus3 .ensures)) (c .before .before .before .before .before .before .before .classes-differ .ensures) (c .before .before .before .before .before .before .plus4 .ensures)) (c .before .before .before .before .before .classes-differ2 .ensures) (c .before .before .before .before .plus5 .ensures)) (sums (c .before .before .before .expected-differ .ensures) (c .before .before .tills-differ .ensures) (c .before .plus6 .ensures)) (c .plus7 .ensures)
 
 pub differ-spec : {M : Type 1} → statement M
 differ-spec =
@@ -56,4 +68,8 @@ differ-spec =
     plus-requires-4
     classes-differ-requires-2
     plus-requires-5
+    expected-differ-requires
+    tills-differ-requires
+    plus-requires-6
+    plus-requires-7
     returns)

@@ -19,6 +19,9 @@ cell-requires-2 c κs = search needs
 row-requires : tie.Need-row-requires
 row-requires c κs = search needs
 
+row-requires-2 : tie.Need-row-requires-2
+row-requires-2 c κs = search needs
+
 add-result : tie.Need-add-result
 add-result c = search needs
 
@@ -26,16 +29,19 @@ same-length : tie.Need-same-length
 same-length c = search needs
 
 returns : tie.Need-returns
-returns c = (landed _ _ _ _ _ _ _ (c .before .before .before .before .before .before .cell .ensures) (c .before .before .before .before .before .cell2 .ensures) (c .before .before .before .before .if1 .taken) (c .before .before .row .ensures), omega arith)
+returns c = (landed _ _ _ _ _ _ _ _ (c .before .before .before .before .before .before .before .before .before .before .cell .ensures) (c .before .before .before .before .before .before .before .before .before .cell2 .ensures) (c .before .before .before .before .before .before .before .before .if1 .taken) (c .before .before .before .before .before .before .row .ensures) (c .before .before .row2 .ensures), omega arith)
 
 dropped-requires : tie.Need-dropped-requires
 dropped-requires c κs = search needs
+
+dropped-requires-2 : tie.Need-dropped-requires-2
+dropped-requires-2 c κs = search needs
 
 same-length-2 : tie.Need-same-length-2
 same-length-2 c = search needs
 
 returns-2 : tie.Need-returns-2
-returns-2 c = (lost _ _ _ _ _ _ _ (c .before .before .before .before .before .before .cell .ensures) (c .before .before .before .before .before .cell2 .ensures) (c .before .before .before .before .if1 .left) (c .before .before .dropped .ensures), omega arith)
+returns-2 c = (lost _ _ _ _ _ _ _ _ (c .before .before .before .before .before .before .before .before .before .before .cell .ensures) (c .before .before .before .before .before .before .before .before .before .cell2 .ensures) (c .before .before .before .before .before .before .before .before .if1 .left) (c .before .before .before .before .before .before .dropped .ensures) (c .before .before .dropped2 .ensures), omega arith)
 
 pub due-copy-spec : {M : Type 1} → statement M
 due-copy-spec =
@@ -46,9 +52,11 @@ due-copy-spec =
     add-cell-2
     cell-requires-2
     row-requires
+    row-requires-2
     add-result
     same-length
     returns
     dropped-requires
+    dropped-requires-2
     same-length-2
     returns-2)

@@ -24,11 +24,28 @@ marks-requires c κs = search needs
 stands-requires : tie.Need-stands-requires
 stands-requires c κs = search needs
 
+tills-requires : tie.Need-tills-requires
+tills-requires c κs = search needs
+
+stood-requires : tie.Need-stood-requires
+stood-requires c κs = search needs
+
 same-length : tie.Need-same-length
 same-length c = search needs
 
 returns : tie.Need-returns
-returns c = ends _ _ _ _ _ _ _ _ _ _ _ _ _ (c .before .before .before .before .before .before .before .before .before .before .before .before .before .before .before .before .before .before .cell .ensures) (c .before .before .before .before .before .before .before .before .before .before .before .before .before .before .before .before .before .least .ensures .0) (c .before .before .before .before .before .before .before .before .before .before .before .before .before .before .before .waiting-copies .ensures) (c .before .before .before .before .before .before .before .before .before .before .before .transits .ensures) (c .before .before .before .before .before .before .before .tallies .ensures) (c .before .before .before .marks .ensures) (c .before .before .stands .ensures)
+returns c =
+    let at-stood = c .before .before in
+    let at-tills = at-stood .before in
+    let at-stands = at-tills .before .before .before .before in
+    let at-marks = at-stands .before in
+    let at-tallies = at-marks .before .before .before .before in
+    let at-transits = at-tallies .before .before .before .before in
+    let at-copies = at-transits .before .before .before .before in
+    let at-least = at-copies .before .before in
+    let at-cell = at-least .before in
+    ends _ _ _ _ _ _ _ _ _ _ _ _ _ _ _ (at-cell .cell .ensures) (at-least .least .ensures .0) (at-copies .waiting-copies .ensures) (at-transits .transits .ensures)
+    (at-tallies .tallies .ensures) (at-marks .marks .ensures) (at-stands .stands .ensures) (at-tills .tills .ensures) (at-stood .stood .ensures)
 
 pub ended-spec : {M : Type 1} → statement M
 ended-spec =
@@ -41,5 +58,7 @@ ended-spec =
     tallies-requires
     marks-requires
     stands-requires
+    tills-requires
+    stood-requires
     same-length
     returns)

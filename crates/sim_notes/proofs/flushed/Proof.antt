@@ -33,11 +33,14 @@ array-read-flushed-3 c = search needs
 flushed-requires : tie.Need-flushed-requires
 flushed-requires c κs = search needs
 
+flushed-requires-2 : tie.Need-flushed-requires-2
+flushed-requires-2 c κs = search needs
+
 same-length : tie.Need-same-length
 same-length c = search needs
 
 returns : tie.Need-returns
-returns c = flushes _ _ _ _ _ _ _ _ _ (c .before .before .before .before .before .before .before .before .before .before .least .ensures .0) (c .before .before .before .before .before .before .before .before .rows-size .ensures) (c .before .before .before .before .before .before .before .part .ensures) (c .before .before .before .before .before .before .due-copies .ensures) (c .before .before .flushed .ensures)
+returns c = flushes _ _ _ _ _ _ _ _ _ _ _ (c .before .before .before .before .before .before .before .before .before .before .before .before .before .before .least .ensures .0) (c .before .before .before .before .before .before .before .before .before .before .before .before .rows-size .ensures) (c .before .before .before .before .before .before .before .before .before .before .before .part .ensures) (c .before .before .before .before .before .before .before .before .before .before .due-copies .ensures) (c .before .before .before .before .before .before .flushed .ensures) (c .before .before .flushed2 .ensures)
 
 pub flushed-spec : {M : Type 1} → statement M
 flushed-spec =
@@ -53,5 +56,6 @@ flushed-spec =
     array-read-flushed-2
     array-read-flushed-3
     flushed-requires
+    flushed-requires-2
     same-length
     returns)

@@ -1,10 +1,10 @@
-use Rattle.sim_notes.proofs.Laws.{opening-none, opening-refused, opening-taken}
+use Rattle.sim_notes.proofs.Laws.{opening-refused, opening-taken}
 use borrow.Author.Needs.{needs}
 use Rattle.sim_notes.proofs.opened.Statement.{statement}
 use Rattle.sim_notes.proofs.opened.Tie as tie
 
-returns : tie.Need-returns
-returns c = opening-none _ _ _ _ _ _ (c .if1 .taken)
+called-requires : tie.Need-called-requires
+called-requires c κs = search needs
 
 refused-requires : tie.Need-refused-requires
 refused-requires c κs = search needs
@@ -12,8 +12,8 @@ refused-requires c κs = search needs
 same-length : tie.Need-same-length
 same-length c = search needs
 
-returns-2 : tie.Need-returns-2
-returns-2 c = opening-refused _ _ _ _ _ _ _ (c .before .before .before .before .before .if1 .left) (c .before .before .before .before .if2 .taken) (c .before .before .refused .ensures)
+returns : tie.Need-returns
+returns c = opening-refused _ _ _ _ _ _ _ _ _ (c .before .before .before .before .before .before .before .called .ensures) (c .before .before .before .before .if1 .taken) (c .before .before .refused .ensures)
 
 cell-requires : tie.Need-cell-requires
 cell-requires c κs = search needs
@@ -24,18 +24,18 @@ opened-requires c κs = search needs
 same-length-2 : tie.Need-same-length-2
 same-length-2 c = search needs
 
-returns-3 : tie.Need-returns-3
-returns-3 c = opening-taken _ _ _ _ _ _ _ _ (c .before .before .before .before .before .before .if1 .left) (c .before .before .before .before .before .if2 .left) (c .before .before .before .before .cell .ensures) (c .before .before .opened .ensures)
+returns-2 : tie.Need-returns-2
+returns-2 c = opening-taken _ _ _ _ _ _ _ _ _ _ (c .before .before .before .before .before .before .before .before .called .ensures) (c .before .before .before .before .before .if1 .left) (c .before .before .before .before .cell .ensures) (c .before .before .opened .ensures)
 
 pub opened-spec : {M : Type 1} → statement M
 opened-spec =
     tie.close
     (tie.spec
-    returns
+    called-requires
     refused-requires
     same-length
-    returns-2
+    returns
     cell-requires
     opened-requires
     same-length-2
-    returns-3)
+    returns-2)

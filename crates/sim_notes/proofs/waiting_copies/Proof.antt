@@ -17,11 +17,11 @@ abbrev μ-loop : tie.MeasureT-loop
 loop-holds : tie.Need-loop-holds Inv-loop μ-loop
 loop-holds c = (omega arith, refl, waits-none _ _)
 
-mul-waits : tie.Need-mul-waits Inv-loop μ-loop
-mul-waits c = omega arith
+mul-waiting-copy : tie.Need-mul-waiting-copy Inv-loop μ-loop
+mul-waiting-copy c = omega arith
 
-waits-requires : tie.Need-waits-requires Inv-loop μ-loop
-waits-requires c κs = search needs
+waiting-copy-requires : tie.Need-waiting-copy-requires Inv-loop μ-loop
+waiting-copy-requires c κs = search needs
 
 add-i : tie.Need-add-i Inv-loop μ-loop
 add-i c = search needs
@@ -30,7 +30,7 @@ loop-less : tie.Need-loop-less Inv-loop μ-loop
 loop-less c = search needs
 
 loop-again : tie.Need-loop-again Inv-loop μ-loop
-loop-again c = (omega arith, search needs, waits-more _ _ _ _ _ (c .before .before .before .before .before .loop .inv .2) (c .before .before .waits .ensures))
+loop-again c = (omega arith, search needs, waits-more _ _ _ _ _ (c .before .before .before .before .before .loop .inv .2) (c .before .before .waiting-copy .ensures))
 
 same-length : tie.Need-same-length Inv-loop μ-loop
 same-length c = search needs
@@ -45,8 +45,8 @@ waiting-copies-spec =
     Inv-loop
     μ-loop
     loop-holds
-    mul-waits
-    waits-requires
+    mul-waiting-copy
+    waiting-copy-requires
     add-i
     loop-less
     loop-again

@@ -5,10 +5,10 @@ use Rattle.sim_run.proofs.each.Statement.{statement}
 use Rattle.sim_run.proofs.each.Tie as tie
 
 abbrev Inv-loop : tie.InvT-loop
-Inv-loop k words i₀ i = k ≤ i
+Inv-loop asked k words i₀ i = k ≤ i
 
 abbrev μ-loop : tie.MeasureT-loop
-μ-loop k words i₀ i = words - i
+μ-loop asked k words i₀ i = words - i
 
 loop-holds : tie.Need-loop-holds Inv-loop μ-loop
 loop-holds c = omega arith

@@ -1,5 +1,5 @@
+use Rattle.sim_checklist_copies.proofs.Laws.{receiver-at}
 use Rattle.sim_sheet.proofs.Laws.{onward}
-use Rattle.sim_checklist_copies.proofs.Laws.{sender-at, receiver-at}
 use Rattle.sim_checklist_copies.specs.Copies.{slipOf}
 use borrow.Author.Needs.{needs}
 use Rattle.sim_checklist_copies.proofs.slips.slip.Statement.{statement}
@@ -17,11 +17,11 @@ slice-aggregate-line c = search needs
 line-requires : tie.Need-line-requires
 line-requires c κs = search needs
 
-till-row-requires : tie.Need-till-row-requires
-till-row-requires c κs = search needs
-
 as-sender-requires : tie.Need-as-sender-requires
 as-sender-requires c κs = search needs
+
+till-row-requires : tie.Need-till-row-requires
+till-row-requires c κs = search needs
 
 as-receiver-requires : tie.Need-as-receiver-requires
 as-receiver-requires c κs = search needs
@@ -31,7 +31,7 @@ same-length c = search needs
 
 returns : tie.Need-returns
 unfolding slipOf
-returns c = onward _ _ _ _ _ (c .before .before .before .before .before .before .before .before .before .before .before .before .before .before .before .before .say .ensures) (onward _ _ _ _ _ (c .before .before .before .before .before .before .before .before .before .before .before .line .ensures) (onward _ _ _ _ _ (sender-at _ _ _ _ _ (c .before .before .before .before .before .before .before .before .till-row .ensures .0) (c .before .before .before .before .before .before .as-sender .ensures)) (receiver-at _ _ _ _ _ (c .before .before .before .before .before .before .before .before .till-row .ensures .0) (c .before .before .as-receiver .ensures))))
+returns c = onward _ _ _ _ _ (c .before .before .before .before .before .before .before .before .before .before .before .before .before .before .before .before .say .ensures) (onward _ _ _ _ _ (c .before .before .before .before .before .before .before .before .before .before .before .line .ensures) (onward _ _ _ _ _ (c .before .before .before .before .before .before .before .as-sender .ensures) (receiver-at _ _ _ _ _ (c .before .before .before .till-row .ensures .0) (c .before .before .as-receiver .ensures))))
 
 pub slip-spec : {M : Type 1} → statement M
 slip-spec =
@@ -41,8 +41,8 @@ slip-spec =
     say-requires
     slice-aggregate-line
     line-requires
-    till-row-requires
     as-sender-requires
+    till-row-requires
     as-receiver-requires
     same-length
     returns)

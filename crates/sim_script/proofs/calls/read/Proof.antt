@@ -60,8 +60,8 @@ loop-again : tie.Need-loop-again Inv-loop μ-loop
 loop-again c = search needs
 
 -- src/calls.rt:451:15
-is-last-requires : tie.Need-is-last-requires Inv-loop μ-loop
-is-last-requires c κs = search needs
+whole-requires : tie.Need-whole-requires Inv-loop μ-loop
+whole-requires c κs = search needs
 
 -- src/calls.rt:436:1
 same-length-2 : tie.Need-same-length-2 Inv-loop μ-loop
@@ -89,6 +89,6 @@ read-spec =
     add-i
     loop-less
     loop-again
-    is-last-requires
+    whole-requires
     same-length-2
     returns-2)

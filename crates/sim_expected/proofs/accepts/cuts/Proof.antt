@@ -1,0 +1,54 @@
+use Rattle.sim_expected.proofs.Laws.{cuts-none, cuts-more, cuts-end}
+use Rattle.sim_expected.specs.Expected.{cutsOf}
+use native.Mathlib.Omega.{arith}
+use mathlib.Core.Path.{_≡_, refl}
+use Prim.Native.Nat.{_≤_, _-_}
+use lib.ListN.{length}
+use borrow.Author.Needs.{needs}
+use Rattle.sim_expected.proofs.accepts.cuts.Statement.{statement}
+use Rattle.sim_expected.proofs.accepts.cuts.Tie as tie
+
+abbrev Inv-loop : tie.InvT-loop
+Inv-loop figures from scope time n count₀ t₀ count t = (t ≤ n) × (count ≤ t) × (count ≡ cutsOf figures from scope time t)
+
+abbrev μ-loop : tie.MeasureT-loop
+μ-loop figures from scope time n count₀ t₀ count t = n - t
+
+loop-holds : tie.Need-loop-holds Inv-loop μ-loop
+loop-holds c = (omega arith, omega arith, cuts-none _ _ _ _)
+
+cut-requires : tie.Need-cut-requires Inv-loop μ-loop
+cut-requires c κs = search needs
+
+bit-requires : tie.Need-bit-requires Inv-loop μ-loop
+bit-requires c κs = search needs
+
+add-count : tie.Need-add-count Inv-loop μ-loop
+add-count c = search needs
+
+add-t : tie.Need-add-t Inv-loop μ-loop
+add-t c = search needs
+
+loop-less : tie.Need-loop-less Inv-loop μ-loop
+loop-less c = search needs
+
+loop-again : tie.Need-loop-again Inv-loop μ-loop
+loop-again c = (omega arith, omega arith, cuts-more _ _ _ _ _ _ _ _ (c .before .before .before .loop .inv .2) (c .before .cut .ensures) (c .bit .ensures .0))
+
+returns : tie.Need-returns Inv-loop μ-loop
+returns c = cuts-end _ _ _ _ _ _ _ (c .before .loop .inv .0) (c .loop-test .left) (c .before .loop .inv .2)
+
+pub cuts-spec : {M : Type 1} → statement M
+cuts-spec =
+    tie.close
+    (tie.spec
+    Inv-loop
+    μ-loop
+    loop-holds
+    cut-requires
+    bit-requires
+    add-count
+    add-t
+    loop-less
+    loop-again
+    returns)

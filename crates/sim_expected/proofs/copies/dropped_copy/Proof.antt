@@ -1,0 +1,28 @@
+use Rattle.sim_expected.proofs.Laws.{dropped-echo, dropped-original}
+use Rattle.sim_expected.proofs.Laws.{dropped-echo, dropped-original}
+use Rattle.sim_expected.proofs.Laws.{dropped-echo, dropped-original}
+use borrow.Author.Needs.{needs}
+use Rattle.sim_expected.proofs.copies.dropped_copy.Statement.{statement}
+use Rattle.sim_expected.proofs.copies.dropped_copy.Tie as tie
+
+found-requires : tie.Need-found-requires
+found-requires c κs = search needs
+
+same-length : tie.Need-same-length
+same-length c = search needs
+
+returns : tie.Need-returns
+returns c = dropped-echo _ _ _ (c .before .before .before .before .found .ensures) (c .if1 .taken)
+
+lost-requires : tie.Need-lost-requires
+lost-requires c κs = search needs
+
+same-length-2 : tie.Need-same-length-2
+same-length-2 c = search needs
+
+returns-2 : tie.Need-returns-2
+returns-2 c = dropped-original _ _ _ _ (c .before .before .before .before .before .before .before .before .found .ensures) (c .before .before .before .before .if1 .left) (c .before .before .lost .ensures)
+
+pub dropped-copy-spec : {M : Type 1} → statement M
+dropped-copy-spec =
+    tie.close (tie.spec found-requires same-length returns lost-requires same-length-2 returns-2)
