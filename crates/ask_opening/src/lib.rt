@@ -1,4 +1,5 @@
 // The opening's parameters and its questions: 1 (lengths of the lent tables), 2 (sizes and names), 3 (latency, fraction and rates), 5 (shard masks).
+#![tactic(auto)]
 ghost use Rattle.std.specs.Prelude.{◌≡◌, length};
 ghost use Rattle.link_latency.specs.Admitted.{latency_admitted, fraction_admitted, rate_admitted};
 ghost use Rattle.spec_network.specs.Lists.{every};
@@ -16,7 +17,7 @@ pub use sizes::table_sizes;
 
 // Nanoseconds, and five rates.
 #[repr(C)]
-#[derive(Drop)]
+#[derive(Clone, Copy)]
 pub struct NetworkConfig {
     pub latency: u64,
     pub jitter: f64,
@@ -28,7 +29,7 @@ pub struct NetworkConfig {
 
 // How many tills, types, classes and shards; seen slots a till, waiting slots and log slots.
 #[repr(C)]
-#[derive(Drop)]
+#[derive(Clone, Copy)]
 pub struct NetworkSizes {
     pub tills: u64,
     pub types: u64,
@@ -41,7 +42,7 @@ pub struct NetworkSizes {
 
 // A plan of regions, or none where `planned` is 0.
 #[repr(C)]
-#[derive(Drop)]
+#[derive(Clone, Copy)]
 pub struct RegionPlan {
     pub planned: u64,
     pub regions: u64,
@@ -49,7 +50,7 @@ pub struct RegionPlan {
 }
 
 // How many elements each table has that is lent.
-#[derive(Drop)]
+#[derive(Clone, Copy)]
 pub struct TableLengths {
     pub setup: u64,
     pub net: u64,
@@ -68,7 +69,7 @@ pub struct TableLengths {
 
 // The number of the question that refused the sizes, or 0; how many elements each table has that an opening wants lent.
 #[repr(C)]
-#[derive(Drop)]
+#[derive(Clone, Copy)]
 pub struct TableSizes {
     pub number: u64,
     pub setup: u64,

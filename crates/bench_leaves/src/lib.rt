@@ -1,13 +1,14 @@
 // The digest and the stream block as C functions, for the benchmark of these two leaves.
+#![tactic(auto)]
 ghost use Rattle.std.specs.Prelude.{◌≡◌, ◌++◌};
-ghost use Rattle.rand_chacha.specs.Chacha.{block_of};
+ghost use Rattle.rand_chacha8.specs.Chacha.{block_of};
 ghost use Rattle.hash_digest.specs.Blake3.{digest_of};
 ghost use Rattle.bench_leaves.specs.Leaves.{key_of};
 
 use hash_digest::{Hashed, digest_parts};
 
 #[repr(C)]
-#[derive(Drop)]
+#[derive(Clone, Copy)]
 pub struct Block {
     pub words: [u32; 16],
 }
@@ -25,6 +26,6 @@ pub extern "C" fn leaf_digest(head: &[u8], tail: &[u8]) -> Hashed
 pub extern "C" fn leaf_block(k: u32, n: u64) -> Block
     ensures { result.words ≡ block_of (key_of k) n }
 {
-    let words = rand_chacha::block([k; 8], n);
+    let words = rand_chacha8::block([k; 8], n);
     Block { words }
 }

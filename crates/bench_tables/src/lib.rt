@@ -1,5 +1,6 @@
 // The tables as C functions, for the benchmark: each tests what its table asks of lengths, counts and heads; where they do not fit it answers
 // number 1, and leaves every table as found.
+#![tactic(auto)]
 ghost use Rattle.std.specs.Prelude.{◌≡◌};
 ghost use Rattle.bench_tables.specs.Answers.{valued, not_fit, bit};
 
@@ -10,7 +11,7 @@ mod waiting;
 
 // 0, and the call's value; or 1, and value 0.
 #[repr(C)]
-#[derive(Drop)]
+#[derive(Clone, Copy)]
 pub struct Told {
     pub number: u64,
     pub value: u64,

@@ -1,4 +1,5 @@
 // Accept: the public call.
+#![tactic(auto)]
 ghost use Rattle.std.specs.Prelude.{◌≡◌};
 ghost use Rattle.spec_network.specs.Accept.{no_counts};
 ghost use Rattle.call_schedule.specs.Writing.{counts_of};
@@ -9,7 +10,7 @@ use call_schedule::Counts;
 
 // The number of the question that refused the call, or 0, and how many recipients went under each of the five.
 #[repr(C)]
-#[derive(Drop)]
+#[derive(Clone, Copy)]
 pub struct Accepted {
     pub number: u64,
     pub sent: u64,

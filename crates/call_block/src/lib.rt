@@ -1,4 +1,5 @@
 // The block calls on the network's tables: block, block_during, unblock, is_blocked.
+#![tactic(auto)]
 ghost use Rattle.call_block.specs.Calls.{DoesBlock, DoesBlockDuring, DoesUnblock, DoesIsBlocked};
 
 use call_reply::{Done, Value};

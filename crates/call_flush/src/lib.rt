@@ -1,4 +1,5 @@
 // The flush on the network's tables: questions 1, 7 and 14, then one pass over the due copies.
+#![tactic(auto)]
 ghost use Rattle.std.specs.Prelude.{◌≡◌, true, length};
 ghost use Rattle.spec_network.specs.Tables.{setup_width, net_width};
 ghost use Rattle.ask_tables.specs.Held.{setup_held, net_held};
@@ -8,7 +9,7 @@ use call_flush_pass::{Extents, Moved};
 
 // The number of the question that refused the flush, or 0; rows, those of them with a handler, and drops.
 #[repr(C)]
-#[derive(Drop)]
+#[derive(Clone, Copy)]
 pub struct Flushed {
     pub number: u64,
     pub rows: u64,

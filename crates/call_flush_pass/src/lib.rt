@@ -1,4 +1,5 @@
 // A flush's work once no question refused it: one pass over the due copies, which stand at the front of waiting. Each lands as a row, or is dropped.
+#![tactic(auto)]
 ghost use Rattle.std.specs.Prelude.{◌≡◌, ◌+◌, ◌*◌, ◌≤◌, ◌<◌, length};
 ghost use Rattle.table_shift.specs.Shift.{put_words};
 ghost use Rattle.table_waiting.specs.Waiting.{copies};
@@ -20,7 +21,7 @@ const GOSSIP: usize = table_waiting::WIDTH;
 const HOST: usize = table_waiting::WIDTH + 1;
 
 // What a flush goes by: tills, seen slots of each, log slots, and how many block windows stand.
-#[derive(Drop)]
+#[derive(Clone, Copy)]
 pub struct Extents {
     pub tills: usize,
     pub slots: usize,
@@ -29,14 +30,14 @@ pub struct Extents {
 }
 
 // Whether a gossip and a host handler take a row: 1 or 0.
-#[derive(Drop)]
+#[derive(Clone, Copy)]
 pub struct Taken {
     pub gossip: u64,
     pub host: u64,
 }
 
 // Rows, those of them with a handler, and drops.
-#[derive(Drop)]
+#[derive(Clone, Copy)]
 pub struct Moved {
     pub rows: usize,
     pub delivered: usize,

@@ -1,4 +1,5 @@
 // The log's calls on the network's tables: drain, and the tally of a class.
+#![tactic(auto)]
 ghost use Rattle.std.specs.Prelude.{◌≡◌, ◌≤◌, length};
 ghost use Rattle.table_log.specs.Log.{records_at, tallies_of};
 ghost use Rattle.call_log.specs.Call.{DoesDrain, DoesTally, log_lent, drain_number, tally_number, no_drain, no_tallies, tally_cells};
@@ -12,7 +13,7 @@ const TALLIES: usize = table_log::RECORDS - TALLY_CELLS;
 // The number of the question that refused the call, or 0; how many records were copied out, how many the capacity had forced out, and
 // the tallies: deliveries and bytes of class 0, of class 1, and so on.
 #[repr(C)]
-#[derive(Drop)]
+#[derive(Clone, Copy)]
 pub struct Drained {
     pub number: u64,
     pub records: u64,
@@ -22,7 +23,7 @@ pub struct Drained {
 
 // Deliveries and bytes of a class.
 #[repr(C)]
-#[derive(Drop)]
+#[derive(Clone, Copy)]
 pub struct Tallied {
     pub number: u64,
     pub deliveries: u64,

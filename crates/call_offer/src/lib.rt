@@ -1,4 +1,5 @@
 // What becomes of a message at one recipient: decided from the tables, which stay as they are.
+#![tactic(auto)]
 ghost use Rattle.std.specs.Prelude.{◌≡◌, false, List, ℕ, ◌+◌, ◌*◌, ◌^◌, ◌<◌, ◌≤◌, length};
 ghost use Rattle.rand_streams.specs.Streams.{Holds};
 ghost use Rattle.table_marks.specs.Marks.{found, ids_of};
@@ -21,7 +22,7 @@ use rand_streams::Cursor;
 use table_rings::Entry;
 
 // An entry with its id and its wire length.
-#[derive(Drop)]
+#[derive(Clone, Copy)]
 pub struct Outgoing {
     pub from: u64,
     pub now: u64,
@@ -35,7 +36,7 @@ pub struct Outgoing {
 }
 
 // A replay draw, and the entry that it picks from the ring.
-#[derive(Drop)]
+#[derive(Clone, Copy)]
 pub struct Replay {
     pub hit: bool,
     pub old: Entry,
@@ -43,14 +44,14 @@ pub struct Replay {
 }
 
 // Whether there is an echo, and its latency.
-#[derive(Drop)]
+#[derive(Clone, Copy)]
 pub struct Echo {
     pub some: bool,
     pub latency: u64,
 }
 
 // The echoes of a copy that is sent, and the link's word count after them.
-#[derive(Drop)]
+#[derive(Clone, Copy)]
 pub struct Echoes {
     pub duplicate: Echo,
     pub replay: Echo,
@@ -59,7 +60,7 @@ pub struct Echoes {
 }
 
 // A rule drops the message: word counts of the link and of the fault stream, and the rule's place.
-#[derive(Drop)]
+#[derive(Clone, Copy)]
 pub struct Faulted {
     pub words: u64,
     pub fault: u64,
@@ -67,7 +68,7 @@ pub struct Faulted {
 }
 
 // The original's latency, its echoes, and the fault stream's word count.
-#[derive(Drop)]
+#[derive(Clone, Copy)]
 pub struct Sending {
     pub latency: u64,
     pub echoes: Echoes,
@@ -75,7 +76,7 @@ pub struct Sending {
 }
 
 // What the rules say: whether one drops the message, its place, and the fault stream's word count.
-#[derive(Drop)]
+#[derive(Clone, Copy)]
 pub struct Ruling {
     pub drops: bool,
     pub place: usize,
@@ -83,7 +84,7 @@ pub struct Ruling {
 }
 
 // The first of the five that fits, with what it leaves to be written.
-#[derive(Drop)]
+#[derive(Clone, Copy)]
 pub enum Offer {
     Deduplicated,
     Partition,

@@ -1,16 +1,17 @@
 // The replies of the calls that answer at most one number: first the number of the question that refused the call, 0 where none did.
+#![tactic(auto)]
 ghost use Rattle.std.specs.Prelude.{◌≡◌};
 ghost use Rattle.call_reply.specs.Reply.{refused_by, answered_by};
 
 #[repr(C)]
-#[derive(Drop)]
+#[derive(Clone, Copy)]
 pub struct Done {
     pub number: u64,
 }
 
 // A number, and whether there is one (1 or 0).
 #[repr(C)]
-#[derive(Drop)]
+#[derive(Clone, Copy)]
 pub struct Value {
     pub number: u64,
     pub found: u64,

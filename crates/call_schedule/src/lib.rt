@@ -1,4 +1,5 @@
 // What an offer writes: word counts, the fired count, the mark, the copies and the ring. The decision is `call_offer`'s.
+#![tactic(auto)]
 ghost use Rattle.std.specs.Prelude.{◌≡◌, ◌+◌, ◌*◌, ◌<◌, ◌≤◌, length};
 ghost use Rattle.link_latency.specs.Latency.{longest};
 ghost use Rattle.spec_network.specs.Opening.{latest_now, most_types, link};
@@ -14,7 +15,7 @@ use table_rings::Entry;
 use table_waiting::Copy;
 
 // How many recipients went under each of the five.
-#[derive(Drop)]
+#[derive(Clone, Copy)]
 pub struct Counts {
     pub sent: u64,
     pub deduplicated: u64,

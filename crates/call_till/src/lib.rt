@@ -1,4 +1,5 @@
 // The calls on tills and marks: take_down, bring_up, set_handlers, is_down, marks_of.
+#![tactic(auto)]
 ghost use Rattle.std.specs.Prelude.{◌≡◌};
 ghost use Rattle.call_till.specs.Calls.{DoesTakeDown, DoesBringUp, DoesSetHandlers, DoesIsDown, DoesMarksOf};
 
@@ -6,7 +7,7 @@ use call_reply::{Done, Value};
 
 // How many marks a till has.
 #[repr(C)]
-#[derive(Drop)]
+#[derive(Clone, Copy)]
 pub struct Marks {
     pub number: u64,
     pub count: u64,

@@ -1,4 +1,5 @@
 // Readings of the waiting copies on the network's tables: how many originals go to a till, when the next is due, and all of them.
+#![tactic(auto)]
 ghost use Rattle.std.specs.Prelude.{◌≡◌, ◌*◌, ◌≤◌, length};
 ghost use Rattle.table_waiting.specs.Waiting.{width};
 ghost use Rattle.spec_network.specs.Lists.{bit};
@@ -10,7 +11,7 @@ use table_waiting::Copy;
 
 // The number of the question that refused the call, or 0; how many copies were copied out.
 #[repr(C)]
-#[derive(Drop)]
+#[derive(Clone, Copy)]
 pub struct Copied {
     pub number: u64,
     pub copies: u64,

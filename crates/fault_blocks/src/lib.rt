@@ -1,4 +1,5 @@
 // The blocks of a network: windows during which a directed pair of tills is cut, rows of a lent table.
+#![tactic(auto)]
 ghost use Rattle.std.specs.Prelude.{◌≡◌, ◌+◌, ◌*◌, ◌≤◌, ◌<◌, length};
 ghost use Rattle.fault_blocks.specs.Blocks.{block_width, block_slots, block_at, put_at, blocks_of, always, during, window_of, joins, stops, blocked, open_count, block_number, block_table, unblock_table};
 
@@ -10,7 +11,7 @@ pub const WIDTH: usize = 5;
 pub const SLOTS: usize = 256;
 
 // One window of a pair; bounded is 0 where it always holds.
-#[derive(Drop)]
+#[derive(Clone, Copy)]
 pub struct BlockWindow {
     pub from: u64,
     pub to: u64,

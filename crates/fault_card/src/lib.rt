@@ -1,18 +1,19 @@
 // Drop cards: one byte as bit map, then only the fields whose bit stands, lowest first, little-endian. Bit 6 closes the window and has no field.
+#![tactic(auto)]
 ghost use Rattle.std.specs.Prelude.{◌≡◌, ◌<◌, ◌≤◌, get_or};
 ghost use Rattle.fault_card.specs.Card.{longest, Within, le_at, size_of, places_of, field_of, spec_of, map_exact, card_of};
 
 use fault_rule::DropSpec;
 
 // What a card holds; one that is not exact is refused.
-#[derive(Drop)]
+#[derive(Clone, Copy)]
 pub enum Card {
     Exact(DropSpec),
     Inexact,
 }
 
 // Where each field of a card starts, and where the card ends.
-#[derive(Drop)]
+#[derive(Clone, Copy)]
 pub struct Places {
     pub kind: usize,
     pub from: usize,

@@ -17,7 +17,7 @@ use lib.Ieee.Fits.{down_pos}
 use lib.Ieee.Order.{le_of_values}
 use borrow.Author.Tests.{le-ltb, ne_eqb}
 use Rattle.math_word.specs.Word.{add32}
-use Rattle.rand_chacha.specs.Chacha.{word_at, block_of, sums, double_rounds, initial}
+use Rattle.rand_chacha8.specs.Chacha.{word_at, block_of, sums, double_rounds, initial}
 use Rattle.rand_streams.specs.Streams.{word_pair}
 use Rattle.math_float.specs.Float.{zero64, one64}
 use Rattle.rand_draw.specs.Fraction.{fraction, tiny53}

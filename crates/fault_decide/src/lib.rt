@@ -1,4 +1,5 @@
 // Which rule drops a message: the first, in install order, that applies and whose draw hits.
+#![tactic(auto)]
 ghost use Rattle.std.specs.Prelude.{◌≡◌, ◌+◌, ◌*◌, ◌≤◌, ◌<◌, ◌^◌, length, drop};
 ghost use Rattle.rand_streams.specs.Streams.{Holds};
 ghost use Rattle.fault_rule.specs.Rule.{rule_of, applies};
@@ -9,7 +10,7 @@ use fault_rule::{FaultAction, MessageContext};
 use rand_streams::Cursor;
 
 // Whether a message is dropped, by the rule at which place (their number where none does), and the fault stream after it.
-#[derive(Drop)]
+#[derive(Clone, Copy)]
 pub struct Verdict {
     pub drops: bool,
     pub place: usize,

@@ -1,4 +1,5 @@
 // A drop rule: which messages it is for, when it is active, and what it does.
+#![tactic(auto)]
 ghost use Rattle.std.specs.Prelude.{◌≡◌, ◌<◌};
 ghost use Rattle.fault_rule.specs.Rule.{has, filter_of, window_of, action_of, window_in, rule_of, holds, forward, passes, applies};
 
@@ -19,28 +20,28 @@ pub const WINDOW: u64 = 5;
 pub const CLOSED: u64 = 6;
 
 // A host, a type or a tier that a rule asks for.
-#[derive(Drop)]
+#[derive(Clone, Copy)]
 pub enum Filter {
     Any,
     Is(u64),
 }
 
 // When a rule or a block is active: always, from a start up to an end, or from a start to an end that is in it too.
-#[derive(Drop)]
+#[derive(Clone, Copy)]
 pub enum TimeWindow {
     Always,
     During { start: u64, end: u64 },
     Closed { start: u64, end: u64 },
 }
 
-#[derive(Drop)]
+#[derive(Clone, Copy)]
 pub enum FaultAction {
     Drop,
     DropWithProbability(f64),
 }
 
 // A drop card's map and fields, 0 where its bit does not stand; the probability is the bits of an f64.
-#[derive(Drop)]
+#[derive(Clone, Copy)]
 pub struct DropSpec {
     pub map: u64,
     pub kind: u64,
@@ -53,7 +54,7 @@ pub struct DropSpec {
 }
 
 // What a drop card means.
-#[derive(Drop)]
+#[derive(Clone, Copy)]
 pub struct Rule {
     pub kind: Filter,
     pub from: Filter,
@@ -64,7 +65,7 @@ pub struct Rule {
 }
 
 // A message at its dispatch, and the time. Tiers: gossip 0, notification 1, request 2, response 3.
-#[derive(Drop)]
+#[derive(Clone, Copy)]
 pub struct MessageContext {
     pub kind: u64,
     pub from: u64,

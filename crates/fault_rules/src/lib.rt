@@ -1,4 +1,5 @@
 // The drop rules of a network: rows of a lent table, in install order.
+#![tactic(auto)]
 ghost use Rattle.std.specs.Prelude.{◌≡◌, ◌+◌, ◌-◌, ◌*◌, ◌<◌, ◌≤◌, length};
 ghost use Rattle.table_shift.specs.Shift.{closed};
 ghost use Rattle.fault_rules.specs.Rules.{rule_width, rule_slots, rule_at, put_at, rules_of, index_of, reading_of, removed_of, install_number, install_table, remove_table, fire_table};
@@ -16,7 +17,7 @@ pub const SLOTS: usize = 64;
 pub const MOST: u64 = 4294967295;
 
 // A rule as its row holds it: its id, what its card said, and how often it fired.
-#[derive(Drop)]
+#[derive(Clone, Copy)]
 pub struct FaultRule {
     pub id: u64,
     pub spec: DropSpec,
@@ -24,14 +25,14 @@ pub struct FaultRule {
 }
 
 // Whether there is a rule with an id (1 or 0), and how often it fired.
-#[derive(Drop)]
+#[derive(Clone, Copy)]
 pub struct Reading {
     pub found: u64,
     pub fired: u64,
 }
 
 // What a removal answers: a reading of the rule before it went, and how many rules are left.
-#[derive(Drop)]
+#[derive(Clone, Copy)]
 pub struct Removed {
     pub found: u64,
     pub fired: u64,

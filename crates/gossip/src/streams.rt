@@ -5,7 +5,7 @@ ghost use Rattle.rand_streams.specs.Streams.{step_of};
 
 // Eight little-endian words of key, and how many words the stream has given.
 #[repr(C)]
-#[derive(Drop)]
+#[derive(Clone, Copy)]
 pub struct Stream {
     pub key: [u32; 8],
     pub count: u64,

@@ -1,5 +1,6 @@
 // BLAKE3's compression function. The state and the message are words by name, and each function is called in one place,
 // so that LLVM inlines the round and keeps the state in registers.
+#![tactic(auto)]
 ghost use Rattle.std.specs.Prelude.{◌≡◌, ◌<◌};
 ghost use Rattle.hash_compress.specs.Compress.{half_of, mix_of, round_of, permuted, rounds, initial, folded, compressed};
 ghost use Rattle.hash_compress.specs.Words.{list_of};
@@ -7,7 +8,7 @@ ghost use Rattle.hash_compress.specs.Words.{list_of};
 use math_word::{add, rotr, xor};
 
 // The four words that G mixes.
-#[derive(Drop)]
+#[derive(Clone, Copy)]
 pub struct Quad {
     pub a: u32,
     pub b: u32,
@@ -16,7 +17,7 @@ pub struct Quad {
 }
 
 // 16 words by name: the state, or a block's message.
-#[derive(Drop)]
+#[derive(Clone, Copy)]
 pub struct Words {
     pub w0: u32,
     pub w1: u32,

@@ -1,4 +1,5 @@
 // BLAKE3 of up to 65,700 bytes: the tree over the chunks, and the digest of one slice and of two parts in a row.
+#![tactic(auto)]
 ghost use Rattle.std.specs.Prelude.{◌≡◌, true, ◌++◌, ◌+◌, ◌-◌, ◌*◌, ◌^◌, ◌<◌, ◌≤◌, length, take, drop};
 ghost use Rattle.hash_lanes.specs.Lanes.{whole_of};
 ghost use Rattle.hash_digest.specs.Blake3.{tree, hash, longest, too_long, digest_of};
@@ -12,7 +13,7 @@ pub const LONGEST: usize = 65700;
 
 // A digest as 8 words, whose little-endian bytes are the 32 of the hash; or a number other than 0, and zeros.
 #[repr(C)]
-#[derive(Drop)]
+#[derive(Clone, Copy)]
 pub struct Hashed {
     pub number: u32,
     pub words: [u32; 8],

@@ -7,7 +7,7 @@ use hash_compress::{Quad, Words};
 use math_word::{add, rotr, xor};
 
 // The rows of a state: words 0 to 3, 4 to 7, 8 to 11, 12 to 15.
-#[derive(Drop)]
+#[derive(Clone, Copy)]
 pub struct Rows {
     pub a: Quad,
     pub b: Quad,

@@ -1,4 +1,5 @@
 // Where tills sit, the price of a link between two regions, drawn, and the time on the wire.
+#![tactic(auto)]
 ghost use Rattle.std.specs.Prelude.{◌≡◌, ◌+◌, ◌<◌, ◌≤◌, ◌^◌, length};
 ghost use Rattle.rand_streams.specs.Streams.{Holds, Moved};
 ghost use Rattle.math_word.specs.Word.{le8};
@@ -10,21 +11,21 @@ use rand_draw::range64;
 use rand_streams::Cursor;
 
 // What a delivery between two regions costs: latency before jitter, and bytes carried a second.
-#[derive(Drop)]
+#[derive(Clone, Copy)]
 pub struct Link {
     pub base: Time,
     pub rate: u64,
 }
 
 // A base and the time on the wire.
-#[derive(Drop)]
+#[derive(Clone, Copy)]
 pub struct Cost {
     pub base: Time,
     pub transmission: Time,
 }
 
 // The values that a link is drawn from: the least base in milliseconds and how many, the least rate and how many.
-#[derive(Drop)]
+#[derive(Clone, Copy)]
 pub struct Band {
     pub base: u64,
     pub bases: u64,
@@ -50,7 +51,7 @@ impl Band {
 }
 
 // A link, and the cursor past its two draws.
-#[derive(Drop)]
+#[derive(Clone, Copy)]
 pub struct Priced {
     pub link: Link,
     pub next: Cursor,

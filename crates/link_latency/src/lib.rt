@@ -1,4 +1,5 @@
 // The latency of one delivery, as `sample_latency`: jitter, floor, nanoseconds, transmission, spike.
+#![tactic(auto)]
 ghost use Rattle.std.specs.Prelude.{◌≡◌, ◌+◌, ◌<◌, ◌≤◌, ◌^◌};
 ghost use Rattle.rand_streams.specs.Streams.{Holds, Moved, word_pair};
 ghost use Rattle.math_time.specs.Seconds.{seconds};
@@ -10,7 +11,7 @@ use rand_draw::{DrawnReal, draw_real, hits};
 use rand_streams::Cursor;
 
 // A latency, and the cursor past its draws.
-#[derive(Drop)]
+#[derive(Clone, Copy)]
 pub struct Sample {
     pub latency: Time,
     pub next: Cursor,

@@ -1,11 +1,12 @@
 // The nanosecond time type, with its constants and constructors, in place of Duration.
+#![tactic(auto)]
 ghost use Rattle.std.specs.Prelude.{◌≡◌, ◌+◌, ◌*◌, ◌^◌, ◌≤◌, ◌<◌};
 ghost use Rattle.std.specs.Float.{binary64};
 ghost use Rattle.std.specs.Float.Ieee.{mul};
 ghost use Rattle.math_time.specs.Seconds as Seconds;
 
 // A time, or a length of time, in whole nanoseconds.
-#[derive(Drop)]
+#[derive(Clone, Copy)]
 pub struct Time {
     pub ns: u64,
 }

@@ -1,4 +1,5 @@
 // 32-bit words as BLAKE3 and ChaCha use them, little-endian reads, and the product of two 64-bit numbers as two halves.
+#![tactic(auto)]
 ghost use Rattle.std.specs.Prelude.{◌≡◌, ◌+◌, ◌*◌, ◌/◌, ◌%◌, ◌^◌, ◌<◌, ◌≤◌, length};
 ghost use Rattle.math_word.specs.Word.{add32, xor32, rotl32, rotr32, le_word};
 
@@ -57,7 +58,7 @@ pub fn low_half(x: u64) -> u64
 }
 
 // A number of 128 bits.
-#[derive(Drop)]
+#[derive(Clone, Copy)]
 pub struct Halves {
     pub high: u64,
     pub low: u64,

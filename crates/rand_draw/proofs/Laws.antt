@@ -6,7 +6,7 @@ use mathlib.Core.List.{List}
 use native.Mathlib.Omega.{arith}
 use native.Mathlib.Nat.{mul_comm, mul-le-mul, suc-mul, mul-le-mul_right, mul-lt-mul_of_pos_right, div-lt_iff_lt-mul, div-add-mod', lt_of_mul-lt-mul_right}
 use borrow.Author.Tests.{le-ltb, lt-ltb, le-leb, lt-leb}
-use Rattle.rand_chacha.specs.Chacha.{word_at}
+use Rattle.rand_chacha8.specs.Chacha.{word_at}
 use Rattle.rand_streams.specs.declared.Cursor.{Cursor}
 use Rattle.rand_streams.specs.Streams.{Moved, word_pair}
 use Rattle.rand_draw.specs.Draw.{choose, again, carries, whole_of, draws_of, whole64_at, words64_at, whole32_at, words32_at}

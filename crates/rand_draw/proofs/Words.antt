@@ -9,7 +9,7 @@ use lib.Dec.{T, lit<, ltb→lt}
 use lib.ListN.{get_or}
 use lib.Pow.{pow_pos}
 use Rattle.math_word.specs.Word.{add32}
-use Rattle.rand_chacha.specs.Chacha.{sums, double_rounds, initial, block_of, word_at}
+use Rattle.rand_chacha8.specs.Chacha.{sums, double_rounds, initial, block_of, word_at}
 use Rattle.rand_streams.specs.Streams.{word_pair}
 use Rattle.rand_draw.specs.Draw.{choose, again, carries, whole_of, whole64_at}
 use Rattle.rand_draw.proofs.Laws.{high_below, high_room}

@@ -1,6 +1,6 @@
 -- Document 01, draw rules: the whole range of n values, with draws of W bits.
 use Rattle.std.specs.Prelude.{ℕ, ◌+◌, ◌-◌, ◌*◌, ◌/◌, ◌%◌, ◌^◌, Bool, true, false, List, leb, ltb}
-use Rattle.rand_chacha.specs.Chacha.{word_at}
+use Rattle.rand_chacha8.specs.Chacha.{word_at}
 use Rattle.rand_streams.specs.Streams.{word_pair}
 
 abbrev pub choose : Bool → ℕ → ℕ → ℕ

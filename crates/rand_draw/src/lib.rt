@@ -1,4 +1,5 @@
 // The draw rules over a stream's cursor: fraction, real range, hit against a rate, whole range of n values.
+#![tactic(auto)]
 ghost use Rattle.std.specs.Prelude.{◌≡◌, ◌+◌, ◌*◌, ◌<◌, ◌≤◌, ◌^◌};
 ghost use Rattle.rand_streams.specs.Streams.{Holds, Moved};
 ghost use Rattle.rand_draw.specs.Fraction as Fraction;
@@ -9,14 +10,14 @@ use math_word::{low_half, product};
 use rand_streams::{Cursor, Drawn32, Drawn64, draw32, draw64};
 
 // A real number, and the cursor past its draw.
-#[derive(Drop)]
+#[derive(Clone, Copy)]
 pub struct DrawnReal {
     pub value: f64,
     pub next: Cursor,
 }
 
 // Whether a rate was hit, and the cursor past the draw, if one was made. The cursor stands first: LLVM copies it whole.
-#[derive(Drop)]
+#[derive(Clone, Copy)]
 pub struct Hit {
     pub next: Cursor,
     pub hit: bool,

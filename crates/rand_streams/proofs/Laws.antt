@@ -4,7 +4,7 @@ use mathlib.Core.Path.{◌≡◌, ap, ap₂, sym, ◌∙◌}
 use mathlib.Core.List.{List}
 use lib.ListN.{get_or}
 use native.Mathlib.Omega.{arith}
-use Rattle.rand_chacha.specs.Chacha.{word_at, block_of}
+use Rattle.rand_chacha8.specs.Chacha.{word_at, block_of}
 use Rattle.rand_streams.specs.declared.Cursor.{Cursor}
 use Rattle.rand_streams.specs.Streams.{Holds, Moved, keeps_block, word_pair, step_of}
 use Rattle.rand_streams.specs.declared.Step.{Step}

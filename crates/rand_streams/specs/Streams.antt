@@ -1,6 +1,6 @@
 -- Document 01, link streams: a stream read through a cursor: what the cursor keeps, and how a draw moves it.
 use Rattle.std.specs.Prelude.{ℕ, ◌+◌, ◌*◌, ◌/◌, ◌^◌, ◌≡◌, List, Bool, true, false, ltb}
-use Rattle.rand_chacha.specs.Chacha.{word_at, block_of}
+use Rattle.rand_chacha8.specs.Chacha.{word_at, block_of}
 use Rattle.rand_streams.specs.declared.Cursor.{Cursor}
 use Rattle.rand_streams.specs.declared.Step.{Step}
 

@@ -1,16 +1,17 @@
 // A stream of 32-bit words, read through a cursor by value that keeps the ChaCha block it last read.
+#![tactic(auto)]
 mod link;
 
 ghost use Rattle.std.specs.Prelude.{◌≡◌, true, ◌+◌, ◌*◌, ◌/◌, ◌%◌, ◌<◌, ◌^◌};
-ghost use Rattle.rand_chacha.specs.Chacha.{word_at, block_of};
+ghost use Rattle.rand_chacha8.specs.Chacha.{word_at, block_of};
 ghost use Rattle.rand_streams.specs.Streams.{Holds, Moved, word_pair, keeps_block, step_of};
 
 pub use link::link_key;
-use rand_chacha::split;
+use rand_chacha8::split;
 
 // Where a stream stands: its key, the words it has given, and the block it last read.
 // `held` is that block's number plus 1, or 0 where no block has been read.
-#[derive(Drop)]
+#[derive(Clone, Copy)]
 pub struct Cursor {
     pub key: [u32; 8],
     pub count: u64,
@@ -19,14 +20,14 @@ pub struct Cursor {
 }
 
 // A word, and the cursor past it.
-#[derive(Drop)]
+#[derive(Clone, Copy)]
 pub struct Drawn32 {
     pub value: u32,
     pub next: Cursor,
 }
 
 // A 64-bit draw, and the cursor past it.
-#[derive(Drop)]
+#[derive(Clone, Copy)]
 pub struct Drawn64 {
     pub value: u64,
     pub next: Cursor,
@@ -60,7 +61,7 @@ fn loaded(c: Cursor) -> Cursor
     let spot = split(count);
     let n = spot.block;
     let key = c.key;
-    let block = rand_chacha::block(key, n);
+    let block = rand_chacha8::block(key, n);
     Cursor {
         key,
         count,
@@ -155,7 +156,7 @@ pub fn draw64(c: Cursor) -> Drawn64
 }
 
 // A 64-bit draw, and the count of words after it.
-#[derive(Drop)]
+#[derive(Clone, Copy)]
 pub struct Step {
     pub value: u64,
     pub count: u64,

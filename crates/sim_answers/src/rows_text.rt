@@ -132,7 +132,7 @@ fn is_same(xs: &[u64], a: usize, ys: &[u64], b: usize) -> bool {
 }
 
 // How much of the text counts, and the next row.
-#[derive(Drop)]
+#[derive(Clone, Copy)]
 struct Line {
     used: usize,
     row: usize,

@@ -1,4 +1,5 @@
 // A difference between a recorded answer and the book's, printed: the call by its line and its words, then what differs, word by word.
+#![tactic(auto)]
 use sim_audit_account::{DIFFER, SHOWN, get};
 use sim_spelling::words::{find, next_word, part, same};
 
@@ -156,7 +157,7 @@ fn value(paper: &mut [u8], used: usize, w: &[u8]) -> usize {
 }
 
 // Where the reading of two lines stands: how much of the page counts, the places behind the words so far, how many they are, how many were printed.
-#[derive(Drop)]
+#[derive(Clone, Copy)]
 struct Place {
     used: usize,
     a: usize,

@@ -1,4 +1,5 @@
 // An audit: the calls of a recorded run are played on a network of its own, and every recorded answer is compared with the book's.
+#![tactic(auto)]
 use sim_session::{input, lines};
 
 // No run has more lines.
@@ -116,9 +117,9 @@ fn on_tables(from: i32) {
 
 // The line above the page of a file's recording.
 fn headed(name: &[u8]) {
-    io::write_all(libc::STDOUT_FILENO, b"AUDIT OF ");
-    io::write_all(libc::STDOUT_FILENO, name);
-    io::write_all(libc::STDOUT_FILENO, b"\n");
+    io::write_all(sim_printer::STDOUT, b"AUDIT OF ");
+    io::write_all(sim_printer::STDOUT, name);
+    io::write_all(sim_printer::STDOUT, b"\n");
 }
 
 // The audit of the recording that a file has. A file that does not open is told on standard error.

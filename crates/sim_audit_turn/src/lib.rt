@@ -1,4 +1,5 @@
 // The next line of a recorded run: an answer is compared with the book's, a call is read and, behind this, played.
+#![tactic(auto)]
 use sim_audit_account::{LENGTH, SHOWN, TEXT, put};
 use sim_audit_lines::{ANSWER, CALL};
 use sim_session::input::Input;

@@ -1,4 +1,5 @@
 // What the checklist compares with what, from the figures of a run, and how many comparisons differ.
+#![tactic(auto)]
 ghost use Rattle.std.specs.Prelude.{◌≡◌, ◌+◌, ◌-◌, ◌≤◌};
 ghost use Rattle.sim_comparison.specs.Compared as is;
 
@@ -9,7 +10,7 @@ use sim_figures::{
 };
 
 // Two figures that should be the same.
-#[derive(Drop)]
+#[derive(Clone, Copy)]
 pub struct Pair {
     pub left: u64,
     pub right: u64,

@@ -7,7 +7,7 @@ use sim_script::calls;
 const WORDS_SPENT: u64 = 8;
 
 // A draw, and the stream's count behind it.
-#[derive(Drop)]
+#[derive(Clone, Copy)]
 struct Drawn {
     value: u64,
     count: u64,

@@ -196,7 +196,7 @@ fn cost(setup: &[u64], prices: &[u64], from: u64, to: u64, bytes: u64) -> Cost {
 }
 
 // A latency in nanoseconds, and the stream's count behind it.
-#[derive(Drop)]
+#[derive(Clone, Copy)]
 pub struct Delay {
     pub ns: u64,
     pub count: u64,
@@ -318,7 +318,7 @@ fn should_refusal(v: [u64; 8], tills: u64, count: u64) -> u64 {
 }
 
 // Whether a loss draw hits, and the count behind it.
-#[derive(Drop)]
+#[derive(Clone, Copy)]
 struct Loss {
     hit: bool,
     count: u64,

@@ -1,4 +1,5 @@
 // Front parts of tables, to lend, and a text put to the front of a buffer.
+#![tactic(auto)]
 ghost use Rattle.std.specs.Prelude.{◌≡◌, take};
 
 // The first n words, or all where there are fewer.

@@ -1,4 +1,5 @@
 // A script that the program carries: the scenario `morning`, put here by scenarios/make.py.
+#![tactic(auto)]
 
 // The script, to the front of the buffer; how many bytes it has.
 pub fn script(buf: &mut [u8]) -> usize {

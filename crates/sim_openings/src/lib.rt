@@ -1,4 +1,5 @@
 // The fields of an opening: `key=value` words in any order, each one time.
+#![tactic(auto)]
 ghost use Rattle.std.specs.Prelude.{◌≤◌};
 
 use sim_spelling::Number;
@@ -7,7 +8,7 @@ use sim_spelling::numbers::{bad, bits, decimal, good, hex};
 use sim_spelling::words::{Span, find, next_word, part, same};
 
 // The numbers of an opening. Rates are bits; `own` is 1 where the fault stream's key is given, 0 for `auto`.
-#[derive(Drop)]
+#[derive(Clone, Copy)]
 pub struct Opening {
     pub good: bool,
     pub tills: u64,
@@ -30,7 +31,7 @@ pub struct Opening {
 }
 
 // Where the shard keys and the fault stream's key stand behind the names, and the places of each.
-#[derive(Drop)]
+#[derive(Clone, Copy)]
 pub struct Layout {
     pub name: usize,
     pub shard: usize,
@@ -257,7 +258,7 @@ fn less(n: usize) -> usize {
 }
 
 // A plan of regions: `none`, or a number and a seed.
-#[derive(Drop)]
+#[derive(Clone, Copy)]
 struct Planned {
     good: bool,
     planned: u64,
@@ -371,7 +372,7 @@ fn numbers(s: &[u8], other: u64) -> Opening {
 }
 
 // The types and the shards of a line.
-#[derive(Drop)]
+#[derive(Clone, Copy)]
 struct Listed {
     good: bool,
     types: u64,

@@ -1,11 +1,12 @@
 // What became of a script's line.
+#![tactic(auto)]
 
 // The number of a bad line.
 pub const BAD: u64 = 255;
 
 // How much of the text counts; 0 for an accepted call, else the number of the question that refused it, or BAD; and the call's counts:
 // accept's five (sent, deduplicated, partition, loss, fault), a flush's rows, delivered, dropped and due, a drain's records and forced.
-#[derive(Drop)]
+#[derive(Clone, Copy)]
 pub struct Outcome {
     pub used: usize,
     pub number: u64,

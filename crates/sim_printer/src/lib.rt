@@ -1,7 +1,11 @@
 // Text for standard output, gathered in a lent buffer and written when that is full. Each call takes how many of the buffer's
 // bytes count and answers how many count then; more than the buffer has counts as full.
+#![tactic(auto)]
 ghost use Rattle.std.specs.Prelude.{◌≡◌, ◌-◌, min, max};
 ghost use Rattle.sim_printer.specs.Printer.{page, more, gathered, blanks, Spelled};
+
+// The descriptor of standard output.
+pub const STDOUT: i32 = 1;
 
 // One byte more.
 fn byte(buf: &mut [u8], used: usize, b: u8) -> usize
@@ -12,12 +16,12 @@ fn byte(buf: &mut [u8], used: usize, b: u8) -> usize
         return used + 1;
     }
     if 0 < buf.len() {
-        io::write_all(libc::STDOUT_FILENO, buf);
+        io::write_all(STDOUT, buf);
         buf[0] = b;
         return 1;
     }
     let one = [b; 1];
-    io::write_all(libc::STDOUT_FILENO, &one);
+    io::write_all(STDOUT, &one);
     0
 }
 
@@ -85,9 +89,9 @@ pub fn finish(buf: &mut [u8], used: usize) -> usize
     ensures { page buf.new result ≡ page buf.old 0 }
 {
     if used < buf.len() {
-        io::write_all(libc::STDOUT_FILENO, &buf[0..used]);
+        io::write_all(STDOUT, &buf[0..used]);
         return 0;
     }
-    io::write_all(libc::STDOUT_FILENO, buf);
+    io::write_all(STDOUT, buf);
     0
 }

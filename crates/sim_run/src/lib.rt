@@ -1,5 +1,6 @@
 // Runs of scripts on networks: a script is read line by line, and every answer goes to standard output; what the words behind a program's
 // name ask for. The programs over it are `simulate` and `simulate_scenarios`.
+#![tactic(auto)]
 use sim_openings::Opening;
 use sim_run_parts::{CHECKLIST, MORNING};
 use sim_script::calls;

@@ -1,4 +1,5 @@
 // The parts of a run beside its calls: the words behind the program's name, where the lines come from, an opening, the end.
+#![tactic(auto)]
 use sim_openings::Opening;
 use sim_session::lines::Session;
 use sim_session::{input, lines, opens};
@@ -41,9 +42,9 @@ pub fn names_files(asked: u64, words: usize) -> bool {
 
 // The line above the answers to a file's script.
 pub fn headed(name: &[u8]) {
-    io::write_all(libc::STDOUT_FILENO, b"RUN OF ");
-    io::write_all(libc::STDOUT_FILENO, name);
-    io::write_all(libc::STDOUT_FILENO, b"\n");
+    io::write_all(sim_printer::STDOUT, b"RUN OF ");
+    io::write_all(sim_printer::STDOUT, name);
+    io::write_all(sim_printer::STDOUT, b"\n");
 }
 
 // Where the lines come from: what the descriptor reads, or the morning that the program carries.

@@ -108,14 +108,14 @@ pub const DRAW_WHOLE: u64 = 49;
 pub const DRAW_INDEX: u64 = 50;
 
 // A call, and the place behind the words that name it.
-#[derive(Drop)]
+#[derive(Clone, Copy)]
 pub struct Call {
     pub which: u64,
     pub at: usize,
 }
 
 // The words of a call, read: eight at most, and whether all are there, each is sound and none is left.
-#[derive(Drop)]
+#[derive(Clone, Copy)]
 pub struct Args {
     pub good: bool,
     pub v: [u64; 8],
@@ -397,7 +397,7 @@ fn value(kind: u8, w: &[u8], room: &mut [u8]) -> Number {
 }
 
 // A word read, and the place behind it.
-#[derive(Drop)]
+#[derive(Clone, Copy)]
 struct Taken {
     good: bool,
     value: u64,

@@ -2,7 +2,7 @@
 
 // Where the reading stands: the piece's bytes from `at` up to `end` are still to come; the line has n bytes so far; more than its buffer
 // holds and it is too long; the input has ended. `from` is the descriptor; a carried script stands in the first piece whole, and is read from nowhere.
-#[derive(Drop)]
+#[derive(Clone, Copy)]
 pub struct Input {
     pub at: usize,
     pub end: usize,

@@ -8,7 +8,7 @@ use sim_outcome::Outcome;
 use sim_script::calls;
 
 // A call with its words. NONE is a bad line, SKIPPED a blank one or a remark.
-#[derive(Drop)]
+#[derive(Clone, Copy)]
 pub struct Parsed {
     pub which: u64,
     pub v: [u64; 8],
@@ -17,7 +17,7 @@ pub struct Parsed {
 pub const SKIPPED: u64 = 254;
 
 // What a run carries from line to line: the lines so far, how much of the text counts, whether a network is open, and the clock.
-#[derive(Drop)]
+#[derive(Clone, Copy)]
 pub struct Session {
     pub lines: u64,
     pub used: usize,

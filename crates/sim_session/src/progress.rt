@@ -7,7 +7,7 @@ const LINES: u64 = 4096;
 const SECONDS: u64 = 2;
 
 // The second of the last look, and how many seconds have gone by in which there was one.
-#[derive(Drop)]
+#[derive(Clone, Copy)]
 pub struct Clock {
     pub second: i64,
     pub ticks: u64,

@@ -5,7 +5,7 @@ use crate::{input, lines, opens};
 use sim_openings::Opening;
 
 // Where the input and the run stand behind a line, its words, and its fields where it is an opening.
-#[derive(Drop)]
+#[derive(Clone, Copy)]
 pub struct Turn {
     pub input: Input,
     pub session: Session,

@@ -1,4 +1,5 @@
 // Runs scripts of calls on networks, and audits recorded runs: what the words behind the program's name ask for. README.md says more.
+#![tactic(auto)]
 fn main() {
     if sim_audit_run::is_asked() {
         sim_audit_run::words();

@@ -1,4 +1,5 @@
 // The program `simulate` over recorded runs: the audit of every recording of `data`.
+#![tactic(auto)]
 fn main() {
     sim_audit_run::words()
 }

@@ -20,7 +20,7 @@ use Rattle.rand_streams.specs.Link as link
 use Rattle.link_geography.specs.Bytes as bytes
 use Rattle.spec_network.specs.Real as real
 use Rattle.spec_network.specs.Accept as accepting
-use Rattle.rand_chacha.specs.Chacha as chacha
+use Rattle.rand_chacha8.specs.Chacha as chacha
 use Rattle.rand_streams.specs.Streams as streams
 use Rattle.math_word.specs.Word as word
 use Rattle.rand_draw.specs.Draw as drawing

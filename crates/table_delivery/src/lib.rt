@@ -1,4 +1,5 @@
 // A delivery, `DeliveryRecord` of the Rust, as a row of eight words: read from a table, and stored there.
+#![tactic(auto)]
 ghost use Rattle.std.specs.Prelude.{◌≡◌, ◌+◌, ◌≤◌, length, drop};
 ghost use Rattle.table_shift.specs.Shift.{put_words};
 ghost use Rattle.table_delivery.specs.Delivery.{width, read, words};
@@ -7,7 +8,7 @@ ghost use Rattle.table_delivery.specs.Delivery.{width, read, words};
 pub const WIDTH: usize = 8;
 
 // `kind` is the message type, `sent` is sent_at, `time` is delivered_at, `scope` the shard or the number for global.
-#[derive(Drop)]
+#[derive(Clone, Copy)]
 pub struct Delivery {
     pub from: u64,
     pub to: u64,

@@ -1,4 +1,5 @@
 // The delivery log in one table: count and first slot of its ring, records forced out, tallies of each class, then the records.
+#![tactic(auto)]
 ghost use Rattle.std.specs.Prelude.{◌≡◌, ◌+◌, ◌*◌, ◌<◌, ◌≤◌, length, if◌then◌else◌, slice_index};
 ghost use Rattle.table_delivery.specs.Delivery as delivery;
 ghost use Rattle.table_rows.specs.Table.{over};
@@ -20,7 +21,7 @@ const CLASSES: u64 = 8;
 pub const MOST: usize = 4096;
 
 // Deliveries and bytes of a class.
-#[derive(Drop)]
+#[derive(Clone, Copy)]
 pub struct Tally {
     pub deliveries: u64,
     pub bytes: u64,

@@ -1,5 +1,6 @@
 // The rings of carried messages: one for each type and scope, 64 entries each, the oldest given up first.
 // In one table stand the heads (count, first slot) of all rings, then their entries.
+#![tactic(auto)]
 ghost use Rattle.std.specs.Prelude.{◌≡◌, ◌+◌, ◌*◌, ◌≤◌, ◌<◌, length, get_or, drop};
 ghost use Rattle.table_shift.specs.Shift.{put_words};
 ghost use Rattle.table_ring.specs.Ring.{sound_at};
@@ -22,7 +23,7 @@ pub const SIZE: usize = HEAD + SPAN;
 pub const SCOPES: usize = 17;
 
 // A message that a ring keeps.
-#[derive(Drop)]
+#[derive(Clone, Copy)]
 pub struct Entry {
     pub class: u64,
     pub wire: u64,

@@ -1,4 +1,5 @@
 // Question 1's range tests: one pass over the rows in use of waiting, rings and log, and over a column of counts.
+#![tactic(auto)]
 ghost use Rattle.std.specs.Prelude.{◌≡◌, ◌+◌, ◌*◌, ◌≤◌, length, drop};
 ghost use Rattle.table_rows.specs.Rows.{all_of};
 ghost use Rattle.table_rows.specs.Table.{rows_of};
@@ -13,7 +14,7 @@ use table_delivery::Delivery;
 use table_rings::Entry;
 
 // The opening's numbers: tills, types, classes; the longest wire.
-#[derive(Drop)]
+#[derive(Clone, Copy)]
 pub struct Limits {
     pub hosts: u64,
     pub kinds: u64,

@@ -1,4 +1,5 @@
 // Waiting copies: rows in the order of time, then sequence. A copy goes in at its place, found from the back; the due ones are a front part.
+#![tactic(auto)]
 ghost use Rattle.std.specs.Prelude.{◌≡◌, ◌+◌, ◌*◌, ◌≤◌, length, drop};
 ghost use Rattle.table_shift.specs.Shift.{put_words, opened};
 ghost use Rattle.table_rows.specs.Lists.{front};
@@ -11,7 +12,7 @@ use table_delivery::Delivery;
 pub const WIDTH: usize = table_delivery::WIDTH + 4;
 
 // `original` is 1 where the copy has an id, else 0.
-#[derive(Drop)]
+#[derive(Clone, Copy)]
 pub struct Copy {
     pub delivery: Delivery,
     pub sequence: u64,

@@ -1,12 +1,15 @@
 // Vectors from outside: BLAKE3 digests, ChaCha8 words, 64-bit draws and link keys. The file stdout holds the answers of
 // b3sum, of a published table and of Debian's rand_chacha; README.md beside this folder says how each was made.
+#![tactic(auto)]
 ghost use Rattle.std.specs.Prelude.{◌+◌, ◌<◌, ◌≤◌, ◌^◌};
 ghost use Rattle.rand_streams.specs.Streams.{Holds};
 
 use hash_digest::{Hashed, digest, digest_parts};
-use libc::STDOUT_FILENO;
 use math_parts::{back, front};
 use rand_streams::{Cursor, at, draw64, link_key};
+
+// The descriptor of standard output.
+const STDOUT_FILENO: i32 = 1;
 
 const LENGTHS: [usize; 48] = [
     0, 1, 2, 3, 4, 5, 20, 63, 64, 65, 127, 128, 129, 256, 511, 512, 1022, 1023, 1024, 1025, 1026,
@@ -178,7 +181,7 @@ fn words(i: usize) {
         number(i as u64);
         number(count);
         say(b" ");
-        io::print_hex(STDOUT_FILENO, rand_chacha::word(key_of(i), count) as u64, 8);
+        io::print_hex(STDOUT_FILENO, rand_chacha8::word(key_of(i), count) as u64, 8);
         say(b"\n");
         k += 1;
     }

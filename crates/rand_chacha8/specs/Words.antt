@@ -1,6 +1,6 @@
 -- D. J. Bernstein, "ChaCha, a variant of Salsa20": the 16 words of the matrix, in order.
 use Rattle.std.specs.Prelude.{ℕ, List, [], ◌∷◌}
-use Rattle.rand_chacha.specs.declared.Words.{Words}
+use Rattle.rand_chacha8.specs.declared.Words.{Words}
 
 unfoldable pub list_of : Words → List ℕ
 list_of w =

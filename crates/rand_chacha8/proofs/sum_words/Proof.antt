@@ -1,9 +1,9 @@
 use Rattle.math_word.proofs.Lists.{list16}
-use Rattle.rand_chacha.specs.Chacha.{sums}
-use Rattle.rand_chacha.specs.Words.{list_of}
+use Rattle.rand_chacha8.specs.Chacha.{sums}
+use Rattle.rand_chacha8.specs.Words.{list_of}
 use borrow.Author.Rules.{rules}
-use Rattle.rand_chacha.proofs.sum_words.Statement.{statement}
-use Rattle.rand_chacha.proofs.sum_words.Tie as tie
+use Rattle.rand_chacha8.proofs.sum_words.Statement.{statement}
+use Rattle.rand_chacha8.proofs.sum_words.Tie as tie
 
 add-requires : tie.Need-add-requires
 add-requires c κs = search rules

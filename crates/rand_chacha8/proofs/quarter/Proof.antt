@@ -1,7 +1,7 @@
-use Rattle.rand_chacha.specs.Chacha.{quarter_of}
+use Rattle.rand_chacha8.specs.Chacha.{quarter_of}
 use borrow.Author.Rules.{rules}
-use Rattle.rand_chacha.proofs.quarter.Statement.{statement}
-use Rattle.rand_chacha.proofs.quarter.Tie as tie
+use Rattle.rand_chacha8.proofs.quarter.Statement.{statement}
+use Rattle.rand_chacha8.proofs.quarter.Tie as tie
 
 half-requires : tie.Need-half-requires
 half-requires c κs = search rules

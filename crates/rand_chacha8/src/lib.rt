@@ -1,13 +1,14 @@
 // ChaCha with eight rounds: a stream's block of 16 words. The state is words by name, and the double round is called in
 // one place, so that LLVM inlines it and keeps the state in registers.
+#![tactic(auto)]
 ghost use Rattle.std.specs.Prelude.{◌≡◌, ◌/◌, ◌%◌, ◌<◌};
-ghost use Rattle.rand_chacha.specs.Chacha.{half_of, quarter_of, columns, diagonals, double_rounds, initial, sums, block_of, word_at};
-ghost use Rattle.rand_chacha.specs.Words.{list_of};
+ghost use Rattle.rand_chacha8.specs.Chacha.{half_of, quarter_of, columns, diagonals, double_rounds, initial, sums, block_of, word_at};
+ghost use Rattle.rand_chacha8.specs.Words.{list_of};
 
 use math_word::{add, low_half, rotl, xor};
 
 // The four words of a quarter-round.
-#[derive(Drop)]
+#[derive(Clone, Copy)]
 pub struct Quad {
     pub a: u32,
     pub b: u32,
@@ -16,7 +17,7 @@ pub struct Quad {
 }
 
 // The 16 words of the matrix by name.
-#[derive(Drop)]
+#[derive(Clone, Copy)]
 pub struct Words {
     pub w0: u32,
     pub w1: u32,
@@ -159,7 +160,7 @@ pub fn block(key: [u32; 8], n: u64) -> [u32; 16]
 }
 
 // Where a count falls: the number of its block, and its place there.
-#[derive(Drop)]
+#[derive(Clone, Copy)]
 pub struct Spot {
     pub block: u64,
     pub place: usize,

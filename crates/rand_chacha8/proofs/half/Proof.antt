@@ -1,7 +1,7 @@
 use borrow.Author.Rules.{rules}
-use Rattle.rand_chacha.specs.Chacha.{half_of}
-use Rattle.rand_chacha.proofs.half.Statement.{statement}
-use Rattle.rand_chacha.proofs.half.Tie as tie
+use Rattle.rand_chacha8.specs.Chacha.{half_of}
+use Rattle.rand_chacha8.proofs.half.Statement.{statement}
+use Rattle.rand_chacha8.proofs.half.Tie as tie
 
 add-requires : tie.Need-add-requires
 add-requires c κs = search rules

@@ -1,8 +1,8 @@
 use native.Mathlib.Omega.{arith}
-use Rattle.rand_chacha.proofs.Laws.{word_of}
+use Rattle.rand_chacha8.proofs.Laws.{word_of}
 use borrow.Author.Rules.{rules}
-use Rattle.rand_chacha.proofs.word.Statement.{statement}
-use Rattle.rand_chacha.proofs.word.Tie as tie
+use Rattle.rand_chacha8.proofs.word.Statement.{statement}
+use Rattle.rand_chacha8.proofs.word.Tie as tie
 
 split-requires : tie.Need-split-requires
 split-requires c κs = search rules

@@ -1,8 +1,8 @@
-use Rattle.rand_chacha.proofs.Laws.{block_made}
-use Rattle.rand_chacha.specs.Words.{list_of}
+use Rattle.rand_chacha8.proofs.Laws.{block_made}
+use Rattle.rand_chacha8.specs.Words.{list_of}
 use borrow.Author.Rules.{rules}
-use Rattle.rand_chacha.proofs.block.Statement.{statement}
-use Rattle.rand_chacha.proofs.block.Tie as tie
+use Rattle.rand_chacha8.proofs.block.Statement.{statement}
+use Rattle.rand_chacha8.proofs.block.Tie as tie
 
 start-requires : tie.Need-start-requires
 start-requires c κs = search rules

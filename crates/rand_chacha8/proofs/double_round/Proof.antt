@@ -1,8 +1,8 @@
-use Rattle.rand_chacha.proofs.Laws.{double_made, laid}
-use Rattle.rand_chacha.specs.Words.{list_of}
+use Rattle.rand_chacha8.proofs.Laws.{double_made, laid}
+use Rattle.rand_chacha8.specs.Words.{list_of}
 use borrow.Author.Rules.{rules}
-use Rattle.rand_chacha.proofs.double_round.Statement.{statement}
-use Rattle.rand_chacha.proofs.double_round.Tie as tie
+use Rattle.rand_chacha8.proofs.double_round.Statement.{statement}
+use Rattle.rand_chacha8.proofs.double_round.Tie as tie
 
 quarter-requires : tie.Need-quarter-requires
 quarter-requires c κs = search rules

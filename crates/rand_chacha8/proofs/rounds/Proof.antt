@@ -1,12 +1,12 @@
 use native.Mathlib.Omega.{arith}
 use borrow.Author.Rules.{rules}
-use Rattle.rand_chacha.proofs.Laws.{rounds_turn, rounds_done}
-use Rattle.rand_chacha.specs.Chacha.{double_rounds}
-use Rattle.rand_chacha.specs.Words.{list_of}
+use Rattle.rand_chacha8.proofs.Laws.{rounds_turn, rounds_done}
+use Rattle.rand_chacha8.specs.Chacha.{double_rounds}
+use Rattle.rand_chacha8.specs.Words.{list_of}
 use mathlib.Core.Path.{◌≡◌, refl}
 use Prim.Native.Nat.{◌≤◌, ◌-◌}
-use Rattle.rand_chacha.proofs.rounds.Statement.{statement}
-use Rattle.rand_chacha.proofs.rounds.Tie as tie
+use Rattle.rand_chacha8.proofs.rounds.Statement.{statement}
+use Rattle.rand_chacha8.proofs.rounds.Tie as tie
 
 abbrev invariant-loop : tie.invariant-loop
 invariant-loop state₀ i₀ state i = (i ≤ 4) × (list_of state ≡ double_rounds i (list_of state₀))

@@ -1,8 +1,8 @@
-use Rattle.rand_chacha.specs.Chacha.{initial}
-use Rattle.rand_chacha.specs.Words.{list_of}
+use Rattle.rand_chacha8.specs.Chacha.{initial}
+use Rattle.rand_chacha8.specs.Words.{list_of}
 use borrow.Author.Rules.{rules}
-use Rattle.rand_chacha.proofs.start.Statement.{statement}
-use Rattle.rand_chacha.proofs.start.Tie as tie
+use Rattle.rand_chacha8.proofs.start.Statement.{statement}
+use Rattle.rand_chacha8.proofs.start.Tie as tie
 
 low-half-requires : tie.Need-low-half-requires
 low-half-requires c κs = search rules

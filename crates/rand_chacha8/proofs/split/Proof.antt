@@ -1,7 +1,7 @@
 use mathlib.Core.Path.{refl}
 use lib.Bits.{and_mask}
-use Rattle.rand_chacha.proofs.split.Statement.{statement}
-use Rattle.rand_chacha.proofs.split.Tie as tie
+use Rattle.rand_chacha8.proofs.split.Statement.{statement}
+use Rattle.rand_chacha8.proofs.split.Tie as tie
 
 returns : tie.Need-returns
 returns c = (refl, and_mask c.args.count 4)
