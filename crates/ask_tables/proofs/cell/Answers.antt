@@ -1,0 +1,6 @@
+use lib.ListN.{get_or-eq_default}
+use mathlib.Core.Path.{sym}
+use Rattle.ask_tables.proofs.cell.Goals as goal
+
+pub returns-else-i-s : goal.returns-else-i-s
+returns-else-i-s c = sym (get_or-eq_default c.args.s.now 0 c.if-i-s.false)

@@ -1,0 +1,13 @@
+use mathlib.Core.Path.{refl}
+use borrow.Author.Tests.{le-leb, lt-leb}
+use Rattle.bench_tables.specs.Answers.{insert_fits}
+use Rattle.bench_tables.proofs.Tests.{on, off}
+use Rattle.bench_tables.proofs.waiting.insert_fits.Goals as goal
+
+pub returns-then-row-lt-WIDTH : goal.returns-then-row-lt-WIDTH
+unfolding insert_fits
+returns-then-row-lt-WIDTH c = off _ _ (lt-leb _ _ c.if-row-lt-WIDTH.true)
+
+pub returns : goal.returns
+unfolding insert_fits
+returns c = on _ _ _ (le-leb _ _ c.if-row-lt-WIDTH.false) refl

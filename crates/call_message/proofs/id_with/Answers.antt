@@ -1,0 +1,44 @@
+use Rattle.call_message.proofs.Laws.{head_is, text_short}
+use native.Mathlib.Omega.{arith}
+use mathlib.Core.Path.{ap, ◌∙◌}
+use lib.ListN.{length}
+use Rattle.spec_network.specs.Tables.{name_at}
+use Rattle.spec_network.specs.Opening.{longest_name}
+use Rattle.call_message.proofs.id_with.Goals as goal
+
+pub put-requires : goal.put-requires
+put-requires c = omega (arith, ap length c.text-name.ensures, text_short c.args.names.now (name_at c.args.kind) longest_name c.requires.0.name)
+
+pub put_scope-n-requires : goal.put_scope-n-requires
+put_scope-n-requires c = (
+      c.requires.0,
+      omega (
+        arith,
+        ap length c.text-name.ensures,
+        text_short c.args.names.now (name_at c.args.kind) longest_name
+            c.requires.0.name,
+        c.put.auto.dst,
+      ),
+    )
+
+pub id_after-requires : goal.id_after-requires
+id_after-requires c = (
+      omega (
+        arith,
+        c.put_scope-n.ensures.1,
+        ap length c.text-name.ensures,
+        text_short c.args.names.now
+            (name_at c.args.kind) longest_name c.requires.0.name,
+      ),
+      c.requires.1,
+    )
+
+pub returns : goal.returns
+returns c = let a = c.args in
+    c.id_after.ensures ∙ head_is a.buf.now a.names.now a.wire.now _ _ c.put_scope-n.new.buf a.kind a.scope
+    c.put_scope-n.result c.text-name.ensures (omega (
+      arith,
+      ap length c.text-name.ensures,
+      text_short a.names.now
+          (name_at a.kind) longest_name c.requires.0.name,
+    )) c.put.ensures c.put_scope-n.ensures.0

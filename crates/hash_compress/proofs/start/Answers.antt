@@ -1,0 +1,8 @@
+use mathlib.Core.Path.{refl}
+use Rattle.hash_compress.specs.Words.{list_of}
+use Rattle.hash_compress.specs.Compress.{initial, iv}
+use Rattle.hash_compress.proofs.start.Goals as goal
+
+pub returns : goal.returns
+unfolding initial iv list_of
+returns c = refl

@@ -1,0 +1,8 @@
+use Rattle.hash_compress.specs.Words.{list_of}
+use Rattle.hash_compress.specs.Compress.{compressed, folded, rounds}
+use mathlib.Core.Path.{ap, ◌∙◌}
+use Rattle.hash_lanes.proofs.compress_block.Goals as goal
+
+pub returns : goal.returns
+unfolding compressed
+returns c = c.fold.ensures ∙ ap folded (c.seven_rounds.ensures ∙ ap (λ l. rounds 7 l (list_of c.args.m)) c.start.ensures)

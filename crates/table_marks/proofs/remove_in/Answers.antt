@@ -1,0 +1,21 @@
+use mathlib.Core.Path.{◌∙◌, sym}
+use native.Mathlib.Omega.{arith}
+use Rattle.table_marks.proofs.Search.{stands, past, kept, gone}
+use borrow.Author.Tests.{eq-eqb, ne_eqb}
+use Rattle.table_marks.proofs.remove_in.Goals as goal
+
+pub returns-then-count-p : goal.returns-then-count-p
+returns-then-count-p c = let a = c.args in kept a.seen.now a.start a.count a.id c.requires c.find-p.result c.find-p.ensures.0 (past a.seen.now a.start a.count a.id c.requires c.find-p.result c.find-p.ensures.0 (omega arith))
+
+pub returns-then-seen-at : goal.returns-then-seen-at
+returns-then-seen-at c = let a = c.args in
+    let p = c.find-p.result in
+    kept a.seen.now a.start a.count a.id c.requires p c.find-p.ensures.0
+    (sym (ne_eqb _ _ c.if-seen-at.true) ∙ stands a.seen.now a.start a.count a.id c.requires p c.find-p.ensures.0 (omega arith))
+
+pub returns : goal.returns
+returns c = let a = c.args in
+    let p = c.find-p.result in
+    gone a.seen.now a.start a.count a.id c.requires p c.find-p.ensures.0 (omega arith)
+    (sym (eq-eqb _ _ c.if-seen-at.false) ∙ stands a.seen.now a.start a.count a.id c.requires p c.find-p.ensures.0
+    (omega arith)) c.move_down.new.ws c.move_down.ensures

@@ -1,0 +1,9 @@
+use mathlib.Core.Path.{◌∙◌}
+use Rattle.table_waiting.proofs.Placing.{inserted}
+use Rattle.table_waiting.proofs.insert.Goals as goal
+
+pub returns : goal.returns
+returns c = let a = c.args in
+    let p = c.place-p in
+    let m = c.raise in
+    c.put.ensures ∙ inserted a.ws.now a.n a.c p.result m.new.0 c.requires p.ensures.0 m.ensures
