@@ -1,0 +1,44 @@
+use Prim.Native.Nat.{◌-◌}
+use native.Mathlib.Omega.{arith}
+use Rattle.call_flush_pass.specs.Pass.{flush_view}
+use Rattle.call_flush_pass.proofs.Passing.{begin, more, end, near_copy_lem, row_room}
+use Rattle.call_flush_pass.proofs.pass.Goals as goal
+
+pub loop-i-init : goal.loop-i-init
+loop-i-init c = let a = c.args in begin a.z (flush_view a.z a.tills.now a.blocks.now) a.waiting.now a.k a.seen.now a.log.now
+    a.out.now c.requires.2
+
+pub overflow_mul-i : goal.overflow_mul-i
+overflow_mul-i c = omega (arith, c.requires.1.few)
+
+pub get-c-requires : goal.get-c-requires
+get-c-requires c = omega (arith, c.requires.1.rows)
+
+pub turn-next-requires : goal.turn-next-requires
+turn-next-requires c = let a = c.args in
+    let l = c.loop-i in
+    let m = near_copy_lem a.z (flush_view a.z a.tills.now a.blocks.now) a.waiting.now a.k a.seen.now a.log.now a.out.now l.i _ _ _ l.m c.loop-i-test.true c.requires.1 l.invariant c.get-c.result c.get-c.ensures in
+    (c.requires.0, m, l.invariant.room, record { few = c.requires.3.few; size = omega (arith, c.requires.3.size, l.invariant.log) }, row_room a.z (flush_view a.z a.tills.now a.blocks.now) a.waiting.now a.k a.seen.now a.log.now a.out.now l.i _ _ _ l.m c.loop-i-test.true c.requires.1 l.invariant, omega (arith, l.invariant.counts.0, c.requires.1.few), omega (arith, l.invariant.counts.1, c.requires.1.few), omega (arith, l.invariant.counts.2, c.requires.1.few))
+
+pub overflow_add-i : goal.overflow_add-i
+overflow_add-i c = omega (arith, c.requires.1.few)
+
+pub loop-i-preserved : goal.loop-i-preserved
+loop-i-preserved c = let a = c.args in
+    let l = c.loop-i in
+    more a.z (flush_view a.z a.tills.now a.blocks.now) a.waiting.now a.k a.seen.now a.log.now a.out.now l.i _ _ _
+    l.m c.loop-i-test.true c.requires.1 l.invariant c.get-c.result c.get-c.ensures _ _ _ _ c.turn-next.auto.seen
+    c.turn-next.auto.log c.turn-next.auto.out c.turn-next.ensures
+
+pub shape_of-seen : goal.shape_of-seen
+shape_of-seen c = c.loop-i.invariant.seen
+
+pub shape_of-log : goal.shape_of-log
+shape_of-log c = c.loop-i.invariant.log
+
+pub shape_of-out : goal.shape_of-out
+shape_of-out c = c.loop-i.invariant.out
+
+pub returns : goal.returns
+returns c = let a = c.args in end a.z (flush_view a.z a.tills.now a.blocks.now) a.waiting.now a.k a.seen.now a.log.now
+    a.out.now c.loop-i.i _ _ _ c.loop-i.m c.loop-i-test.false c.loop-i.invariant

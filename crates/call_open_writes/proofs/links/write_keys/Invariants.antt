@@ -1,0 +1,15 @@
+use Prim.Native.Nat.{◌+◌, ◌*◌, ◌-◌, ◌/◌, ◌%◌, ◌≤◌}
+use mathlib.Core.Path.{◌≡◌}
+use mathlib.Core.List.{◌++◌}
+use lib.ListN.{length, drop}
+use Rattle.table_rows.specs.Rows.{flat}
+use Rattle.table_rows.specs.Lists.{up_to}
+use Rattle.rand_streams.specs.Link.{link_key}
+use Rattle.spec_network.specs.Real.{key_width}
+use Rattle.call_open_writes.proofs.links.write_keys.Given as goal
+
+abbrev pub invariant-loop-i : goal.invariant-loop-i
+invariant-loop-i l = (l.i ≤ l.pairs) × (l.pairs ≡ l.n * l.n) × (length l.keys ≡ length l.initial.keys) × (l.keys ≡ flat (λ l.i. link_key l.seed (l.i / l.n) (l.i % l.n)) (up_to l.i (λ l.i. l.i)) ++ drop (l.i * key_width) l.initial.keys)
+
+abbrev pub decreases-loop-i : goal.decreases-loop-i
+decreases-loop-i l = l.pairs - l.i
