@@ -1,6 +1,5 @@
 use mathlib.Core.Path.{sym, ◌∙◌}
 use native.Mathlib.Omega.{arith}
-use borrow.Author.Tests.{not-true, not-false}
 use Rattle.table_marks.specs.Marks.{found, ids_of}
 use Rattle.spec_network.specs.Tables.{cell, sizes_at, ids_start}
 use Rattle.call_offer.specs.Offering.{selects_at}
@@ -10,14 +9,14 @@ use Rattle.ask_accept.proofs.slot_free.Goals as goal
 
 pub returns-then-not-selects : goal.returns-then-not-selects
 returns-then-not-selects c = let t = c.args in
-    unselected (selects_at t.tills.now t.m.scope t.m.from t.to) (free_at t.setup.now t.seen.now t.m t.to) (sym c.selects.ensures ∙ not-true _ c.if-not-selects.true)
+    unselected (selects_at t.tills.now t.m.scope t.m.from t.to) (free_at t.setup.now t.seen.now t.m t.to) (sym c.selects.ensures ∙ c.if-not-selects.true)
 
 pub returns-then-seen-to : goal.returns-then-seen-to
 returns-then-seen-to c = let t = c.args in
     free_slot (selects_at t.tills.now t.m.scope t.m.from t.to)
     (found t.m.id (ids_of t.seen.now (ids_start (sizes_at t.setup.now) t.to) (cell t.seen.now t.to))) (cell t.seen.now t.to)
-    (sizes_at t.setup.now).seen_slots (sym c.selects.ensures ∙ not-false _ c.if-not-selects.false) c.if-seen-to.true
+    (sizes_at t.setup.now).seen_slots (sym c.selects.ensures ∙ c.if-not-selects.false) c.if-seen-to.true
 
 pub returns : goal.returns
 returns c = let t = c.args in
-    full_slot (selects_at t.tills.now t.m.scope t.m.from t.to) (found t.m.id (ids_of t.seen.now (ids_start (sizes_at t.setup.now) t.to) (cell t.seen.now t.to))) c.marked.result (cell t.seen.now t.to) (sizes_at t.setup.now).seen_slots (sym c.selects.ensures ∙ not-false _ c.if-not-selects.false) (omega (arith, c.if-seen-to.false)) c.marked.ensures
+    full_slot (selects_at t.tills.now t.m.scope t.m.from t.to) (found t.m.id (ids_of t.seen.now (ids_start (sizes_at t.setup.now) t.to) (cell t.seen.now t.to))) c.marked.result (cell t.seen.now t.to) (sizes_at t.setup.now).seen_slots (sym c.selects.ensures ∙ c.if-not-selects.false) (omega (arith, c.if-seen-to.false)) c.marked.ensures

@@ -1,5 +1,4 @@
 use Rattle.call_recipients.proofs.Turns.{can_apply, passed_by, taken_up}
-use borrow.Author.Tests.{not-true, not-false}
 use native.Mathlib.Omega.{arith}
 use mathlib.Core.Path.{sym, ◌∙◌}
 use borrow.Author.Rules.{rules}
@@ -7,15 +6,15 @@ use Rattle.call_recipients.proofs.turn.Goals as goal
 
 pub returns-then-not-selects : goal.returns-then-not-selects
 returns-then-not-selects c = let a = c.args in passed_by a.setup.now a.tills.now a.keys.now a.prices.now a.blocks.now a.net.now a.words.now
-    a.seen.now a.waiting.now a.rings.now a.rules.now a.m a.to a.c (sym c.selects.ensures ∙ not-true _ c.if-not-selects.true)
+    a.seen.now a.waiting.now a.rings.now a.rules.now a.m a.to a.c (sym c.selects.ensures ∙ c.if-not-selects.true)
 
 pub consider-r-requires : goal.consider-r-requires
-consider-r-requires c = (c.requires.0, c.requires.2.state, c.requires.1, c.requires.3, c.requires.2.fresh c.args.to (omega arith) c.requires.3 (sym c.selects.ensures ∙ not-false _ c.if-not-selects.false))
+consider-r-requires c = (c.requires.0, c.requires.2.state, c.requires.1, c.requires.3, c.requires.2.fresh c.args.to (omega arith) c.requires.3 (sym c.selects.ensures ∙ c.if-not-selects.false))
 
 pub apply-requires : goal.apply-requires
 apply-requires c = let a = c.args in can_apply a.setup.now a.tills.now a.keys.now a.prices.now a.blocks.now a.net.now a.words.now
     a.seen.now a.waiting.now a.rings.now a.rules.now a.m a.to c.requires.0 c.requires.1 c.requires.2 c.requires.3
-    (sym c.selects.ensures ∙ not-false _ c.if-not-selects.false) c.consider-r.result c.consider-r.ensures
+    (sym c.selects.ensures ∙ c.if-not-selects.false) c.consider-r.result c.consider-r.ensures
 
 pub count-requires : goal.count-requires
 count-requires c = omega (arith, c.requires.4, c.requires.3, c.requires.0.priced.tills)
@@ -23,4 +22,4 @@ count-requires c = omega (arith, c.requires.4, c.requires.3, c.requires.0.priced
 pub returns : goal.returns
 returns c = let a = c.args in taken_up a.setup.now a.tills.now a.keys.now a.prices.now a.blocks.now a.net.now a.words.now
     a.seen.now a.waiting.now a.rings.now a.rules.now a.m a.to _ _ _ _ _ _ a.c _ c.consider-r.result
-    (sym c.selects.ensures ∙ not-false _ c.if-not-selects.false) c.consider-r.ensures c.apply.ensures c.count.ensures
+    (sym c.selects.ensures ∙ c.if-not-selects.false) c.consider-r.ensures c.apply.ensures c.count.ensures

@@ -25,24 +25,24 @@ pub bounds-net-4 : goal.bounds-net-4
 bounds-net-4 c = omega (arith, c.requires.net_size)
 
 pub send-requires : goal.send-requires
-send-requires c = c.requires.sendable _ c.r-in-Sent-1.given.1
+send-requires c = c.requires.sendable _ c.in-Sent.is
 
 pub returns-in-Deduplicated : goal.returns-in-Deduplicated
 returns-in-Deduplicated c = let a = c.args in writes_none a.m a.to a.r a.setup.now a.net.now a.words.now a.seen.now a.waiting.now a.rings.now
-    a.rules.now c.enum_told-1.given.1
+    a.rules.now c.in-Deduplicated.is
 
 pub returns-in-Partition : goal.returns-in-Partition
 returns-in-Partition c = let a = c.args in writes_nothing a.m a.to a.r a.setup.now a.net.now a.words.now a.seen.now a.waiting.now
-    a.rings.now a.rules.now c.enum_told-in-Partition-1.given.1
+    a.rings.now a.rules.now c.in-Partition.is
 
 pub returns-in-Loss : goal.returns-in-Loss
 returns-in-Loss c = let a = c.args in writes_loss a.m a.to a.r a.setup.now a.net.now a.words.now a.seen.now a.waiting.now a.rings.now
-    a.rules.now _ c.r-1.given.1
+    a.rules.now _ c.in-Loss.is
 
 pub returns-in-Fault : goal.returns-in-Fault
 returns-in-Fault c = let a = c.args in writes_fault a.m a.to a.r a.setup.now a.net.now a.words.now a.seen.now a.waiting.now
-    a.rings.now a.rules.now _ _ c.r-in-Fault-1.given.1 c.fire.ensures
+    a.rings.now a.rules.now _ _ c.in-Fault.is c.fire.ensures
 
 pub returns-in-Sent : goal.returns-in-Sent
 returns-in-Sent c = let a = c.args in writes_sent a.m a.to a.r a.setup.now a.net.now a.words.now a.seen.now a.waiting.now a.rings.now
-    a.rules.now _ _ _ _ _ _ c.r-in-Sent-1.given.1 c.send.ensures
+    a.rules.now _ _ _ _ _ _ c.in-Sent.is c.send.ensures

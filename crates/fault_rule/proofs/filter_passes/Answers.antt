@@ -10,4 +10,4 @@ returns-in-Any c = search rules
 
 pub returns-in-Is : goal.returns-in-Is
 unfolding passes
-returns-in-Is c = sym (ap (λ (a : Filter). passes a c.args.x) c.f-1.given.1)
+returns-in-Is c = sym (ap (λ (a : Filter). passes a c.args.x) c.in-Is.is)

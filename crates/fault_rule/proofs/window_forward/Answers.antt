@@ -9,8 +9,8 @@ returns-in-Always c = search rules
 
 pub returns-in-During : goal.returns-in-During
 unfolding forward
-returns-in-During c = sym (ap forward c.w-1.given.1)
+returns-in-During c = sym (ap forward c.in-During.is)
 
 pub returns-in-Closed : goal.returns-in-Closed
 unfolding forward
-returns-in-Closed c = sym (ap forward c.w-in-Closed-1.given.1)
+returns-in-Closed c = sym (ap forward c.in-Closed.is)

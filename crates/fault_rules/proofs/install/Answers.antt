@@ -8,7 +8,7 @@ pub returns-then-ever-ge-MOST : goal.returns-then-ever-ge-MOST
 returns-then-ever-ge-MOST c = install_spent c.args.ws.now c.args.n c.args.ever c.args.bytes.now c.if-n-ge-SLOTS.false c.if-ever-ge-MOST.true
 
 pub returns-in_default : goal.returns-in_default
-returns-in_default c = let a = c.args in install_inexact a.ws.now a.n a.ever a.bytes.now c.if-n-ge-SLOTS.false c.if-ever-ge-MOST.false _ c.read-found.ensures c.enum_told-1.given.1
+returns-in_default c = let a = c.args in install_inexact a.ws.now a.n a.ever a.bytes.now c.if-n-ge-SLOTS.false c.if-ever-ge-MOST.false _ c.read-found.ensures c.in_default.is
 
 pub returns : goal.returns
-returns c = let a = c.args in install_done a.ws.now a.n a.ever a.bytes.now c.if-n-ge-SLOTS.false c.if-ever-ge-MOST.false _ c.read-found.ensures _ _ c.found-1.given.1 c.put.ensures
+returns c = let a = c.args in install_done a.ws.now a.n a.ever a.bytes.now c.if-n-ge-SLOTS.false c.if-ever-ge-MOST.false _ c.read-found.ensures _ _ c.in-Exact.is c.put.ensures

@@ -1,13 +1,12 @@
 use Rattle.sim_figures.proofs.Laws.{wait_out, wait_in, stand}
 use Rattle.std.proofs.Common.{sym, ◌∙◌}
-use borrow.Author.Tests.{not-true, not-false}
 use Rattle.sim_figures.proofs.waits.Goals as goal
 
 pub returns-then-not-has_words : goal.returns-then-not-has_words
-returns-then-not-has_words c = wait_out _ _ _ (sym c.has_words.ensures ∙ (not-true _ c.if-not-has_words.true))
+returns-then-not-has_words c = wait_out _ _ _ (sym c.has_words.ensures ∙ c.if-not-has_words.true)
 
 pub get-c-requires : goal.get-c-requires
-get-c-requires c = stand _ _ _ c.has_words.ensures (not-false _ c.if-not-has_words.false)
+get-c-requires c = stand _ _ _ c.has_words.ensures c.if-not-has_words.false
 
 pub returns : goal.returns
-returns c = wait_in _ _ _ _ _ (sym c.has_words.ensures ∙ (not-false _ c.if-not-has_words.false)) c.get-c.ensures c.note_waiting.ensures
+returns c = wait_in _ _ _ _ _ (sym c.has_words.ensures ∙ c.if-not-has_words.false) c.get-c.ensures c.note_waiting.ensures

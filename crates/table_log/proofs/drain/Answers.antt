@@ -5,12 +5,11 @@ use Rattle.table_rows.specs.Table.{over}
 use Rattle.table_ring.specs.Ring.{count_at}
 use Rattle.table_log.proofs.Writing.{sound_log_lem}
 use Rattle.table_log.proofs.Draining.{by_head}
-use borrow.Author.Tests.{not-true, not-false}
 use Rattle.table_log.proofs.drain.Goals as goal
 
 pub returns-then-not-is_sound : goal.returns-then-not-is_sound
 returns-then-not-is_sound c = let a = c.args in
-    let no : sound_log a.capacity a.log.now ≡ false = sym c.is_sound.ensures ∙ not-true _ c.if-not-is_sound.true in
+    let no : sound_log a.capacity a.log.now ≡ false = sym c.is_sound.ensures ∙ c.if-not-is_sound.true in
     (by_head a.capacity a.log.now false _ 0 no, (by_head a.capacity a.log.now false _ a.out.now no, by_head a.capacity a.log.now false _ a.log.now no))
 
 pub copy_out-requires : goal.copy_out-requires
@@ -19,12 +18,12 @@ copy_out-requires c = let a = c.args in (
       c.requires.1,
       c.requires.2,
       sound_log_lem a.capacity a.log.now
-          (sym c.is_sound.ensures ∙ not-false _ c.if-not-is_sound.false),
+          (sym c.is_sound.ensures ∙ c.if-not-is_sound.false),
     )
 
 pub returns : goal.returns
 returns c = let a = c.args in
-    let yes : sound_log a.capacity a.log.now ≡ true = sym c.is_sound.ensures ∙ not-false _ c.if-not-is_sound.false in
+    let yes : sound_log a.capacity a.log.now ≡ true = sym c.is_sound.ensures ∙ c.if-not-is_sound.false in
     let w = a.log.now in (
       by_head a.capacity w true (count_at 0 w) 0 yes,
       (

@@ -7,7 +7,6 @@ use Rattle.table_waiting.specs.declared.Copy.{Copy}
 use Rattle.table_waiting.specs.Waiting as waiting
 use Rattle.table_scan.specs.Scan.{near, copies_near}
 use Rattle.table_scan.proofs.Laws.{goes_on, stops, ends, copy_row, copies_long}
-use borrow.Author.Tests.{not-true, not-false}
 use Rattle.table_scan.proofs.copies_near.Goals as goal
 
 pub loop-i-init : goal.loop-i-init
@@ -21,7 +20,7 @@ returns-then-not-is_near c = let a = c.args in
     let row = waiting.read (drop (i * waiting.width) w) in
     stops (λ (x : Copy). near a.l x.delivery) (waiting.copies w a.n) a.n (copies_long w a.n) i row c.is_near.result
     (omega arith) (copy_row w a.n i row (omega arith) refl) (c.is_near.ensures ∙ ap (near a.l) c.get-d.ensures)
-    (not-true _ c.if-not-is_near.true)
+    c.if-not-is_near.true
 
 pub loop-i-preserved : goal.loop-i-preserved
 loop-i-preserved c = let a = c.args in
@@ -31,7 +30,7 @@ loop-i-preserved c = let a = c.args in
       omega arith,
       goes_on (λ (x : Copy). near a.l x.delivery) (waiting.copies w a.n) a.n (copies_long w a.n) i row c.is_near.result
           (omega arith) (copy_row w a.n i row (omega arith) refl) (c.is_near.ensures ∙ ap (near a.l) c.get-d.ensures)
-          (not-false _ c.if-not-is_near.false) c.loop-i.invariant.1,
+          c.if-not-is_near.false c.loop-i.invariant.1,
     )
 
 pub returns : goal.returns

@@ -5,7 +5,6 @@ use native.Mathlib.Omega.{arith}
 use Rattle.table_rings.specs.Rings.{count_of, entries}
 use Rattle.table_scan.specs.Scan.{near_entry}
 use Rattle.table_scan.proofs.Laws.{goes_on, stops, ends, entries_long, entry_row}
-use borrow.Author.Tests.{not-true, not-false}
 use Rattle.table_rings.specs.Rings.{none}
 use Rattle.table_scan.proofs.entries_near.Goals as goal
 
@@ -23,7 +22,7 @@ returns-then-not-is_near_entry c = let a = c.args in
     let w = a.ws.now in
     stops (near_entry a.l) (entries a.rings w a.r) (count_of w a.r) (entries_long a.rings w a.r) c.loop-k.k c.get-e.result
     c.is_near_entry.result (omega arith) (entry_row a.rings w a.r c.loop-k.k c.get-e.result c.requires.1
-    (omega arith) c.get-e.ensures) c.is_near_entry.ensures (not-true _ c.if-not-is_near_entry.true)
+    (omega arith) c.get-e.ensures) c.is_near_entry.ensures c.if-not-is_near_entry.true
 
 pub loop-k-preserved : goal.loop-k-preserved
 loop-k-preserved c = let a = c.args in
@@ -33,7 +32,7 @@ loop-k-preserved c = let a = c.args in
       goes_on (near_entry a.l) (entries a.rings w a.r) (count_of w a.r) (entries_long a.rings w a.r) c.loop-k.k
           c.get-e.result c.is_near_entry.result (omega arith)
           (entry_row a.rings w a.r c.loop-k.k c.get-e.result c.requires.1 (omega arith) c.get-e.ensures)
-          c.is_near_entry.ensures (not-false _ c.if-not-is_near_entry.false) c.loop-k.invariant.2,
+          c.is_near_entry.ensures c.if-not-is_near_entry.false c.loop-k.invariant.2,
     )
 
 pub returns : goal.returns

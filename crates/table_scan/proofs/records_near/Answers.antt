@@ -1,7 +1,6 @@
 use native.Mathlib.Omega.{arith}
 use Prim.Native.Nat.{◌-◌}
 use mathlib.Core.Path.{refl}
-use borrow.Author.Tests.{not-true, not-false}
 use Rattle.table_ring.specs.Ring.{first_at}
 use Rattle.table_scan.specs.Scan.{near}
 use Rattle.table_scan.proofs.Runs.{none_there, in_one, not_ahead, ahead_then}
@@ -27,7 +26,7 @@ pub run_near-requires-2 : goal.run_near-requires-2
 run_near-requires-2 c = omega (arith, c.requires.2.begun (omega arith))
 
 pub returns-then-not-run_near : goal.returns-then-not-run_near
-returns-then-not-run_near c = not_ahead (near c.args.l) c.args.capacity c.args.ws.now (c.args.capacity - first_at 0 c.args.ws.now) (c.requires.2.begun (omega arith)) refl (omega arith) c.run_near-2.result c.run_near-2.ensures (not-true _ c.if-not-run_near.true)
+returns-then-not-run_near c = not_ahead (near c.args.l) c.args.capacity c.args.ws.now (c.args.capacity - first_at 0 c.args.ws.now) (c.requires.2.begun (omega arith)) refl (omega arith) c.run_near-2.result c.run_near-2.ensures c.if-not-run_near.true
 
 pub returns : goal.returns
-returns c = ahead_then (near c.args.l) c.args.capacity c.args.ws.now (c.args.capacity - first_at 0 c.args.ws.now) (c.requires.2.begun (omega arith)) refl (omega arith) c.run_near-2.result c.run_near-3.result c.run_near-2.ensures (not-false _ c.if-not-run_near.false) c.run_near-3.ensures
+returns c = ahead_then (near c.args.l) c.args.capacity c.args.ws.now (c.args.capacity - first_at 0 c.args.ws.now) (c.requires.2.begun (omega arith)) refl (omega arith) c.run_near-2.result c.run_near-3.result c.run_near-2.ensures c.if-not-run_near.false c.run_near-3.ensures

@@ -5,7 +5,6 @@ use native.Mathlib.Omega.{arith}
 use lib.ListN.{drop}
 use Rattle.table_waiting.specs.Waiting.{width, read, before}
 use Rattle.table_waiting.proofs.Placing.{none, passed, here, first, After}
-use borrow.Author.Tests.{not-true, not-false}
 use Rattle.table_waiting.proofs.place.Goals as goal
 
 pub loop-i-init : goal.loop-i-init
@@ -15,14 +14,14 @@ pub returns-then-not-is_before : goal.returns-then-not-is_before
 returns-then-not-is_before c = let a = c.args in
     let at = c.loop-i in
     let no : before a.c (read (drop ((at.i - 1) * width) a.ws.now)) ≡ false = ap (before a.c) (sym c.get-r.ensures) ∙ sym
-    c.is_before.ensures ∙ not-true _ c.if-not-is_before.true in
+    c.is_before.ensures ∙ c.if-not-is_before.true in
     (here a.c a.ws.now a.n at.i (omega arith) (omega arith) at.invariant.1 no, at.invariant.0)
 
 pub loop-i-preserved : goal.loop-i-preserved
 loop-i-preserved c = let a = c.args in
     let at = c.loop-i in
     let yes : before a.c (read (drop ((at.i - 1) * width) a.ws.now)) ≡ true = ap (before a.c) (sym c.get-r.ensures) ∙ sym
-    c.is_before.ensures ∙ not-false _ c.if-not-is_before.false in
+    c.is_before.ensures ∙ c.if-not-is_before.false in
     (omega arith, passed a.c a.ws.now a.n at.i (omega arith) (omega arith) at.invariant.1 yes)
 
 pub returns : goal.returns

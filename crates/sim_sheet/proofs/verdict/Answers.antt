@@ -1,0 +1,5 @@
+use Rattle.sim_sheet.proofs.Laws.{onward}
+use Rattle.sim_sheet.proofs.verdict.Goals as goal
+
+pub returns : goal.returns
+returns c = onward _ _ _ _ _ c.verdict_in-a.ensures c.say.ensures
