@@ -2,4 +2,4 @@ use Rattle.sim_printer.proofs.Laws.{spelled}
 use Rattle.sim_printer.proofs.decimal_right.Goals as goal
 
 pub returns : goal.returns
-returns c = spelled 10 1 _ _ _ _ _ _ _ _ c.decimal-k.ensures.1.0 c.less.ensures c.spaces-at.ensures c.decimal-k.ensures.1.1 c.text.ensures
+returns c = spelled 10 1 _ _ _ _ _ _ _ _ c.decimal-k.ensures.len c.less.ensures c.spaces-at.ensures c.decimal-k.ensures.digits c.text.ensures

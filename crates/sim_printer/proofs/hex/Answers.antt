@@ -2,4 +2,4 @@ use Rattle.sim_printer.proofs.Laws.{spelled_plain}
 use Rattle.sim_printer.proofs.hex.Goals as goal
 
 pub returns : goal.returns
-returns c = spelled_plain 16 _ _ _ _ _ _ c.hex-k.ensures.1.0 c.hex-k.ensures.1.1 c.text.ensures
+returns c = spelled_plain 16 _ _ _ _ _ _ c.hex-k.ensures.len c.hex-k.ensures.digits c.text.ensures
