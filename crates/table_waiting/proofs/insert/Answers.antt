@@ -6,4 +6,4 @@ pub returns : goal.returns
 returns c = let a = c.args in
     let p = c.place-p in
     let m = c.raise in
-    c.put.ensures ∙ inserted a.ws.now a.n a.c p.result m.new.0 c.requires p.ensures.0 m.ensures
+    c.put.ensures ∙ inserted a.ws.now a.n a.c p.result m.new.ws c.requires p.ensures.is m.ensures

@@ -10,12 +10,12 @@ use Rattle.table_waiting.proofs.place.Goals as goal
 pub loop-i-init : goal.loop-i-init
 loop-i-init c = let a = c.args in (omega arith, none a.c a.ws.now a.n)
 
-pub returns-then-not-is_before : goal.returns-then-not-is_before
-returns-then-not-is_before c = let a = c.args in
+pub returns-then-not-is_before-clause-is : goal.returns-then-not-is_before-clause-is
+returns-then-not-is_before-clause-is c = let a = c.args in
     let at = c.loop-i in
     let no : before a.c (read (drop ((at.i - 1) * width) a.ws.now)) ≡ false = ap (before a.c) (sym c.get-r.ensures) ∙ sym
     c.is_before.ensures ∙ c.if-not-is_before.true in
-    (here a.c a.ws.now a.n at.i (omega arith) (omega arith) at.invariant.1 no, at.invariant.0)
+    here a.c a.ws.now a.n at.i (omega arith) (omega arith) at.invariant.1 no
 
 pub loop-i-preserved : goal.loop-i-preserved
 loop-i-preserved c = let a = c.args in
@@ -24,8 +24,8 @@ loop-i-preserved c = let a = c.args in
     c.is_before.ensures ∙ c.if-not-is_before.false in
     (omega arith, passed a.c a.ws.now a.n at.i (omega arith) (omega arith) at.invariant.1 yes)
 
-pub returns : goal.returns
-returns c = let a = c.args in
+pub returns-clause-is : goal.returns-clause-is
+returns-clause-is c = let a = c.args in
     let at = c.loop-i in
     let z : at.i ≡ 0 = omega arith in
-    (first a.c a.ws.now a.n (subst (λ (j : ℕ). After a.c a.ws.now a.n j) z at.invariant.1), omega arith)
+    first a.c a.ws.now a.n (subst (λ (j : ℕ). After a.c a.ws.now a.n j) z at.invariant.1)
