@@ -1,5 +1,6 @@
 // The blocks of a network: windows during which a directed pair of tills is cut, rows of a lent table.
 #![tactic(auto)]
+
 ghost use Rattle.std.specs.Prelude.{◌≡◌, ◌+◌, ◌*◌, ◌≤◌, ◌<◌, length};
 ghost use Rattle.fault_blocks.specs.Blocks.{block_width, block_slots, block_at, put_at, blocks_of, always, during, window_of, joins, stops, blocked, open_count, block_number, block_table, unblock_table};
 

@@ -1,4 +1,3 @@
-use Prim.Native.Nat.{◌-◌}
 use mathlib.Core.Path.{sym, ◌∙◌}
 use native.Mathlib.Omega.{arith}
 use Rattle.fault_blocks.proofs.Laws.{blocked_first, blocked_here, blocked_more, blocked_end}
