@@ -15,4 +15,4 @@ pub overflow_add-low : goal.overflow_add-low
 overflow_add-low c = record { fits = sum_fits _ _ (search rules) c.if-d-low.false }
 
 pub returns : goal.returns
-returns c = c.good2.ensures ∙ more_good _ _ _ _ _ c.if-base-d.false c.product-p.ensures.0 c.if-p-gt0.false c.product-p.ensures.1 (sum_fits _ _ (search rules) c.if-d-low.false)
+returns c = c.good.ensures ∙ more_good _ _ _ _ _ c.if-base-d.false c.product-p.ensures.0 c.if-p-gt0.false c.product-p.ensures.1 (sum_fits _ _ (search rules) c.if-d-low.false)
