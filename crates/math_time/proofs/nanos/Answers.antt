@@ -2,7 +2,7 @@ use Rattle.math_time.proofs.Limits.{in_limits}
 use Rattle.math_time.specs.Seconds.{second, millisecond}
 use Prim.Native.Nat.{◌≤◌, ◌*◌, ◌^◌}
 use mathlib.Core.Path.{◌≡◌, sym, subst, ◌∙◌}
-use mathlib.Core.Bool.{Bool, true}
+use mathlib.Core.Bool.{true}
 use lib.Dec.{T}
 use lib.Ieee.{Float, binary64, fits}
 use Rattle.math_time.proofs.Pattern.{is_no_nan, exponent_le, drop_in, digits_lt, rounded_is}
