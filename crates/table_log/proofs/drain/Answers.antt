@@ -10,7 +10,11 @@ use Rattle.table_log.proofs.drain.Goals as goal
 pub returns-then-not-is_sound : goal.returns-then-not-is_sound
 returns-then-not-is_sound c = let a = c.args in
     let no : sound_log a.capacity a.log.now ≡ false = sym c.is_sound.ensures ∙ c.if-not-is_sound.true in
-    (by_head a.capacity a.log.now false _ 0 no, (by_head a.capacity a.log.now false _ a.out.now no, by_head a.capacity a.log.now false _ a.log.now no))
+    record {
+      many = by_head a.capacity a.log.now false _ 0 no;
+      copied = by_head a.capacity a.log.now false _ a.out.now no;
+      emptied = by_head a.capacity a.log.now false _ a.log.now no;
+    }
 
 pub copy_out-requires : goal.copy_out-requires
 copy_out-requires c = let a = c.args in (
@@ -24,10 +28,8 @@ copy_out-requires c = let a = c.args in (
 pub returns : goal.returns
 returns c = let a = c.args in
     let yes : sound_log a.capacity a.log.now ≡ true = sym c.is_sound.ensures ∙ c.if-not-is_sound.false in
-    let w = a.log.now in (
-      by_head a.capacity w true (count_at 0 w) 0 yes,
-      (
-        c.copy_out.ensures ∙ by_head a.capacity w true (over delivery.form (records_of a.capacity w) a.out.now) a.out.now yes,
-        c.clear.ensures ∙ by_head a.capacity w true (cleared_at w) w yes,
-      ),
-    )
+    let w = a.log.now in record {
+      many = by_head a.capacity w true (count_at 0 w) 0 yes;
+      copied = c.copy_out.ensures ∙ by_head a.capacity w true (over delivery.form (records_of a.capacity w) a.out.now) a.out.now yes;
+      emptied = c.clear.ensures ∙ by_head a.capacity w true (cleared_at w) w yes;
+    }

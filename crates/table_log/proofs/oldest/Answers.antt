@@ -11,4 +11,4 @@ slot-s-requires c = let s = c.requires.2 in
     (b, omega arith, c.requires.0)
 
 pub returns : goal.returns
-returns c = let a = c.args in c.get.ensures ∙ ap (λ (j : ℕ). delivery.read (drop (records_at + j * delivery.width) a.log.now)) c.slot-s.ensures.0
+returns c = let a = c.args in c.get.ensures ∙ ap (λ (j : ℕ). delivery.read (drop (records_at + j * delivery.width) a.log.now)) c.slot-s.ensures.is

@@ -21,4 +21,4 @@ pub returns : goal.returns
 returns c = let a = c.args in
     wrote a.capacity a.log.now a.d c.add_tally.new.log c.note_forced.new.log c.put.new.ws _
     c.next-p.result (sym c.is_sound.ensures ∙ c.if-not-is_sound.false) c.add_tally.ensures
-    c.note_forced.ensures c.next-p.ensures.0 c.put.ensures c.set_head.ensures
+    c.note_forced.ensures c.next-p.ensures.is c.put.ensures c.set_head.ensures

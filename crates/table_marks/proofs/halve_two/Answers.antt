@@ -21,8 +21,8 @@ returns c = let t = c.args in
     let z = ltb (get_or w (t.start + low) 0) t.id in
     let some = c.if-half-eq0.false in
     let is : c.pick-next.result ≡ cond x (cond y (high + 1) (mid + 1)) (cond z (low + 1) lo)
-    = c.pick-next.ensures ∙ ap₂ (λ (r l : ℕ). cond x r l) c.pick-right.ensures c.pick-left.ensures in (
-      two_lead (drop t.start w) t.id t.s mid low high (get_or w (t.start + mid) 0) (get_or w (t.start + low) 0) (get_or w (t.start + high) 0) some
-          refl refl refl (sym (get_or-drop t.start w mid 0)) (sym (get_or-drop t.start w low 0)) (sym (get_or-drop t.start w high 0)) c.pick-next.result is,
-      let q = two_in x y z lo n some in omega (arith, q, is),
-    )
+    = c.pick-next.ensures ∙ ap₂ (λ (r l : ℕ). cond x r l) c.pick-right.ensures c.pick-left.ensures in record {
+      is = two_lead (drop t.start w) t.id t.s mid low high (get_or w (t.start + mid) 0) (get_or w (t.start + low) 0) (get_or w (t.start + high) 0) some
+          refl refl refl (sym (get_or-drop t.start w mid 0)) (sym (get_or-drop t.start w low 0)) (sym (get_or-drop t.start w high 0)) c.pick-next.result is;
+      within = let q = two_in x y z lo n some in omega (arith, q, is);
+    }

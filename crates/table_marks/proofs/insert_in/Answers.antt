@@ -6,4 +6,4 @@ use Rattle.table_marks.proofs.insert_in.Goals as goal
 
 pub returns : goal.returns
 returns c = let a = c.args in c.insert_at.ensures ∙ ap (λ (k : ℕ). put_words a.seen.now a.start
-    (placed_at k a.id (ids_of a.seen.now a.start a.count))) c.find-p.ensures.0
+    (placed_at k a.id (ids_of a.seen.now a.start a.count))) c.find-p.ensures.is

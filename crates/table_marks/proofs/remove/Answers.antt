@@ -5,28 +5,30 @@ use Rattle.table_marks.proofs.remove.Goals as goal
 pub refill-requires : goal.refill-requires
 refill-requires c = let a = c.args in
     let n = left_old a.seen.now a.start a.count a.id c.requires c.remove_in-left.result c.has_in.ensures
-    c.if-has_in.true c.remove_in-left.ensures.0 in
+    c.if-has_in.true c.remove_in-left.ensures.left in
     omega (arith, n, c.remove_in-left.auto.seen)
 
 pub overflow_add-result : goal.overflow_add-result
 overflow_add-result c = let a = c.args in
     let n = left_old a.seen.now a.start a.count a.id c.requires c.remove_in-left.result c.has_in.ensures
-    c.if-has_in.true c.remove_in-left.ensures.0 in
+    c.if-has_in.true c.remove_in-left.ensures.left in
     omega (arith, n)
 
 pub returns-then-has_in : goal.returns-then-has_in
 returns-then-has_in c = let a = c.args in
-    less_old a.seen.now a.start a.count a.id c.requires c.remove_in-left.new.seen c.refill.new.seen
+    let k = less_old a.seen.now a.start a.count a.id c.requires c.remove_in-left.new.seen c.refill.new.seen
     c.remove_in-left.result
-    c.has_in.ensures c.if-has_in.true c.remove_in-left.ensures.0 c.remove_in-left.ensures.1 c.refill.ensures
+    c.has_in.ensures c.if-has_in.true c.remove_in-left.ensures.left c.remove_in-left.ensures.table c.refill.ensures in
+    record { left = k.0; table = k.1 }
 
 pub overflow_add-result-2 : goal.overflow_add-result-2
 overflow_add-result-2 c = let a = c.args in
     let n = left_new a.seen.now a.start a.count a.id c.requires c.remove_in-left-2.result
-    c.remove_in-left-2.ensures.0 in
+    c.remove_in-left-2.ensures.left in
     omega (arith, n)
 
 pub returns : goal.returns
 returns c = let a = c.args in
-    less_new a.seen.now a.start a.count a.id c.requires c.remove_in-left-2.new.seen c.remove_in-left-2.result
-    c.has_in.ensures c.if-has_in.false c.remove_in-left-2.ensures.0 c.remove_in-left-2.ensures.1
+    let k = less_new a.seen.now a.start a.count a.id c.requires c.remove_in-left-2.new.seen c.remove_in-left-2.result
+    c.has_in.ensures c.if-has_in.false c.remove_in-left-2.ensures.left c.remove_in-left-2.ensures.table in
+    record { left = k.0; table = k.1 }

@@ -15,5 +15,5 @@ next-p-requires c = let a = c.args in (search rules, omega arith, true_sound slo
 pub returns : goal.returns
 returns c = let a = c.args in
     wrote a.rings a.ws.now a.r a.e c.next-p.result c.put.new.ws _
-    (sym c.is_sound.ensures ∙ c.if-not-is_sound.false) c.next-p.ensures.0 c.put.ensures
+    (sym c.is_sound.ensures ∙ c.if-not-is_sound.false) c.next-p.ensures.is c.put.ensures
     c.set_head.ensures
