@@ -8,9 +8,9 @@ set -eu
 cd "$(dirname "$0")/.."
 first=${1:-1} count=${2:-1000} calls=${3:-200} tills=${4:-any}
 . bench/oracle.sh
-rt staticlib gossip >/dev/null
-rt check simulate >/dev/null
-rustc --edition 2024 -O -o target/bench-network bench/network/main.rs -L target/staticlib -l static=gossip
+(cd crates/gossip && rt lib) >/dev/null
+(cd crates/simulate && rt run </dev/null) >/dev/null
+rustc --edition 2024 -O -o target/bench-network bench/network/main.rs -L crates/gossip/out -l static=gossip
 # lines that no C function answers
 leaves='^(latency|draw|should|linkkey|wire|nanos|secs|times) '
 
@@ -32,7 +32,7 @@ same() { # SCRIPT WHO EXPECTED: are the answers in $work/answers the expected on
 }
 
 run() { # SCRIPT EXPECTED: through simulate and the archive
-    target/bin/simulate <"$1" >"$work/answers" || true
+    crates/simulate/out/simulate <"$1" >"$work/answers" || true
     same "$1" simulate "$2"
     target/bench-network <"$1" >"$work/answers" || true
     grep -Ev "$leaves" "$2" >"$work/expected"
@@ -64,7 +64,7 @@ run "$work/examples" "$work/told"
 # part 2 of the program's own script begins on the last network of part 1
 own=crates/simulate/stdin
 { sed '/^# Part 2/,$d' $own | grep '^open ' | tail -n 1; sed -n '/^# Part 2/,/^# Part 3/p' $own; } >"$work/refusals"
-target/bin/simulate <"$work/refusals" >"$work/told" || true
+crates/simulate/out/simulate <"$work/refusals" >"$work/told" || true
 run "$work/refusals" "$work/told"
 
 told() { sort "$1" | uniq -c | awk '{ n = $1; $1 = ""; printf "%s%s %d", (NR > 1 ? "," : ""), $0, n }'; }

@@ -1,6 +1,6 @@
 /* The simulated gossip network between tills, as C functions.
  *
- * Link with target/staticlib/libgossip.a, which `rt staticlib gossip` makes.
+ * Link with crates/gossip/out/libgossip.a, which `rt lib` in crates/gossip makes.
  *
  * Every function takes any memory contents and any arguments. A slice is a pointer and its number of elements. A reply's `number`
  * is 0 where nothing refused the call; else it is the number of the first question answered "no", every other field is 0, and

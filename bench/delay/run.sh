@@ -3,6 +3,6 @@
 # each distance worked out in whole numbers. Says at its end how many were met and the largest distance; the status is 1 where one is 1 ns or more.
 set -eu
 cd "$(dirname "$0")/../.."
-rt check simulate >/dev/null
+(cd crates/simulate && rt run </dev/null) >/dev/null
 rustc --edition 2024 -O -o target/bench-delay bench/delay/main.rs
-exec target/bench-delay target/bin/simulate "${1:-10000000}" "${2:-1}"
+exec target/bench-delay crates/simulate/out/simulate "${1:-10000000}" "${2:-1}"

@@ -3,8 +3,8 @@
 # Says at its end what was met; the status is 1 where a line differs.
 set -eu
 cd "$(dirname "$0")/../.."
-rt staticlib gossip >/dev/null
-rustc --edition 2024 -O -o target/bench-stream bench/stream/main.rs -L target/staticlib -l static=gossip
+(cd crates/gossip && rt lib) >/dev/null
+rustc --edition 2024 -O -o target/bench-stream bench/stream/main.rs -L crates/gossip/out -l static=gossip
 answers=target/bench-stream.answers
 grep '^draw long ' crates/simulate/stdin | target/bench-stream >$answers
 grep '^draw long ' crates/simulate/stdout | diff - $answers >$answers.diff && differ=0 || differ=$(grep -c '^[<>]' $answers.diff)
