@@ -1,7 +1,7 @@
 #!/usr/bin/env python3
 """divisions.py [CRATE FUNCTION..]: which functions that a draw reaches divide or take a remainder, by the MIR that `rt mir CRATE` prints.
 
-Without words it looks at every draw on a stream: the words of rand_chacha, the cursor of rand_streams, the draws of rand_draw, and the draw on a
+Without words it looks at every draw on a stream: the words of rand_chacha8, the cursor of rand_streams, the draws of rand_draw, and the draw on a
 stream record that is lent by `&mut` (gossip). Says for each how many functions it reaches, names those of them with a `div` or a `rem` of integers,
 and ends with status 1 where there is one.
 """
@@ -10,7 +10,7 @@ import subprocess
 import sys
 
 DRAWS = {
-    "rand_chacha": ["split", "word", "block"],
+    "rand_chacha8": ["split", "word", "block"],
     "rand_streams": ["at", "draw32", "draw64", "step_at"],
     "rand_draw": ["draw_fraction", "draw_real", "hits", "whole32", "whole64", "range64"],
     "gossip": ["streams::gossip_next_u64"],
