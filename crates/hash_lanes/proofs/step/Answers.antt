@@ -32,7 +32,7 @@ loop-l-preserved c = let l = c.loop-l in
     let m = c.words_whole-m.ensures ∙ ap words_of c.back.ensures in (
       omega arith,
       simp length-set l.invariant.1,
-      step_turn a.t1 (λ j. words_of (drop (a.n * j) a.s.now)) (λ j. a.t + a.u * j) l.out c.compress_block-r.result a.d l.l l.invariant.1 (omega arith) l.invariant.2
+      step_turn a.h (λ j. words_of (drop (a.n * j) a.s.now)) (λ j. a.t + a.u * j) l.out c.compress_block-r.result a.d l.l l.invariant.1 (omega arith) l.invariant.2
           (c.compress_block-r.ensures ∙ ap₂ (λ x y. compressed x y (a.t + a.u * l.l) 64 a.d) c.lane.ensures m),
     )
 

@@ -10,8 +10,8 @@ loop-i-init c = (omega arith, refl, λ j k. absurd (omega arith))
 pub loop-i-preserved : goal.loop-i-preserved
 loop-i-preserved c = let i = c.loop-i in
     let a = c.args in
-    (omega arith, c.put-in-loop-i.ensures.0, filled_turn a.t1 a.t2 i.out _ _ i.i (omega arith) i.invariant.2 c.put.ensures.1 c.put.ensures.2 c.put-in-loop-i.ensures.1 c.put-in-loop-i.ensures.2)
+    (omega arith, c.put-in-loop-i.ensures.0, filled_turn a.a a.b i.out _ _ i.i (omega arith) i.invariant.2 c.put.ensures.1 c.put.ensures.2 c.put-in-loop-i.ensures.1 c.put-in-loop-i.ensures.2)
 
 pub returns : goal.returns
 returns c = let i = c.loop-i in
-    filled_blocks c.args.t1 c.args.t2 i.out (λ j k. i.invariant.2 j (omega arith))
+    filled_blocks c.args.a c.args.b i.out (λ j k. i.invariant.2 j (omega arith))
