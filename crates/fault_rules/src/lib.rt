@@ -1,5 +1,6 @@
 // The drop rules of a network: rows of a lent table, in install order.
 #![tactic(auto)]
+
 ghost use Rattle.std.specs.Prelude.{◌≡◌, ◌+◌, ◌-◌, ◌*◌, ◌<◌, ◌≤◌, length};
 ghost use Rattle.table_shift.specs.Shift.{closed};
 ghost use Rattle.fault_rules.specs.Rules.{rule_width, rule_slots, rule_at, put_at, rules_of, index_of, reading_of, removed_of, install_number, install_table, remove_table, fire_table};

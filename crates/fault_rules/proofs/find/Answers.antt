@@ -1,4 +1,4 @@
-use Rattle.std.proofs.Common.{◌-◌, ◌∙◌, arith}
+use Rattle.std.proofs.Common.{◌∙◌, arith}
 use Rattle.fault_rules.proofs.Laws.{index_first, index_more, index_here, index_end}
 use Rattle.fault_rules.proofs.find.Goals as goal
 
