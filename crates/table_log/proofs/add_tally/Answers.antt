@@ -9,5 +9,5 @@ pub bounds-log-b-4 : goal.bounds-log-b-4
 bounds-log-b-4 c = simp length-set (omega arith)
 
 pub returns : goal.returns
-returns c = let a = c.args in tally_made a.log.now a.class a.wire _ _ (omega arith) (omega arith) c.wrapping_add_u64-deliveries.ensures
-    c.wrapping_add_u64-bytes.ensures
+returns c = let a = c.args in tally_made a.log.now a.class a.wire _ _ (omega arith) (omega arith) c.wrapping_add_u64-deliveries.ensures.value
+    c.wrapping_add_u64-bytes.ensures.value
