@@ -39,6 +39,8 @@ Admits f = ((s : Bool) × (e : ℤ) × (f ≡ fin s 0 e)) ⊎ (HasValue f false 
 
 zero_is : (f : Float) → T (eq f zero64) → Admits f
 unfolding eq
+zero_is nan t = elim t [ ]
+zero_is (inf s) t = elim t [ ]
 zero_is (fin s m e) t = inl (s, e, ap (λ (k : ℕ). fin s k e) (first m (up e) (down e) (up_pos e) (eqb→eq (m * up e * 1) (0 * 1 * down e) (and_l (eqb (m * up e * 1) (0 * 1 * down e)) _ t))))
   where
     first : (m u d : ℕ) → 0 < u → m * u * 1 ≡ 0 * 1 * d → m ≡ 0
