@@ -1,5 +1,6 @@
 // BLAKE3's chunks and parent nodes, over two parts in a row that are not joined.
 #![tactic(auto)]
+
 ghost use Rattle.std.specs.Prelude.{◌≡◌, ◌++◌, ℕ, ◌+◌, ◌-◌, ◌<◌, ◌≤◌, length, get_or};
 ghost use Rattle.hash_compress.specs.Compress.{iv};
 ghost use Rattle.hash_compress.specs.Words.{list_of};

@@ -1,6 +1,7 @@
 // BLAKE3's compression function. The state and the message are words by name, and each function is called in one place,
 // so that LLVM inlines the round and keeps the state in registers.
 #![tactic(auto)]
+
 ghost use Rattle.std.specs.Prelude.{◌≡◌, ◌<◌};
 ghost use Rattle.hash_compress.specs.Compress.{half_of, mix_of, round_of, permuted, rounds, initial, folded, compressed};
 ghost use Rattle.hash_compress.specs.Words.{list_of};

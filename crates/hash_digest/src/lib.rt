@@ -1,5 +1,6 @@
 // BLAKE3 of up to 65,700 bytes: the tree over the chunks, and the digest of one slice and of two parts in a row.
 #![tactic(auto)]
+
 ghost use Rattle.std.specs.Prelude.{◌≡◌, true, ◌++◌, ◌+◌, ◌-◌, ◌*◌, ◌^◌, ◌<◌, ◌≤◌, length, take, drop};
 ghost use Rattle.hash_lanes.specs.Lanes.{whole_of};
 ghost use Rattle.hash_digest.specs.Blake3.{tree, hash, longest, too_long, digest_of};

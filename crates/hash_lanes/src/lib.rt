@@ -1,5 +1,6 @@
 // Four whole subtrees of BLAKE3 at a time, in lanes that LLVM turns into vector code.
 #![tactic(auto)]
+
 mod nodes;
 mod rounds;
 mod rows;

@@ -1,6 +1,6 @@
 use native.Mathlib.Omega.{arith}
 use lib.ListN.{length}
-use Prim.Native.Nat.{◌+◌, ◌-◌, ◌/◌}
+use Prim.Native.Nat.{◌-◌, ◌/◌}
 use mathlib.Core.List.{◌++◌}
 use mathlib.Core.Path.{ap, ◌∙◌}
 use Rattle.hash_chunk.specs.Chunk.{blocks, chunk}

@@ -2,7 +2,6 @@ use mathlib.Core.Path.{◌≡◌, ◌∙◌}
 use native.Mathlib.Omega.{arith}
 use borrow.Author.Rules.{rules}
 use Rattle.hash_chunk.proofs.Copying.{copied_none, copied_turn, copied_placed}
-use Prim.Native.Nat.{◌-◌}
 use Rattle.hash_chunk.proofs.copy_in.Goals as goal
 
 pub loop-i-init : goal.loop-i-init

@@ -2,7 +2,6 @@ use native.Mathlib.Omega.{arith}
 use Rattle.hash_compress.proofs.Laws.{rounds_turn, rounds_done}
 use Rattle.hash_compress.specs.Words.{list_of}
 use mathlib.Core.Path.{refl, ◌∙◌}
-use Prim.Native.Nat.{◌-◌}
 use Rattle.hash_compress.proofs.seven_rounds.Goals as goal
 
 pub loop-i-init : goal.loop-i-init

@@ -2,7 +2,7 @@ use native.Mathlib.Omega.{arith}
 use Prim.Native.Nat.{◌*◌}
 use mathlib.Core.List.{◌++◌}
 use mathlib.Core.Path.{◌∙◌}
-use Rattle.math_parts.proofs.Parts.{left_length, right_length}
+use Rattle.math_parts.proofs.Parts.{right_length}
 use Rattle.hash_digest.proofs.TreeLaws.{tree_leaf, tree_two_same, tree_two_made, tree_whole}
 use Rattle.hash_lanes.proofs.Laws.{double}
 use Rattle.hash_digest.proofs.+subtree.Goals as goal

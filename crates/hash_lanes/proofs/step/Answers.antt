@@ -4,7 +4,7 @@ use Rattle.hash_chunk.specs.Chunk.{words_of}
 use Rattle.hash_compress.specs.Compress.{compressed}
 use lib.ListN.{length, drop, length-set, length-drop}
 use mathlib.Core.Path.{refl, ap, ap₂, ◌∙◌}
-use Prim.Native.Nat.{◌-◌, ◌+◌, ◌*◌}
+use Prim.Native.Nat.{◌+◌, ◌*◌}
 use Rattle.hash_lanes.proofs.step.Goals as goal
 
 pub loop-l-init : goal.loop-l-init

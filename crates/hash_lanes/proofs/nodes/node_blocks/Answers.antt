@@ -1,7 +1,6 @@
 use native.Mathlib.Omega.{arith}
 use Rattle.hash_lanes.proofs.Places.{filled_turn, filled_blocks}
 use mathlib.Core.Path.{refl}
-use Prim.Native.Nat.{◌-◌}
 use Rattle.hash_lanes.proofs.nodes.node_blocks.Goals as goal
 
 pub loop-i-init : goal.loop-i-init
