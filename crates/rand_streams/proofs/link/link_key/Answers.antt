@@ -8,4 +8,4 @@ use Rattle.rand_streams.proofs.link.link_key.Goals as goal
 -- src/link.rt:36:1
 pub returns : goal.returns
 unfolding link_key
-returns c = digest_words _ (omega arith) c.digest-answer.ensures ∙ ap hash c.link_bytes-bytes.ensures.0
+returns c = digest_words _ (omega arith) c.digest-answer.ensures ∙ ap hash c.link_bytes-bytes.ensures.value
