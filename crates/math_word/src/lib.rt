@@ -1,5 +1,6 @@
 // 32-bit words as BLAKE3 and ChaCha use them, little-endian reads, and the product of two 64-bit numbers as two halves.
 #![tactic(auto)]
+
 ghost use Rattle.std.specs.Prelude.{◌≡◌, ◌+◌, ◌*◌, ◌/◌, ◌%◌, ◌^◌, ◌<◌, ◌≤◌, length};
 ghost use Rattle.math_word.specs.Word.{add32, xor32, rotl32, rotr32, le_word};
 
