@@ -1,5 +1,6 @@
 // Words that move within a table: in blocks of eight, all read before any is written, and the rest one by one.
 #![tactic(auto)]
+
 ghost use Rattle.std.specs.Prelude.{◌≡◌, ◌+◌, ◌≤◌, length, take, drop};
 ghost use Rattle.table_shift.specs.Shift.{opened, closed, put_words};
 

@@ -1,5 +1,5 @@
 use mathlib.Core.Path.{refl, sym, ◌∙◌}
-use mathlib.Core.List.{◌∷◌}
+use mathlib.Core.List.{◌∷◌, []}
 use borrow.Author.Tests.{lt-ltb, le-ltb}
 use Rattle.bench_tables.specs.Answers.{add_of}
 use Rattle.bench_tables.proofs.Tests.{yes, no}

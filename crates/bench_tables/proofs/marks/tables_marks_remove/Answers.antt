@@ -1,5 +1,5 @@
 use mathlib.Core.Path.{◌∙◌, ap}
-use mathlib.Core.List.{◌∷◌}
+use mathlib.Core.List.{◌∷◌, []}
 use borrow.Author.Tests.{le-leb, lt-leb}
 use Rattle.bench_tables.specs.Answers.{valued, remove_of}
 use Rattle.bench_tables.proofs.Tests.{yes, no}
@@ -13,4 +13,4 @@ returns-then-seen-count c = no _ _ _ _ (lt-leb _ _ c.if-seen-count.true) (as_fou
 pub returns : goal.returns
 unfolding remove_of
 returns c = yes _ _ _ _ (le-leb _ _ c.if-seen-count.false)
-    (one_left _ _ _ _ (c.valued.ensures ∙ ap valued c.remove.ensures.0) c.remove.ensures.1)
+    (one_left _ _ _ _ (c.valued.ensures ∙ ap valued c.remove.ensures.left) c.remove.ensures.table)
