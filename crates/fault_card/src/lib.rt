@@ -1,5 +1,6 @@
 // Drop cards: one byte as bit map, then only the fields whose bit stands, lowest first, little-endian. Bit 6 closes the window and has no field.
 #![tactic(auto)]
+
 ghost use Rattle.std.specs.Prelude.{◌≡◌, ◌<◌, ◌≤◌, get_or};
 ghost use Rattle.fault_card.specs.Card.{longest, Within, le_at, size_of, places_of, field_of, spec_of, map_exact, card_of};
 

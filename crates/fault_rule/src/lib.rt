@@ -1,5 +1,6 @@
 // A drop rule: which messages it is for, when it is active, and what it does.
 #![tactic(auto)]
+
 ghost use Rattle.std.specs.Prelude.{◌≡◌, ◌<◌};
 ghost use Rattle.fault_rule.specs.Rule.{has, filter_of, window_of, action_of, window_in, rule_of, holds, forward, passes, applies};
 

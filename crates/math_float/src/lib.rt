@@ -1,5 +1,6 @@
 // f64 values from any 64-bit pattern, the test for NaN, and the clamp to 0..1.
 #![tactic(auto)]
+
 ghost use Rattle.std.specs.Prelude.{◌≡◌};
 ghost use Rattle.std.specs.Float.{binary64};
 ghost use Rattle.std.specs.Float.Ieee.{of_bits, is_nan};
