@@ -1,5 +1,6 @@
 // Front parts of tables, to lend, and a text put to the front of a buffer.
 #![tactic(auto)]
+
 ghost use Rattle.std.specs.Prelude.{◌≡◌, take};
 
 // The first n words, or all where there are fewer.

@@ -4,8 +4,8 @@ use Rattle.sim_figures.proofs.kind.Goals as goal
 
 pub returns-then-original-eq0 : goal.returns-then-original-eq0
 unfolding kind_of
-returns-then-original-eq0 c = (simp (eq-eqb _ _ c.if-original-eq0.true), omega arith)
+returns-then-original-eq0 c = record { is = simp (eq-eqb _ _ c.if-original-eq0.true); within = omega arith }
 
 pub returns : goal.returns
 unfolding kind_of
-returns c = (simp (ne_eqb _ _ c.if-original-eq0.false), omega arith)
+returns c = record { is = simp (ne_eqb _ _ c.if-original-eq0.false); within = omega arith }

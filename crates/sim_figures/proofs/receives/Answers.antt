@@ -8,7 +8,7 @@ pub returns-then-scope-eq-GLOBAL : goal.returns-then-scope-eq-GLOBAL
 returns-then-scope-eq-GLOBAL c = everyone _ _ _ _ c.if-t-from.false c.if-scope-eq-GLOBAL.true
 
 pub returns-then-scope-lt64 : goal.returns-then-scope-lt64
-returns-then-scope-lt64 c = by_mask _ _ _ _ _ _ _ c.if-t-from.false c.if-scope-eq-GLOBAL.false c.if-scope-lt64.true c.till_row.ensures.0 c.get.ensures c.has.ensures
+returns-then-scope-lt64 c = by_mask _ _ _ _ _ _ _ c.if-t-from.false c.if-scope-eq-GLOBAL.false c.if-scope-lt64.true c.till_row.ensures.is c.get.ensures c.has.ensures
 
 pub returns : goal.returns
 returns c = no_shard _ _ _ _ c.if-t-from.false c.if-scope-eq-GLOBAL.false c.if-scope-lt64.false

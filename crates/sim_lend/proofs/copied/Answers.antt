@@ -1,5 +1,4 @@
 use native.Mathlib.Omega.{arith}
-use Prim.Native.Nat.{◌-◌}
 use lib.ListN.{length-set}
 use mathlib.Core.Path.{refl}
 use Rattle.sim_lend.proofs.copied.Goals as goal
