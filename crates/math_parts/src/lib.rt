@@ -1,5 +1,6 @@
 // Parts of a byte slice for any length: the first elements, and what follows them.
 #![tactic(auto)]
+
 ghost use Rattle.std.specs.Prelude.{◌≡◌, ◌-◌, take, drop};
 
 // The first n elements, or all where there are fewer.
