@@ -1,13 +1,17 @@
 // An audit: the calls of a recorded run are played on a network of its own, and every recorded answer is compared with the book's.
 #![tactic(auto)]
-use sim_session::{input, lines};
+
+use sim_session::{input, lines, system};
+use std::io::Read;
+use std::rt::{Clock, Env, Files};
 
 // No run has more lines.
 const TURNS: u64 = 18446744073709551615;
 
-// A whole audit: line after line, to the end of what the descriptor reads, and the page.
-fn run(
-    from: i32,
+// A whole audit: line after line, to the end of what the reader gives, and the page.
+fn run<R: Clock, S: Read>(
+    rt: &R,
+    from: &mut S,
     piece: &mut [u8],
     line: &mut [u8],
     room: &mut [u8],
@@ -29,11 +33,11 @@ fn run(
     text: &mut [u8],
     account: &mut [u64],
 ) {
-    let mut i = input::start(from, 0);
-    let mut r = lines::fresh();
+    let mut i = input::start(false, 0);
+    let mut r = lines::fresh(rt);
     let mut left = TURNS;
     while 0 < left {
-        let t = sim_audit_turn::next(piece, line, room, out, text, account, i, r);
+        let t = sim_audit_turn::next(rt, from, piece, line, room, out, text, account, i, r);
         let after = sim_audit_play::act(
             t.parsed, t.opening, t.session, room, setup, net, names, tills, words, keys, prices,
             seen, waiting, rings, rules, blocks, log, out, due, text,
@@ -69,7 +73,7 @@ const TYPES: usize = ask_tables::MOST_TYPES as usize;
 const REGIONS: usize = ask_tables::MOST_REGIONS as usize;
 
 // An audit on tables of its own: arrays of the largest sizes, all 0.
-fn on_tables(from: i32) {
+fn on_tables<R: Clock, S: Read>(rt: &R, from: &mut S) {
     let mut piece = [0u8; PIECE];
     let mut line = [0u8; LINE];
     let mut room = [0u8; ROOM];
@@ -91,6 +95,7 @@ fn on_tables(from: i32) {
     let mut out = [0u64; SLOTS * call_flush_pass::ROW];
     let mut due = [0u64; sim_notes::WIDTH];
     run(
+        rt,
         from,
         &mut piece,
         &mut line,
@@ -123,29 +128,28 @@ fn headed(name: &[u8]) {
 }
 
 // The audit of the recording that a file has. A file that does not open is told on standard error.
-fn file(name: &[u8]) {
-    let from = os::open_read(name);
-    if from < 0 {
-        os::fail(name);
-        return;
+fn file<R: Files + Clock>(rt: &R, name: &[u8]) {
+    match system::open_read(rt, name) {
+        Ok(mut from) => {
+            headed(name);
+            on_tables(rt, &mut from);
+        }
+        Err(e) => system::fail(name, e),
     }
-    headed(name);
-    on_tables(from);
-    libc::close(from);
 }
 
 // The audit of the recording that word k names.
-fn named(k: usize) {
+fn named<R: Files + Env + Clock>(rt: &R, k: usize) {
     let mut room = io::buffer();
-    let n = os::arg(k, &mut room);
-    file(sim_spelling::words::part(&room, 0, n));
+    let n = system::arg(rt, k, &mut room);
+    file(rt, sim_spelling::words::part(&room, 0, n));
 }
 
 // The audits of the recordings that the words from k on name, one after the other.
-fn each(k: usize, words: usize) {
+fn each<R: Files + Env + Clock>(rt: &R, k: usize, words: usize) {
     let mut i = k;
     while i < words {
-        named(i);
+        named(rt, i);
         i += 1;
     }
 }
@@ -154,18 +158,18 @@ fn each(k: usize, words: usize) {
 const FILES: usize = 2;
 
 // Is `audit` the first word behind the program's name?
-pub fn is_asked() -> bool {
+pub fn is_asked(rt: &impl Env) -> bool {
     let mut word = [0u8; 16];
-    let n = os::arg(1, &mut word);
+    let n = system::arg(rt, 1, &mut word);
     sim_spelling::words::same(sim_spelling::words::part(&word, 0, n), b"audit")
 }
 
 // What the words behind `audit` ask for: the audit of each file that they name, or of standard input.
-pub fn words() {
-    let n = os::arg_count();
+pub fn words<R: Files + Env + Clock + Input>(rt: &R) {
+    let n = system::arg_count(rt);
     if FILES < n {
-        each(FILES, n);
+        each(rt, FILES, n);
         return;
     }
-    on_tables(libc::STDIN_FILENO);
+    on_tables(rt, &mut rt.reader());
 }

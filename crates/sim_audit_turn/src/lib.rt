@@ -1,5 +1,6 @@
 // The next line of a recorded run: an answer is compared with the book's, a call is read and, behind this, played.
 #![tactic(auto)]
+
 use sim_audit_account::{LENGTH, SHOWN, TEXT, put};
 use sim_audit_lines::{ANSWER, CALL};
 use sim_session::input::Input;
@@ -7,6 +8,8 @@ use sim_session::lines::{Parsed, Session};
 use sim_session::turns::Turn;
 use sim_session::{input, lines, opens};
 use sim_spelling::words::part;
+use std::io::Read;
+use std::rt::Clock;
 
 // The bytes of the call's words, for the page: as many as are shown.
 fn keep_words(account: &mut [u64], words: &[u8]) {
@@ -61,11 +64,11 @@ fn words(kind: u64, call: &[u8], is_long: bool, room: &mut [u8]) -> Parsed {
 }
 
 // A call begins its answers anew; it is counted among the calls, for the number of a bad one.
-fn begun(kind: u64, r: Session) -> Session {
+fn begun(rt: &impl Clock, kind: u64, r: Session) -> Session {
     if kind != CALL {
         return r;
     }
-    let mut next = lines::counted(r);
+    let mut next = lines::counted(rt, r);
     next.used = 0;
     next
 }
@@ -79,7 +82,9 @@ fn counted(which: u64, account: &mut [u64]) {
 }
 
 // The next line of the recording; `text` holds the book's answers to the last call. Bytes, keys and names go to `room`, masks to `out`.
-pub fn next(
+pub fn next<R: Clock, S: Read>(
+    rt: &R,
+    from: &mut S,
     piece: &mut [u8],
     line: &mut [u8],
     room: &mut [u8],
@@ -89,7 +94,7 @@ pub fn next(
     i: Input,
     r: Session,
 ) -> Turn {
-    let input = input::next_line(piece, line, i);
+    let input = input::next_line(from, piece, line, i);
     let told = part(line, 0, input.n);
     let kind = sim_audit_lines::kind_of(told);
     sim_audit_account::line(account);
@@ -98,7 +103,7 @@ pub fn next(
     let parsed = words(kind, call, input.long, room);
     let opening = opens::read(call, call.len(), parsed.which, room, out);
     counted(lines::verdict(parsed, opening, r), account);
-    let session = begun(kind, r);
+    let session = begun(rt, kind, r);
     Turn {
         input,
         session,

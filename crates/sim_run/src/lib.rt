@@ -1,12 +1,14 @@
 // Runs of scripts on networks: a script is read line by line, and every answer goes to standard output; what the words behind a program's
 // name ask for. The programs over it are `simulate` and `simulate_scenarios`.
 #![tactic(auto)]
+
 use sim_openings::Opening;
 use sim_run_parts::{CHECKLIST, MORNING};
 use sim_script::calls;
-use sim_session::input::NOWHERE;
 use sim_session::lines::{Parsed, Session};
-use sim_session::{lines, turns};
+use sim_session::{lines, system, turns};
+use std::io::Read;
+use std::rt::{Clock, Env, Files};
 
 // A line, acted on: an opening, a call on the network that is open, or neither.
 fn act(
@@ -51,10 +53,11 @@ fn act(
 // No run has more lines.
 const TURNS: u64 = 18446744073709551615;
 
-// A whole run: line after line, to the end of what the descriptor reads, and the checklist where it was asked for.
-fn run(
+// A whole run: line after line, to the end of what the reader gives, and the checklist where it was asked for.
+fn run<R: Clock, S: Read>(
+    rt: &R,
     asked: u64,
-    from: i32,
+    from: &mut S,
     piece: &mut [u8],
     line: &mut [u8],
     room: &mut [u8],
@@ -75,12 +78,12 @@ fn run(
     due: &mut [u64],
     text: &mut [u8],
 ) {
-    let begun = sim_run_parts::source(asked, from, piece);
+    let begun = sim_run_parts::source(asked, piece);
     let mut i = begun;
-    let mut r = lines::fresh();
+    let mut r = lines::fresh(rt);
     let mut left = TURNS;
     while 0 < left {
-        let t = turns::next(piece, line, room, out, i, r);
+        let t = turns::next(rt, from, piece, line, room, out, i, r);
         let after = act(
             t.parsed, t.opening, t.session, room, setup, net, names, tills, words, keys, prices,
             seen, waiting, rings, rules, blocks, log, out, due, text,
@@ -110,7 +113,7 @@ const TYPES: usize = ask_tables::MOST_TYPES as usize;
 const REGIONS: usize = ask_tables::MOST_REGIONS as usize;
 
 // A run on tables of its own: arrays of the largest sizes, all 0.
-fn on_tables(asked: u64, from: i32) {
+fn on_tables<R: Clock, S: Read>(rt: &R, asked: u64, from: &mut S) {
     let mut piece = [0u8; PIECE];
     let mut line = [0u8; LINE];
     let mut room = [0u8; ROOM];
@@ -131,6 +134,7 @@ fn on_tables(asked: u64, from: i32) {
     let mut out = [0u64; SLOTS * call_flush_pass::ROW];
     let mut due = [0u64; sim_notes::WIDTH];
     run(
+        rt,
         asked,
         from,
         &mut piece,
@@ -156,46 +160,45 @@ fn on_tables(asked: u64, from: i32) {
 }
 
 // The run of the script that a file has, with the checklist. A file that does not open is told on standard error.
-fn file(name: &[u8]) {
-    let from = os::open_read(name);
-    if from < 0 {
-        os::fail(name);
-        return;
+fn file<R: Files + Clock>(rt: &R, name: &[u8]) {
+    match system::open_read(rt, name) {
+        Ok(mut from) => {
+            sim_run_parts::headed(name);
+            on_tables(rt, CHECKLIST, &mut from);
+        }
+        Err(e) => system::fail(name, e),
     }
-    sim_run_parts::headed(name);
-    on_tables(CHECKLIST, from);
-    libc::close(from);
 }
 
 // The run that word k names: `morning`, or a file's.
-fn named(k: usize) {
+fn named<R: Files + Env + Clock>(rt: &R, k: usize) {
     let mut room = io::buffer();
-    let n = os::arg(k, &mut room);
+    let n = system::arg(rt, k, &mut room);
     let name = sim_spelling::words::part(&room, 0, n);
     if sim_run_parts::asked_by(name) == MORNING {
         sim_run_parts::headed(name);
-        on_tables(MORNING, NOWHERE);
+        on_tables(rt, MORNING, &mut std::io::empty());
         return;
     }
-    file(name);
+    file(rt, name);
 }
 
 // The runs that the words from k on name, one after the other.
-fn each(k: usize, words: usize) {
+fn each<R: Files + Env + Clock>(rt: &R, k: usize, words: usize) {
     let mut i = k;
     while i < words {
-        named(i);
+        named(rt, i);
         i += 1;
     }
 }
 
 // What the words behind the program's name ask for: a run for each word behind `checklist`, where there are any, or one run.
-pub fn words() {
-    let asked = sim_run_parts::asked();
-    let n = os::arg_count();
+pub fn words<R: Files + Env + Clock + Input>(rt: &R) {
+    let asked = sim_run_parts::asked(rt);
+    let n = system::arg_count(rt);
     if sim_run_parts::names_files(asked, n) {
-        each(sim_run_parts::FILES, n);
+        each(rt, sim_run_parts::FILES, n);
         return;
     }
-    on_tables(asked, libc::STDIN_FILENO);
+    on_tables(rt, asked, &mut rt.reader());
 }

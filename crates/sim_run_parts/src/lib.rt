@@ -1,8 +1,10 @@
 // The parts of a run beside its calls: the words behind the program's name, where the lines come from, an opening, the end.
 #![tactic(auto)]
+
 use sim_openings::Opening;
 use sim_session::lines::Session;
-use sim_session::{input, lines, opens};
+use sim_session::{input, lines, opens, system};
+use std::rt::Env;
 
 // What a word behind the program's name asks for.
 const NOTHING: u64 = 0;
@@ -26,9 +28,9 @@ pub fn asked_by(word: &[u8]) -> u64 {
 }
 
 // What the first word behind the program's name asks for.
-pub fn asked() -> u64 {
+pub fn asked(rt: &impl Env) -> u64 {
     let mut word = [0u8; 16];
-    let n = os::arg(1, &mut word);
+    let n = system::arg(rt, 1, &mut word);
     asked_by(sim_spelling::words::part(&word, 0, n))
 }
 
@@ -47,12 +49,12 @@ pub fn headed(name: &[u8]) {
     io::write_all(sim_printer::STDOUT, b"\n");
 }
 
-// Where the lines come from: what the descriptor reads, or the morning that the program carries.
-pub fn source(asked: u64, from: i32, piece: &mut [u8]) -> input::Input {
+// Where the lines come from: what the reader gives, or the morning that the program carries.
+pub fn source(asked: u64, piece: &mut [u8]) -> input::Input {
     if asked == MORNING {
-        return input::start(input::NOWHERE, sim_morning::script(piece));
+        return input::start(true, sim_morning::script(piece));
     }
-    input::start(from, 0)
+    input::start(false, 0)
 }
 
 // An opening.

@@ -1,7 +1,8 @@
-// A script, read piece by piece from a descriptor: a line at a time is gathered in a buffer.
+// A script, read piece by piece: a line at a time is gathered in a buffer.
+use std::io::Read;
 
 // Where the reading stands: the piece's bytes from `at` up to `end` are still to come; the line has n bytes so far; more than its buffer
-// holds and it is too long; the input has ended. `from` is the descriptor; a carried script stands in the first piece whole, and is read from nowhere.
+// holds and it is too long; the input has ended. A carried script stands in the first piece whole, and is read from nowhere.
 #[derive(Clone, Copy)]
 pub struct Input {
     pub at: usize,
@@ -10,14 +11,11 @@ pub struct Input {
     pub long: bool,
     pub ended: bool,
     pub ready: bool,
-    pub from: i32,
+    pub carried: bool,
 }
 
-// No descriptor.
-pub const NOWHERE: i32 = -1;
-
 // Nothing read yet; of a carried script so many bytes stand in the piece.
-pub fn start(from: i32, end: usize) -> Input {
+pub fn start(carried: bool, end: usize) -> Input {
     Input {
         at: 0,
         end,
@@ -25,7 +23,7 @@ pub fn start(from: i32, end: usize) -> Input {
         long: false,
         ended: false,
         ready: false,
-        from,
+        carried,
     }
 }
 
@@ -41,7 +39,7 @@ fn with_byte(line: &mut [u8], i: Input, b: u8) -> Input {
             long: i.long,
             ended: false,
             ready: true,
-            from: i.from,
+            carried: i.carried,
         };
     }
     if n < line.len() {
@@ -53,7 +51,7 @@ fn with_byte(line: &mut [u8], i: Input, b: u8) -> Input {
             long: i.long,
             ended: false,
             ready: false,
-            from: i.from,
+            carried: i.carried,
         };
     }
     Input {
@@ -63,7 +61,7 @@ fn with_byte(line: &mut [u8], i: Input, b: u8) -> Input {
         long: true,
         ended: false,
         ready: false,
-        from: i.from,
+        carried: i.carried,
     }
 }
 
@@ -90,17 +88,19 @@ fn gathered(piece: &[u8], line: &mut [u8], before: Input) -> Input {
 }
 
 // The bytes of the next piece: none behind a carried script.
-fn got(piece: &mut [u8], from: i32) -> usize {
-    if from < 0 {
+fn got<S: Read>(from: &mut S, piece: &mut [u8], carried: bool) -> usize {
+    if carried {
         return 0;
     }
-    let n = libc::read(from, piece);
-    io::count(n, piece)
+    match from.read(piece) {
+        Ok(n) => n,
+        Err(_) => 0,
+    }
 }
 
 // The next piece; a last line without an end is a line too.
-fn refilled(piece: &mut [u8], i: Input) -> Input {
-    let end = got(piece, i.from);
+fn refilled<S: Read>(from: &mut S, piece: &mut [u8], i: Input) -> Input {
+    let end = got(from, piece, i.carried);
     Input {
         at: 0,
         end,
@@ -108,22 +108,22 @@ fn refilled(piece: &mut [u8], i: Input) -> Input {
         long: i.long,
         ended: end == 0,
         ready: end == 0,
-        from: i.from,
+        carried: i.carried,
     }
 }
 
-fn turn(piece: &mut [u8], line: &mut [u8], i: Input) -> Input {
+fn turn<S: Read>(from: &mut S, piece: &mut [u8], line: &mut [u8], i: Input) -> Input {
     if i.at < i.end {
         return gathered(piece, line, i);
     }
-    refilled(piece, i)
+    refilled(from, piece, i)
 }
 
 // No run is longer.
 const TURNS: u64 = 18446744073709551615;
 
 // The next line, whole.
-pub fn next_line(piece: &mut [u8], line: &mut [u8], before: Input) -> Input {
+pub fn next_line<S: Read>(from: &mut S, piece: &mut [u8], line: &mut [u8], before: Input) -> Input {
     let mut i = Input {
         at: before.at,
         end: before.end,
@@ -131,11 +131,11 @@ pub fn next_line(piece: &mut [u8], line: &mut [u8], before: Input) -> Input {
         long: false,
         ended: false,
         ready: false,
-        from: before.from,
+        carried: before.carried,
     };
     let mut left = TURNS;
     while 0 < left {
-        let next = turn(piece, line, i);
+        let next = turn(from, piece, line, i);
         if next.ready {
             return next;
         }

@@ -26,12 +26,12 @@ pub struct Session {
 }
 
 // No line yet.
-pub fn fresh() -> Session {
+pub fn fresh(rt: &impl std::rt::Clock) -> Session {
     Session {
         lines: 0,
         used: 0,
         opened: false,
-        clock: progress::start(),
+        clock: progress::start(rt),
     }
 }
 
@@ -118,9 +118,9 @@ pub fn called(text: &mut [u8], r: Session, o: Outcome) -> Session {
 }
 
 // One line more; a long run tells how far it is.
-pub fn counted(r: Session) -> Session {
+pub fn counted(rt: &impl std::rt::Clock, r: Session) -> Session {
     let mut next = r;
-    next.clock = progress::told(r.lines, r.clock);
+    next.clock = progress::told(rt, r.lines, r.clock);
     next.lines = std::num::wrapping_add_u64(r.lines, 1);
     next
 }

@@ -1,5 +1,7 @@
 // Progress of a long run, on standard error.
-use libc::STDERR_FILENO;
+
+// The descriptor of standard error.
+const STDERR: i32 = 2;
 
 // Lines between two looks at the clock, and seconds between two reports.
 const LINES: u64 = 4096;
@@ -13,31 +15,33 @@ pub struct Clock {
     pub ticks: u64,
 }
 
-fn now() -> i64 {
-    let mut t: i64 = 0;
-    libc::time(&mut t)
+fn now(rt: &impl std::rt::Clock) -> i64 {
+    match rt.since_1970() {
+        Ok(t) => t.as_secs().cast_signed(),
+        Err(_) => -1,
+    }
 }
 
-pub fn start() -> Clock {
+pub fn start(rt: &impl std::rt::Clock) -> Clock {
     Clock {
-        second: now(),
+        second: now(rt),
         ticks: 0,
     }
 }
 
 fn report(lines: u64, ticks: u64) {
     if ticks % SECONDS == 0 {
-        io::print_decimal(STDERR_FILENO, lines);
-        io::write_all(STDERR_FILENO, b" lines\n");
+        io::print_decimal(STDERR, lines);
+        io::write_all(STDERR, b" lines\n");
     }
 }
 
 // The clock behind so many lines.
-pub fn told(lines: u64, c: Clock) -> Clock {
+pub fn told(rt: &impl std::rt::Clock, lines: u64, c: Clock) -> Clock {
     if lines % LINES != 0 {
         return c;
     }
-    let second = now();
+    let second = now(rt);
     if second == c.second {
         return c;
     }

@@ -1,9 +1,10 @@
 // Runs scripts of calls on networks, and audits recorded runs: what the words behind the program's name ask for. README.md says more.
 #![tactic(auto)]
-fn main() {
-    if sim_audit_run::is_asked() {
-        sim_audit_run::words();
+
+fn main(rt: HostRuntime) {
+    if sim_audit_run::is_asked(&rt) {
+        sim_audit_run::words(&rt);
         return;
     }
-    sim_run::words();
+    sim_run::words(&rt);
 }

@@ -1,5 +1,6 @@
 // The program `simulate` over recorded runs: the audit of every recording of `data`.
 #![tactic(auto)]
-fn main() {
-    sim_audit_run::words()
+
+fn main(rt: HostRuntime) {
+    sim_audit_run::words(&rt)
 }
