@@ -1,5 +1,6 @@
 // Where tills sit, the price of a link between two regions, drawn, and the time on the wire.
 #![tactic(auto)]
+
 ghost use Rattle.std.specs.Prelude.{◌≡◌, ◌+◌, ◌<◌, ◌≤◌, ◌^◌, length};
 ghost use Rattle.rand_streams.specs.Streams.{Holds, Moved};
 ghost use Rattle.math_word.specs.Word.{le8};

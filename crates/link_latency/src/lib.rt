@@ -1,5 +1,6 @@
 // The latency of one delivery, as `sample_latency`: jitter, floor, nanoseconds, transmission, spike.
 #![tactic(auto)]
+
 ghost use Rattle.std.specs.Prelude.{◌≡◌, ◌+◌, ◌<◌, ◌≤◌, ◌^◌};
 ghost use Rattle.rand_streams.specs.Streams.{Holds, Moved, word_pair};
 ghost use Rattle.math_time.specs.Seconds.{seconds};

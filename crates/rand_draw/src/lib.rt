@@ -1,5 +1,6 @@
 // The draw rules over a stream's cursor: fraction, real range, hit against a rate, whole range of n values.
 #![tactic(auto)]
+
 ghost use Rattle.std.specs.Prelude.{◌≡◌, ◌+◌, ◌*◌, ◌<◌, ◌≤◌, ◌^◌};
 ghost use Rattle.rand_streams.specs.Streams.{Holds, Moved};
 ghost use Rattle.rand_draw.specs.Fraction as Fraction;

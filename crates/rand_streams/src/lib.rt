@@ -1,5 +1,6 @@
 // A stream of 32-bit words, read through a cursor by value that keeps the ChaCha block it last read.
 #![tactic(auto)]
+
 mod link;
 
 ghost use Rattle.std.specs.Prelude.{◌≡◌, true, ◌+◌, ◌*◌, ◌/◌, ◌%◌, ◌<◌, ◌^◌};
