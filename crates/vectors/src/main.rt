@@ -1,6 +1,7 @@
 // Vectors from outside: BLAKE3 digests, ChaCha8 words, 64-bit draws and link keys. The file stdout holds the answers of
 // b3sum, of a published table and of Debian's rand_chacha; README.md beside this folder says how each was made.
 #![tactic(auto)]
+
 ghost use Rattle.std.specs.Prelude.{◌+◌, ◌<◌, ◌≤◌, ◌^◌};
 ghost use Rattle.rand_streams.specs.Streams.{Holds};
 
@@ -181,7 +182,11 @@ fn words(i: usize) {
         number(i as u64);
         number(count);
         say(b" ");
-        io::print_hex(STDOUT_FILENO, rand_chacha8::word(key_of(i), count) as u64, 8);
+        io::print_hex(
+            STDOUT_FILENO,
+            rand_chacha8::word(key_of(i), count) as u64,
+            8,
+        );
         say(b"\n");
         k += 1;
     }
