@@ -1,5 +1,6 @@
 // Which rule drops a message: the first, in install order, that applies and whose draw hits.
 #![tactic(auto)]
+
 ghost use Rattle.std.specs.Prelude.{◌≡◌, ◌+◌, ◌*◌, ◌≤◌, ◌<◌, ◌^◌, length, drop};
 ghost use Rattle.rand_streams.specs.Streams.{Holds};
 ghost use Rattle.fault_rule.specs.Rule.{rule_of, applies};

@@ -1,4 +1,5 @@
-use Prim.Native.Nat.{◌-◌}
+use mathlib.Core.Bool.{not}
+use mathlib.Core.Path.{ap}
 use native.Mathlib.Omega.{arith}
 use Rattle.fault_decide.proofs.Laws.{begin, plain, likely, missed, ended}
 use Rattle.fault_decide.proofs.decide.Goals as goal
@@ -22,7 +23,7 @@ pub draw64-d-requires : goal.draw64-d-requires
 draw64-d-requires c = (omega (arith, c.loop-i.invariant.few, c.loop-i-test.true, c.requires.1), c.loop-i.invariant.holds)
 
 pub returns-then-not-x-p : goal.returns-then-not-x-p
-returns-then-not-x-p c = likely c.args.ws.now c.args.n c.args.m c.args.c c.loop-i.i c.loop-i.cursor c.loop-i.invariant c.loop-i-test.true _ c.action-a.ensures _ _ _ _ c.in-DropWithProbability.is c.draw64-d.ensures.0 c.fraction-x.ensures c.draw64-d.ensures.1 c.if-not-x-p.true
+returns-then-not-x-p c = likely c.args.ws.now c.args.n c.args.m c.args.c c.loop-i.i c.loop-i.cursor c.loop-i.invariant c.loop-i-test.true _ c.action-a.ensures _ _ _ _ c.in-DropWithProbability.is c.draw64-d.ensures.0 c.fraction-x.ensures c.draw64-d.ensures.1 (ap not c.if-not-x-p.true)
 
 pub overflow_add-i : goal.overflow_add-i
 overflow_add-i c = omega (arith, c.loop-i-test.true, c.requires.0)
@@ -34,7 +35,7 @@ pub loop-i-smaller : goal.loop-i-smaller
 loop-i-smaller c = omega (arith, c.loop-i-test.true, c.met-i-in-loop-i.ensures.0, c.met-i-in-loop-i.ensures.1)
 
 pub loop-i-preserved : goal.loop-i-preserved
-loop-i-preserved c = missed c.args.ws.now c.args.n c.args.m c.args.c c.loop-i.i c.loop-i.cursor c.loop-i.invariant c.loop-i-test.true _ c.action-a.ensures _ _ _ _ c.in-DropWithProbability.is c.draw64-d.ensures.0 c.fraction-x.ensures c.draw64-d.ensures.1 _ c.if-not-x-p.false c.met-i-in-loop-i.ensures.0 c.met-i-in-loop-i.ensures.1
+loop-i-preserved c = missed c.args.ws.now c.args.n c.args.m c.args.c c.loop-i.i c.loop-i.cursor c.loop-i.invariant c.loop-i-test.true _ c.action-a.ensures _ _ _ _ c.in-DropWithProbability.is c.draw64-d.ensures.0 c.fraction-x.ensures c.draw64-d.ensures.1 _ (ap not c.if-not-x-p.false) c.met-i-in-loop-i.ensures.0 c.met-i-in-loop-i.ensures.1
 
 pub returns : goal.returns
 returns c = ended c.args.ws.now c.args.n c.args.m c.args.c c.loop-i.i c.loop-i.cursor c.loop-i.invariant c.loop-i-test.false
