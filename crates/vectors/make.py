@@ -2,7 +2,7 @@
 """Writes the file stdout of this crate from outside answers: make.py ANSWERS
 
 ANSWERS is the program `answers` that bench/oracle/build.sh makes. BLAKE3 answers come from b3sum, words and 64-bit draws
-from Debian's rand_chacha8 and link keys from the original Rust (both through ANSWERS). The lists are read from src/main.rt.
+from Debian's rand_chacha and link keys from the original Rust (both through ANSWERS). The lists are read from src/main.rt.
 """
 import os, re, subprocess, sys
 
