@@ -3,5 +3,6 @@
 set -eu
 cd "$(dirname "$0")/../.."
 (cd crates/bench_leaves && rt lib) >/dev/null
+mkdir -p target
 rustc --edition 2024 -O -o target/bench-leaves bench/leaves/main.rs -L crates/bench_leaves/out -l static=bench_leaves
 exec target/bench-leaves
