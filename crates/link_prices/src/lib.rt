@@ -1,5 +1,6 @@
 // What a delivery between two regions costs. The links' prices lie in lent memory.
 #![tactic(auto)]
+
 ghost use Rattle.std.specs.Prelude.{◌≡◌, ◌+◌, ◌-◌, ◌<◌, ◌≤◌, ◌^◌, get_or, set};
 ghost use Rattle.rand_streams.specs.Streams.{Holds};
 ghost use Rattle.link_geography.specs.Geography.{put_link, put_pair, link_at, cost_of, Stands, all_count, priced_row, priced_all, prices_of, most_regions, most_bytes};

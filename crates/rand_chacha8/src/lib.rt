@@ -1,6 +1,7 @@
 // ChaCha with eight rounds: a stream's block of 16 words. The state is words by name, and the double round is called in
 // one place, so that LLVM inlines it and keeps the state in registers.
 #![tactic(auto)]
+
 ghost use Rattle.std.specs.Prelude.{◌≡◌, ◌/◌, ◌%◌, ◌<◌};
 ghost use Rattle.rand_chacha8.specs.Chacha.{half_of, quarter_of, columns, diagonals, double_rounds, initial, sums, block_of, word_at};
 ghost use Rattle.rand_chacha8.specs.Words.{list_of};

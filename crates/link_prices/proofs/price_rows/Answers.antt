@@ -2,7 +2,6 @@ use Rattle.link_prices.proofs.Laws.{all_none, all_start, all_count_lem, all_move
 use borrow.Author.Rules.{rules}
 use native.Mathlib.Omega.{arith}
 use mathlib.Core.Path.{refl}
-use Prim.Native.Nat.{◌-◌}
 use Rattle.link_prices.proofs.price_rows.Goals as goal
 
 pub loop-a-init : goal.loop-a-init

@@ -3,7 +3,6 @@ use Rattle.rand_chacha8.proofs.Laws.{rounds_turn, rounds_done}
 use Rattle.rand_chacha8.specs.Chacha.{double_rounds}
 use Rattle.rand_chacha8.specs.Words.{list_of}
 use mathlib.Core.Path.{refl}
-use Prim.Native.Nat.{◌-◌}
 use Rattle.rand_chacha8.proofs.rounds.Goals as goal
 
 pub loop-i-init : goal.loop-i-init
