@@ -1,6 +1,7 @@
 // The tables as C functions, for the benchmark: each tests what its table asks of lengths, counts and heads; where they do not fit it answers
 // number 1, and leaves every table as found.
 #![tactic(auto)]
+
 ghost use Rattle.std.specs.Prelude.{◌≡◌};
 ghost use Rattle.bench_tables.specs.Answers.{valued, not_fit, bit};
 

@@ -1,5 +1,6 @@
 // A delivery, `DeliveryRecord` of the Rust, as a row of eight words: read from a table, and stored there.
 #![tactic(auto)]
+
 ghost use Rattle.std.specs.Prelude.{◌≡◌, ◌+◌, ◌≤◌, length, drop};
 ghost use Rattle.table_shift.specs.Shift.{put_words};
 ghost use Rattle.table_delivery.specs.Delivery.{width, read, words};

@@ -1,5 +1,6 @@
 // The delivery log in one table: count and first slot of its ring, records forced out, tallies of each class, then the records.
 #![tactic(auto)]
+
 ghost use Rattle.std.specs.Prelude.{◌≡◌, ◌+◌, ◌*◌, ◌<◌, ◌≤◌, length, if◌then◌else◌, slice_index};
 ghost use Rattle.table_delivery.specs.Delivery as delivery;
 ghost use Rattle.table_rows.specs.Table.{over};

@@ -1,5 +1,6 @@
 // The marks of a till: the ids it has seen, in a part of a table: the older ones, then the newest, either part rising. An id's place is found by halving.
 #![tactic(auto)]
+
 ghost use Rattle.std.specs.Prelude.{◌≡◌, ◌+◌, ◌≤◌, ◌<◌, length, get_or, take, drop, cond, ◌&&◌, ◌++◌, ltb};
 ghost use Rattle.table_shift.specs.Shift.{put_words, opened};
 ghost use Rattle.table_marks.specs.Marks.{ids_of, halve, halved, leads_to, position, found_in, placed_at, placed_in, removed_in, merged, refilled, newest, found, listed, placed, removed};

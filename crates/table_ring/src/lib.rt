@@ -1,5 +1,6 @@
 // A ring of slots in a table: its count and its first slot stand at h and h + 1, the oldest entry in the first slot, the others behind it, round the end.
 #![tactic(auto)]
+
 ghost use Rattle.std.specs.Prelude.{◌≡◌, [], ◌∷◌, ◌+◌, ◌≤◌, ◌<◌, length};
 ghost use Rattle.table_shift.specs.Shift.{put_words};
 ghost use Rattle.table_ring.specs.Ring.{slot_of, push_slot, count_at, first_at, sound_at, Sound, most};

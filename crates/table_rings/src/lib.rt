@@ -1,6 +1,7 @@
 // The rings of carried messages: one for each type and scope, 64 entries each, the oldest given up first.
 // In one table stand the heads (count, first slot) of all rings, then their entries.
 #![tactic(auto)]
+
 ghost use Rattle.std.specs.Prelude.{◌≡◌, ◌+◌, ◌*◌, ◌≤◌, ◌<◌, length, get_or, drop};
 ghost use Rattle.table_shift.specs.Shift.{put_words};
 ghost use Rattle.table_ring.specs.Ring.{sound_at};

@@ -1,5 +1,6 @@
 // Question 1's range tests: one pass over the rows in use of waiting, rings and log, and over a column of counts.
 #![tactic(auto)]
+
 ghost use Rattle.std.specs.Prelude.{◌≡◌, ◌+◌, ◌*◌, ◌≤◌, length, drop};
 ghost use Rattle.table_rows.specs.Rows.{all_of};
 ghost use Rattle.table_rows.specs.Table.{rows_of};

@@ -1,5 +1,6 @@
 // Waiting copies: rows in the order of time, then sequence. A copy goes in at its place, found from the back; the due ones are a front part.
 #![tactic(auto)]
+
 ghost use Rattle.std.specs.Prelude.{◌≡◌, ◌+◌, ◌*◌, ◌≤◌, length, drop};
 ghost use Rattle.table_shift.specs.Shift.{put_words, opened};
 ghost use Rattle.table_rows.specs.Lists.{front};

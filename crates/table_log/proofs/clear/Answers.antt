@@ -1,4 +1,4 @@
-use Rattle.std.proofs.Common.{◌-◌, refl, arith, length-set}
+use Rattle.std.proofs.Common.{refl, arith, length-set}
 use Rattle.table_log.proofs.Draining.{cleared_more, cleared_all}
 use Rattle.table_log.proofs.clear.Goals as goal
 

@@ -1,4 +1,4 @@
-use Rattle.std.proofs.Common.{◌≡◌, ℕ, ◌-◌, refl, ap, ◌∙◌, arith}
+use Rattle.std.proofs.Common.{◌≡◌, ℕ, refl, ap, ◌∙◌, arith}
 use Rattle.table_delivery.specs.Delivery as delivery
 use Rattle.table_rows.specs.Table.{over}
 use Rattle.table_ring.specs.Ring.{count_at}

@@ -1,4 +1,3 @@
-use native.Mathlib.Omega.{arith}
 use Rattle.table_marks.proofs.Search.{found_at}
 use Rattle.table_marks.proofs.find.Goals as goal
 

@@ -1,7 +1,7 @@
 use Rattle.table_shift.specs.Shift.{opened}
 use lib.ListN.{length}
 use mathlib.Core.Path.{◌≡◌}
-use Prim.Native.Nat.{◌≤◌, ◌-◌}
+use Prim.Native.Nat.{◌≤◌}
 use Rattle.table_marks.proofs.lift.Given as goal
 
 abbrev pub invariant-loop-k : goal.invariant-loop-k

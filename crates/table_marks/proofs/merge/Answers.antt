@@ -1,5 +1,5 @@
 use mathlib.Core.Path.{sym, ◌∙◌}
-use Prim.Native.Nat.{◌-◌, ◌<◌}
+use Prim.Native.Nat.{◌<◌}
 use native.Mathlib.Omega.{arith}
 use Rattle.table_marks.proofs.Parts.{begin, is_left, old_turn, new_turn, finish}
 use Rattle.table_marks.proofs.merge.Goals as goal

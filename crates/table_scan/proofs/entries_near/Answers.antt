@@ -1,6 +1,4 @@
-use Prim.Native.Nat.{◌-◌}
 use mathlib.Core.Path.{refl}
-use mathlib.Core.Bool.{true}
 use native.Mathlib.Omega.{arith}
 use Rattle.table_rings.specs.Rings.{count_of, entries}
 use Rattle.table_scan.specs.Scan.{near_entry}

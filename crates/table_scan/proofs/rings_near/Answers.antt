@@ -1,6 +1,5 @@
-use Prim.Native.Nat.{ℕ, ◌-◌}
+use Prim.Native.Nat.{ℕ}
 use mathlib.Core.Path.{refl}
-use mathlib.Core.Bool.{true}
 use native.Mathlib.Omega.{arith}
 use Rattle.table_rows.specs.Lists.{up_to}
 use Rattle.table_scan.specs.Scan.{ring_near, rings_near}

@@ -1,4 +1,3 @@
-use Prim.Native.Nat.{◌-◌}
 use native.Mathlib.Omega.{arith}
 use Rattle.table_waiting.proofs.Placing.{due_none, due_more, due_here, due_all}
 use Rattle.table_waiting.proofs.due.Goals as goal

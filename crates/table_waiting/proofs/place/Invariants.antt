@@ -1,4 +1,4 @@
-use Prim.Native.Nat.{◌-◌, ◌≤◌}
+use Prim.Native.Nat.{◌≤◌}
 use Rattle.table_waiting.proofs.Placing.{After}
 use Rattle.table_waiting.proofs.place.Given as goal
 
