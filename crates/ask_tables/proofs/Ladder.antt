@@ -1,6 +1,6 @@
 -- Ladders of tests: the way down a chain of `&&` or of `cond`, and what a ladder that was passed says. Assumes nothing.
 use mathlib.Core.Path.{◌≡◌, refl, sym, ◌∙◌}
-use mathlib.Core.Bool.{Bool, true, false, cond, not, ◌&&◌, false≢true}
+use mathlib.Core.Bool.{Bool, true, false, cond, ◌&&◌, false≢true}
 use Prim.Native.Nat.{ℕ, suc, ◌≤◌, ◌<◌}
 use native.Mathlib.Nat.{suc-ne-zero}
 use native.Mathlib.Omega.{arith}
@@ -62,13 +62,11 @@ only false e = e
 pub told : (r b v : Bool) → r ≡ b → r ≡ v → b ≡ v
 told r b v e h = sym e ∙ h
 
-pub is_no : (r b : Bool) → r ≡ b → not r ≡ true → b ≡ false
-is_no true b e h = absurd (false≢true h)
-is_no false b e h = sym e
+pub is_no : (r b : Bool) → r ≡ b → r ≡ false → b ≡ false
+is_no r b e h = told r b false e h
 
-pub is_yes : (r b : Bool) → r ≡ b → not r ≡ false → b ≡ true
-is_yes true b e h = sym e
-is_yes false b e h = absurd (false≢true (sym h))
+pub is_yes : (r b : Bool) → r ≡ b → r ≡ true → b ≡ true
+is_yes r b e h = told r b true e h
 
 -- a bound k that a call gave as r
 pub over : (x k r : ℕ) → r ≡ k → r < x → leb x k ≡ false

@@ -1,6 +1,6 @@
 -- Tests of rows and columns: the turns of a scan over a table's rows, and tests that say the same. Assumes nothing.
 use mathlib.Core.Path.{◌≡◌, refl, sym, ap, ◌∙◌}
-use mathlib.Core.Bool.{Bool, true, false, not, ◌&&◌}
+use mathlib.Core.Bool.{Bool, true, false, ◌&&◌}
 use mathlib.Core.List.{List}
 use Prim.Native.Nat.{ℕ, zero, suc, ◌+◌, ◌*◌, ◌^◌, ◌%◌, ◌≤◌, ◌<◌}
 use native.Mathlib.Nat.{add-zero, one-mul, mul-le-mul}
@@ -9,7 +9,6 @@ use lib.Dec.{ltb, leb}
 use lib.ListN.{length, get_or, take, drop}
 use lib.Pow.{pow_mono}
 use lib.Seq.{get_or-drop}
-use borrow.Author.Tests.{not-true, not-false}
 use Rattle.table_rows.specs.Rows.{all_of}
 use Rattle.table_rows.specs.Lists.{up_to}
 use Rattle.table_rows.specs.Table.{Form, rows_of}
@@ -34,16 +33,16 @@ module _ {R : Type 0} (f : Form R) (q : R → Bool) (ws : List ℕ) (n : ℕ) wh
   long = length_rows f.width f.read n ws
 
   -- row i passes
-  pub row_on : (i : ℕ) (b : Bool) → i < n → b ≡ q (f.read (drop (i * f.width) ws)) → not b ≡ false → Through i → Through (i + 1)
+  pub row_on : (i : ℕ) (b : Bool) → i < n → b ≡ q (f.read (drop (i * f.width) ws)) → b ≡ true → Through i → Through (i + 1)
   row_on i b h e t p =
       let r : R = f.read (drop (i * f.width) ws) in
-      goes_on q (rows_of f ws n) n long i r b h (row_at f ws n i r h) e (not-false b t) p
+      goes_on q (rows_of f ws n) n long i r b h (row_at f ws n i r h) e t p
 
   -- row i does not
-  pub row_off : (i : ℕ) (b : Bool) → i < n → b ≡ q (f.read (drop (i * f.width) ws)) → not b ≡ true → false ≡ all_of q (rows_of f ws n)
+  pub row_off : (i : ℕ) (b : Bool) → i < n → b ≡ q (f.read (drop (i * f.width) ws)) → b ≡ false → false ≡ all_of q (rows_of f ws n)
   row_off i b h e t =
       let r : R = f.read (drop (i * f.width) ws) in
-      stops q (rows_of f ws n) n long i r b h (row_at f ws n i r h) e (not-true b t)
+      stops q (rows_of f ws n) n long i r b h (row_at f ws n i r h) e t
 
   pub rows_done : (i : ℕ) → n ≤ i → Through i → true ≡ all_of q (rows_of f ws n)
   rows_done i h p = ends q (rows_of f ws n) n long i (f.read ws) h p

@@ -1,6 +1,6 @@
 use Rattle.table_shift.proofs.Laws.{stored}
 use lib.ListN.{length-set}
-use mathlib.Core.List.{◌∷◌}
+use mathlib.Core.List.{[], ◌∷◌}
 use native.Mathlib.Omega.{arith}
 use Rattle.ask_tables.proofs.put_till.Goals as goal
 
