@@ -1,13 +1,13 @@
 -- The scans' tests are those of question 1. Assumes nothing.
 use mathlib.Core.Path.{◌≡◌, refl, sym, ap, ◌∙◌}
-use mathlib.Core.Bool.{Bool, true, false, not, cond, ◌&&◌}
+use mathlib.Core.Bool.{Bool, true, false, cond, ◌&&◌}
 use mathlib.Core.List.{List, [], ◌∷◌}
 use Prim.Native.Nat.{ℕ, ◌+◌, ◌*◌, ◌-◌, ◌≤◌, ◌<◌}
 use native.Mathlib.Nat.{mul-le-mul}
 use native.Mathlib.Omega.{arith}
 use lib.Dec.{eqb, ltb, leb}
 use lib.ListN.{length, get_or, take}
-use borrow.Author.Tests.{eq-eqb, ne_eqb, ltb-true, ltb-false, le-leb, lt-leb, not-true, not-false}
+use borrow.Author.Tests.{eq-eqb, ne_eqb, ltb-true, ltb-false, le-leb, lt-leb}
 use Rattle.table_rows.specs.Rows.{all_of}
 use Rattle.table_rows.specs.Table.{rows_of}
 use Rattle.table_delivery.specs.declared.Delivery.{Delivery}
@@ -133,12 +133,12 @@ module _ (prices : List ℕ) (n : ℕ) where
   abbrev pub Linked : ℕ → Type 0
   Linked i = all_of link (take i (below n)) ≡ true
 
-  pub link_on : (i : ℕ) (b : Bool) → i < n → b ≡ link_admitted (link_in prices i) → not b ≡ false → Linked i → Linked (i + 1)
-  link_on i b h e t p = goes_on link (below n) n (numbers_long n) i i b h (number_row n i i h) e (not-false b t) p
+  pub link_on : (i : ℕ) (b : Bool) → i < n → b ≡ link_admitted (link_in prices i) → b ≡ true → Linked i → Linked (i + 1)
+  link_on i b h e t p = goes_on link (below n) n (numbers_long n) i i b h (number_row n i i h) e t p
 
-  pub link_off : (i : ℕ) (b : Bool) → i < n → b ≡ link_admitted (link_in prices i) → not b ≡ true → false ≡ links_admitted prices n
+  pub link_off : (i : ℕ) (b : Bool) → i < n → b ≡ link_admitted (link_in prices i) → b ≡ false → false ≡ links_admitted prices n
   unfolding links_admitted
-  link_off i b h e t = stops link (below n) n (numbers_long n) i i b h (number_row n i i h) e (not-true b t)
+  link_off i b h e t = stops link (below n) n (numbers_long n) i i b h (number_row n i i h) e t
 
   pub links_done : (i : ℕ) → n ≤ i → Linked i → true ≡ links_admitted prices n
   unfolding links_admitted
