@@ -1,6 +1,6 @@
 use Rattle.link_draws.proofs.Laws.{fault_cells}
 use mathlib.Core.Path.{◌∙◌}
-use mathlib.Core.List.{◌∷◌}
+use mathlib.Core.List.{[], ◌∷◌}
 use Rattle.link_draws.proofs.fault_key.Goals as goal
 
 pub returns : goal.returns
