@@ -1,5 +1,6 @@
 // Draws by an opening's settings: where a link's stream and the fault stream stand, a rate's hit, an index, and a latency.
 #![tactic(auto)]
+
 ghost use Rattle.std.specs.Prelude.{◌≡◌, ◌+◌, ◌*◌, ◌^◌, ◌%◌, ◌<◌, ◌≤◌, length, take, drop};
 ghost use Rattle.rand_streams.specs.Streams.{Holds};
 ghost use Rattle.link_geography.specs.Geography.{Stands};

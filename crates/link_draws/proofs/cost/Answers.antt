@@ -8,13 +8,13 @@ use Rattle.link_draws.proofs.cost.Goals as goal
 
 pub cost_between-requires : goal.cost_between-requires
 cost_between-requires c = let a = c.args in (
-      region_small a.setup.now a.prices.now a.from a.to a.bytes c.requires a.from _ c.requires.sender
-          c.region-a.ensures,
-      region_small a.setup.now a.prices.now a.from a.to a.bytes c.requires a.to _ c.requires.receiver
-          c.region-b.ensures,
-      c.requires.priced.regions,
-      c.requires.short,
-    )
+  region_small a.setup.now a.prices.now a.from a.to a.bytes c.requires a.from _ c.requires.sender
+      c.region-a.ensures,
+  region_small a.setup.now a.prices.now a.from a.to a.bytes c.requires a.to _ c.requires.receiver
+      c.region-b.ensures,
+  c.requires.priced.regions,
+  c.requires.short,
+)
 
 pub returns : goal.returns
 returns c = let a = c.args in c.cost_between.ensures ∙ (λ j. cost_of (not (eqb (settings_at a.setup.now).plan.planned 0)) a.prices.now

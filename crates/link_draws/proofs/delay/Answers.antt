@@ -3,13 +3,13 @@ use Rattle.link_draws.proofs.delay.Goals as goal
 
 pub sample_latency-requires : goal.sample_latency-requires
 sample_latency-requires c = let a = c.args in (
-      (cost_admitted a.setup.now a.prices.now a.from a.to a.bytes c.requires.0 c.cost-k.result
-          c.rate.result c.cost-k.ensures c.rate.ensures).0,
-      (cost_admitted a.setup.now a.prices.now a.from a.to
-          a.bytes c.requires.0 c.cost-k.result c.rate.result c.cost-k.ensures c.rate.ensures).1,
-      c.requires.1,
-      c.requires.2,
-    )
+  (cost_admitted a.setup.now a.prices.now a.from a.to a.bytes c.requires.0 c.cost-k.result
+      c.rate.result c.cost-k.ensures c.rate.ensures).0,
+  (cost_admitted a.setup.now a.prices.now a.from a.to
+      a.bytes c.requires.0 c.cost-k.result c.rate.result c.cost-k.ensures c.rate.ensures).1,
+  c.requires.1,
+  c.requires.2,
+)
 
 pub returns : goal.returns
 returns c = let a = c.args in delayed a.setup.now a.prices.now a.from a.to a.bytes c.requires.0 c.cost-k.result a.c
