@@ -1,5 +1,6 @@
 // The digest and the stream block as C functions, for the benchmark of these two leaves.
 #![tactic(auto)]
+
 ghost use Rattle.std.specs.Prelude.{◌≡◌, ◌++◌};
 ghost use Rattle.rand_chacha8.specs.Chacha.{block_of};
 ghost use Rattle.hash_digest.specs.Blake3.{digest_of};
