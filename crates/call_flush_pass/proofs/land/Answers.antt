@@ -13,5 +13,5 @@ returns c = let a = c.args in record {
       out = c.put_row.ensures ∙ ap
           (λ (k : Taken). put_words a.out.now (a.m.rows * row_width) (row_words (row_as a.c k))) c.handlers_of-k.ensures;
       counts =
-          landed_made a.m c.is_handled-h.result _ (c.is_handled-h.ensures.0 ∙ ap handled_by c.handlers_of-k.ensures);
+          landed_made a.m c.is_handled-h.result _ (c.is_handled-h.ensures.is ∙ ap handled_by c.handlers_of-k.ensures);
     }

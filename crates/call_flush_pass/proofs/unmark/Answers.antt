@@ -14,4 +14,4 @@ remove-left-requires c = let a = c.args in ids_room a.z.tills a.z.slots a.seen.n
 
 pub returns : goal.returns
 returns c = let a = c.args in unmark_made a.z.tills a.z.slots a.seen.now c.requires.1 a.t a.id c.requires.0 _ _
-    c.remove-left.ensures.1 c.remove-left.ensures.0
+    c.remove-left.ensures.table c.remove-left.ensures.left

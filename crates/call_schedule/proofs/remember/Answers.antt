@@ -9,4 +9,4 @@ returns-then-not-echoing c = unremembered (settings_at c.args.setup.now) c.args.
 
 pub returns : goal.returns
 returns c = let a = c.args in ring_took (settings_at a.setup.now) a.rings.now (as_message a.m)
-    (is_yes _ _ c.echoing.ensures c.if-not-echoing.false) c.number-ring.result _ c.number-ring.ensures.0 c.push.ensures
+    (is_yes _ _ c.echoing.ensures c.if-not-echoing.false) c.number-ring.result _ c.number-ring.ensures.is c.push.ensures

@@ -13,14 +13,14 @@ pub echo-requires : goal.echo-requires
 echo-requires c = (c.requires.ranged.now, c.requires.first)
 
 pub push_if-requires-2 : goal.push_if-requires-2
-push_if-requires-2 c = let a = c.args in room_less _ _ 1 2 (omega arith) (room_after _ (set a.net.now fault_words_at a.x.fault) a.waiting.now _ _ _ 2 c.push_if.ensures.0 c.push_if.auto.waiting (room_set a.net.now a.waiting.now 3 a.x.fault c.requires.room))
+push_if-requires-2 c = let a = c.args in room_less _ _ 1 2 (omega arith) (room_after _ (set a.net.now fault_words_at a.x.fault) a.waiting.now _ _ _ 2 c.push_if.ensures.counts c.push_if.auto.waiting (room_set a.net.now a.waiting.now 3 a.x.fault c.requires.room))
 
 pub echo-requires-2 : goal.echo-requires-2
 echo-requires-2 c = (c.requires.ranged.now, c.requires.second)
 
 pub push_if-requires-3 : goal.push_if-requires-3
-push_if-requires-3 c = let a = c.args in room_after _ _ _ _ _ _ 1 c.push_if-2.ensures.0 c.push_if-2.auto.waiting
-    (room_after _ (set a.net.now fault_words_at a.x.fault) a.waiting.now _ _ _ 2 c.push_if.ensures.0
+push_if-requires-3 c = let a = c.args in room_after _ _ _ _ _ _ 1 c.push_if-2.ensures.counts c.push_if-2.auto.waiting
+    (room_after _ (set a.net.now fault_words_at a.x.fault) a.waiting.now _ _ _ 2 c.push_if.ensures.counts
     c.push_if.auto.waiting (room_set a.net.now a.waiting.now 3 a.x.fault c.requires.room))
 
 pub remember-requires : goal.remember-requires
@@ -36,4 +36,4 @@ pub shape_of-waiting : goal.shape_of-waiting
 shape_of-waiting c = omega (arith, c.push_if.auto.waiting, c.push_if-2.auto.waiting, c.push_if-3.auto.waiting)
 
 pub returns : goal.returns
-returns c = let a = c.args in sends a.m a.to a.x a.setup.now a.net.now a.words.now a.seen.now a.waiting.now a.rings.now c.requires.below (omega (arith, c.requires.net_size)) c.mark.ensures c.original.ensures c.push_if.ensures.0 c.push_if.ensures.1 c.echo.ensures c.push_if-2.ensures.0 c.push_if-2.ensures.1 c.echo-2.ensures c.push_if-3.ensures.0 c.push_if-3.ensures.1 c.remember.ensures
+returns c = let a = c.args in sends a.m a.to a.x a.setup.now a.net.now a.words.now a.seen.now a.waiting.now a.rings.now c.requires.below (omega (arith, c.requires.net_size)) c.mark.ensures c.original.ensures c.push_if.ensures.counts c.push_if.ensures.rows c.echo.ensures c.push_if-2.ensures.counts c.push_if-2.ensures.rows c.echo-2.ensures c.push_if-3.ensures.counts c.push_if-3.ensures.rows c.remember.ensures
