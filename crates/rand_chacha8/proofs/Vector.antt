@@ -10,7 +10,7 @@ pub block_0 : block_of (replicate 8 0) 0 ≡ 0x2fef003e ∷ 0xd6405f89 ∷ 0xe8b
 unfolding add32 xor32 rotl32 sums double_rounds columns diagonals quarter_at put_quad block_of initial quarter_of half_of
 block_0 = refl
 
--- Debian's rand_chacha8: the key words 1 to 8, block 2^33 + 5, whose number takes both counter words
+-- Debian's rand_chacha: the key words 1 to 8, block 2^33 + 5, whose number takes both counter words
 pub block_high : block_of (1 ∷ 2 ∷ 3 ∷ 4 ∷ 5 ∷ 6 ∷ 7 ∷ 8 ∷ []) 8589934597 ≡ 0xcbf5b696 ∷ 0x710fc7df ∷ 0x3f54ecf4 ∷ 0x72d520e9 ∷ 0xeee92cd5 ∷ 0x39074d35 ∷ 0x732391a4 ∷ 0xdf98dcf6 ∷ 0xccb16ce4 ∷ 0x9a6c478e ∷ 0x997ce242 ∷ 0xdb032706 ∷ 0x9297f2c4 ∷ 0xaa4a3683 ∷ 0xcda408a4 ∷ 0x0d21bbd7 ∷ []
 unfolding add32 xor32 rotl32 sums double_rounds columns diagonals quarter_at put_quad block_of initial quarter_of half_of
 block_high = refl
