@@ -21,4 +21,4 @@ drain-records-requires c = let a = c.args in drain_room a.setup.now a.log.now a.
 pub returns : goal.returns
 returns c = let a = c.args in
     drain_done a.setup.now a.log.now a.out.now _ c.drain_refusal-number.ensures c.if-number-ne0.false _ _ _ _ _ c.forced-forced.ensures
-    c.tallies-tallies.ensures c.drain-records.ensures.0 c.drain-records.ensures.1.0 c.drain-records.ensures.1.1
+    c.tallies-tallies.ensures c.drain-records.ensures.many c.drain-records.ensures.copied c.drain-records.ensures.emptied

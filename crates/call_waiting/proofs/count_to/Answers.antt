@@ -10,9 +10,9 @@ pub loop-i-preserved : goal.loop-i-preserved
 loop-i-preserved c = let a = c.args in
     let l = c.loop-i in (
       omega arith,
-      omega (arith, l.invariant.1, c.moves-k.ensures.1),
+      omega (arith, l.invariant.1, c.moves-k.ensures.within),
       transit_more a.t a.waiting.now a.n l.i l.k c.moves-k.result c.get-c.result c.loop-i-test.true l.invariant.2
-          c.get-c.ensures c.moves-k.ensures.0,
+          c.get-c.ensures c.moves-k.ensures.is,
     )
 
 pub returns : goal.returns
