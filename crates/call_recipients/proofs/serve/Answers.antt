@@ -30,7 +30,7 @@ pub overflow_add-to : goal.overflow_add-to
 overflow_add-to c = omega (arith, c.loop-to-test.true, c.requires.0.priced.tills)
 
 pub loop-to-smaller : goal.loop-to-smaller
-loop-to-smaller c = omega (arith, c.loop-to-test.taken)
+loop-to-smaller c = omega (arith, c.loop-to-test.true)
 
 pub loop-to-preserved : goal.loop-to-preserved
 loop-to-preserved c = let a = c.args in let l = c.loop-to in (omega (arith, c.loop-to-test.true), total_more a.setup.now a.tills.now a.keys.now a.prices.now a.blocks.now a.net.now a.words.now a.seen.now a.waiting.now a.rings.now a.rules.now a.m l.net l.words l.seen l.waiting l.rings l.rules _ _ _ _ _ _ l.c _ l.to c.requires.0 c.requires.1 c.requires.2 l.invariant.8 (omega (arith, c.loop-to-test.true)) c.turn-more.ensures l.invariant.1, c.turn-more.auto.net ∙ l.invariant.2, c.turn-more.auto.words ∙ l.invariant.3, c.turn-more.auto.seen ∙ l.invariant.4, c.turn-more.auto.waiting ∙ l.invariant.5, c.turn-more.auto.rings ∙ l.invariant.6, c.turn-more.auto.rules ∙ l.invariant.7, going_more a.setup.now a.tills.now a.keys.now a.prices.now a.blocks.now a.net.now a.words.now a.seen.now a.waiting.now a.rings.now a.rules.now a.m l.net l.words l.seen l.waiting l.rings l.rules _ _ _ _ _ _ l.c _ l.to c.requires.0 c.requires.1 c.requires.2 l.invariant.8 (omega (arith, c.loop-to-test.true)) c.turn-more.ensures, done_more a.setup.now a.tills.now a.keys.now a.prices.now a.blocks.now a.net.now a.words.now a.seen.now a.waiting.now a.rings.now a.rules.now a.m l.net l.words l.seen l.waiting l.rings l.rules _ _ _ _ _ _ l.c _ l.to c.requires.0 c.requires.1 c.requires.2 l.invariant.8 (omega (arith, c.loop-to-test.true)) c.turn-more.ensures l.invariant.9)
