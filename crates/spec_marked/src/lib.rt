@@ -1,5 +1,6 @@
 // Nothing runs here: the crate holds document 01's marked lines as one table with one theorem.
 #![tactic(auto)]
+
 pub fn nothing(x: u64) -> u64 {
     x
 }

@@ -18,7 +18,7 @@ use Rattle.table_log.specs.Log.{empty_log}
 use Rattle.spec_network.specs.Questions.{asked, first_no}
 use Rattle.spec_network.specs.Layout as layout
 use Rattle.spec_network.specs.Live.{Carried, Live, Engine, with_blocks, with_engine, with_waiting, opening_live}
-use Rattle.spec_network.specs.Calls.{Call, counted, number, tallied, is_blocked, transit, next_time, tally_of, counts_in, rows_in, delivered_in, drops_in, accept, flush, take_down, bring_up, handlers, block, block_during, unblock, install, remove, decide, drain, reading}
+use Rattle.spec_network.specs.Calls.{Call, counted, number, tallied, is_blocked, transit, next_time, tally_of, counts_in, rows_in, delivered_in, drops_in, accept, flush, take_down, bring_up, handlers, block, block_during, unblock, install, remove, drain, reading}
 use Rattle.spec_network.specs.Tables.{Tables, live, cell}
 use Rattle.spec_network.specs.Writes.{Reply, output_with, tables_by, reply_by}
 use Rattle.spec_network.specs.Open.{lengths_of, open_number, open_tables}
