@@ -1,5 +1,5 @@
 -- A note is its writes in a row; the verdict, test by test.
-use Rattle.std.proofs.Common.{◌≡◌, ℕ, zero, suc, ◌+◌, ◌%◌, ◌^◌, ◌<◌, ◌≤◌, Bool, true, false, cond, eqb, List, [], ◌∷◌, length, get_or, set, sym, refl, ap, ◌∙◌, arith, eq-eqb, ne_eqb}
+use Rattle.std.proofs.Common.{◌≡◌, ℕ, zero, suc, ◌+◌, ◌%◌, ◌^◌, ◌≤◌, Bool, true, false, cond, eqb, List, [], ◌∷◌, length, get_or, set, sym, refl, ap, ◌∙◌, arith, eq-eqb, ne_eqb}
 use Rattle.sim_audit_account.specs.Account.{lines_at, calls_at, answers_at, differ_at, first_at, call_at, read_at, bad_at, added, call_note, differ_note, answer_note, passed}
 
 pub read_past : (l : List ℕ) (i : ℕ) → length l ≤ i → 0 ≡ get_or l i 0

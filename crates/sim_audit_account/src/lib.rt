@@ -1,5 +1,6 @@
 // The account of an audit: figures in a lent table, noted line by line, and the verdict that they give.
 #![tactic(auto)]
+
 ghost use Rattle.std.specs.Prelude.{◌≡◌, slice_index, slice_set};
 ghost use Rattle.sim_audit_account.specs.Account as is;
 

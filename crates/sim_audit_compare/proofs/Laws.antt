@@ -1,16 +1,15 @@
 -- What is noted of an answer, and of the answers that are not recorded, from the parts of each.
-use mathlib.Core.Path.{◌≡◌, refl, ap, sym, ◌∙◌}
+use mathlib.Core.Path.{◌≡◌, ap, sym, ◌∙◌}
 use mathlib.Core.Bool.{Bool, true, false, cond}
 use mathlib.Core.List.{List}
-use Prim.Native.Nat.{ℕ, zero, suc, ◌+◌, ◌-◌, ◌≤◌, ◌<◌}
+use Prim.Native.Nat.{ℕ, zero, suc, ◌-◌, ◌≤◌, ◌<◌}
 use native.Mathlib.Omega.{arith}
-use lib.Dec.{leb}
 use lib.ListN.{length, get_or, set}
 use borrow.Author.Tests.{le-leb, lt-leb}
 use Rattle.sim_spelling.specs.Spelling.{part_of, same_text}
 use Rattle.sim_audit_lines.specs.Recorded.{bytes, line_end, behind, agreed}
 use Rattle.sim_audit_account.specs.Account.{read_at, answer_note, differ_note, bad_note}
-use Rattle.sim_audit_compare.specs.Compared.{line_at, next_at, all_said, compared_note, unsaid_note, closed_by, ended_note}
+use Rattle.sim_audit_compare.specs.Compared.{line_at, next_at, compared_note, unsaid_note, closed_by, ended_note}
 
 pub too_many : (l l₁ told book : List ℕ) (i : ℕ) → i ≡ get_or l read_at 0 → length book ≤ i → l₁ ≡ answer_note l false i → l₁ ≡ compared_note l told book
 unfolding compared_note

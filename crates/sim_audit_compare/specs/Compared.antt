@@ -1,5 +1,5 @@
 -- A recorded answer beside the book's answers to the last call, and the end of these answers: what the account notes.
-use Rattle.std.specs.Prelude.{ℕ, zero, suc, Bool, true, false, cond, List, leb, length, get_or, set}
+use Rattle.std.specs.Prelude.{ℕ, zero, suc, Bool, false, cond, List, leb, length, get_or, set}
 use Rattle.sim_spelling.specs.Spelling.{part_of, same_text}
 use Rattle.sim_audit_lines.specs.Recorded.{bytes, line_end, behind, agreed}
 use Rattle.sim_audit_account.specs.Account.{read_at, answer_note, differ_note, bad_note}

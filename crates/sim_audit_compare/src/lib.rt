@@ -1,5 +1,6 @@
 // A recorded answer beside the book's answers to the last call: noted in the account, and printed where they differ.
 #![tactic(auto)]
+
 ghost use Rattle.std.specs.Prelude.{◌≡◌, length};
 ghost use Rattle.sim_audit_compare.specs.Compared as is;
 

@@ -1,5 +1,6 @@
 // A difference between a recorded answer and the book's, printed: the call by its line and its words, then what differs, word by word.
 #![tactic(auto)]
+
 use sim_audit_account::{DIFFER, SHOWN, get};
 use sim_spelling::words::{find, next_word, part, same};
 

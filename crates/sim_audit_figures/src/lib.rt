@@ -1,6 +1,7 @@
 // The figures of an audit, for its page: the same notes are taken of each recorded answer and of each answer of the book, in a table that has a part
 // for either side. They print the page; the verdict does not come from them.
 #![tactic(auto)]
+
 ghost use Rattle.std.specs.Prelude.{◌≤◌};
 
 use sim_spelling::words::{Span, find, next_word, part, same};

@@ -3,13 +3,12 @@ use mathlib.Core.Path.{◌≡◌, refl, ap, sym, ◌∙◌}
 use mathlib.Core.Bool.{Bool, true, false, cond, not}
 use mathlib.Core.List.{List, [], ◌∷◌}
 use Prim.Native.Nat.{ℕ, zero, suc, ◌+◌, ◌-◌, ◌≤◌, ◌<◌}
-use native.Mathlib.Numerals.{add-one}
 use native.Mathlib.Omega.{arith}
 use lib.Dec.{eqb}
 use lib.ListN.{length, get_or}
 use borrow.Author.Tests.{eq-eqb, ne_eqb, lt-ltb, le-ltb}
 use Rattle.sim_spelling.specs.Spelling.{part_of, same_text}
-use Rattle.sim_audit_lines.specs.Recorded.{bytes, call_line, answer_line, remark_line, blank, trimmed_to, trimmed, line_kind, added, added_from, plain, agreed, end_from, line_end, behind}
+use Rattle.sim_audit_lines.specs.Recorded.{bytes, call_line, answer_line, remark_line, blank, trimmed_to, trimmed, line_kind, added, added_from, plain, agreed, end_from, behind}
 
 pub no_byte : (s : List ℕ) → length s ≤ 0 → 0 ≡ get_or s 0 0
 no_byte [] h = refl

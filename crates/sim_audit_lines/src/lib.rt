@@ -1,5 +1,6 @@
 // The lines of a recorded run: what a line is, and whether a recorded answer says what the book says.
 #![tactic(auto)]
+
 ghost use Rattle.std.specs.Prelude.{◌≡◌, ◌≤◌, length, get_or};
 ghost use Rattle.sim_audit_lines.specs.Recorded as is;
 

@@ -1,5 +1,6 @@
 // The page of an audit: what was compared, the differences by number, and the verdict.
 #![tactic(auto)]
+
 use sim_audit_account::{ANSWERS, BAD, CALLS, DIFFER, FIRST, LINES, get};
 
 // Columns of a page and of a label.

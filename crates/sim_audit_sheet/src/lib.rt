@@ -1,5 +1,6 @@
 // The figures of an audit, printed in two columns: recorded, and by the book; a mark stands behind two that differ.
 #![tactic(auto)]
+
 use sim_audit_figures::{
     BOOK, CLASSES, DROPPED, FIVE, LANDED, LATE, LINKS, LOST, MARKS, PUT_OFF, RECEIVED, RECORDED,
     SAID, TALLIES, TO_SENDER, TRANSIT, WAITING, get,

@@ -1,6 +1,7 @@
 // The checklist of a run, printed from its figures: five parts, each with its figures, what they were compared with, and `agrees` or
 // `DIFFERS`; then a closing slip a till. At most 48 columns wide.
 #![tactic(auto)]
+
 ghost use Rattle.sim_printer.specs.Printer.{page};
 ghost use Rattle.sim_sheet.specs.Sheet.{Prints};
 ghost use Rattle.sim_checklist.specs.Checklist.{sheet_of};

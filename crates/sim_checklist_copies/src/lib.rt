@@ -1,5 +1,6 @@
 // Parts D and E of the checklist, and the closing slips, printed: copies, the order of deliveries, class tallies.
 #![tactic(auto)]
+
 mod slips;
 
 ghost use Rattle.std.specs.Prelude.{◌≡◌, ◌≤◌};

@@ -1,5 +1,6 @@
 // The head of the checklist and its parts A to C, printed: recipients, seen marks, drops by cause and by the till that sent.
 #![tactic(auto)]
+
 ghost use Rattle.sim_figures.specs.Figures.{most_numbers};
 ghost use Rattle.sim_printer.specs.Printer.{page};
 ghost use Rattle.sim_sheet.specs.Sheet.{Prints};

@@ -1,5 +1,6 @@
 // What the checklist compares with what, from the figures of a run, and how many comparisons differ.
 #![tactic(auto)]
+
 ghost use Rattle.std.specs.Prelude.{◌≡◌, ◌+◌, ◌-◌, ◌≤◌};
 ghost use Rattle.sim_comparison.specs.Compared as is;
 

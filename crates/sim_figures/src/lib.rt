@@ -5,6 +5,7 @@
 // notes what stands: waits for each waiting copy, tallied for each class, stands for the marks. The checklist is printed from the figures.
 // Recipients are counted by the masks kept here, from the calls' arguments; never from the network's tables.
 #![tactic(auto)]
+
 ghost use Rattle.std.specs.Prelude.{◌≡◌, ◌+◌, ◌≤◌, min, length, replicate, nat_le, slice_index, slice_set};
 ghost use Rattle.sim_figures.specs.Figures as at;
 ghost use Rattle.sim_figures.specs.Notes as note;

@@ -1,5 +1,6 @@
 // The fields of an opening: `key=value` words in any order, each one time.
 #![tactic(auto)]
+
 ghost use Rattle.std.specs.Prelude.{◌≤◌};
 
 use sim_spelling::Number;

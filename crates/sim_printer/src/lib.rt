@@ -1,6 +1,7 @@
 // Text for standard output, gathered in a lent buffer and written when that is full. Each call takes how many of the buffer's
 // bytes count and answers how many count then; more than the buffer has counts as full.
 #![tactic(auto)]
+
 ghost use Rattle.std.specs.Prelude.{◌≡◌, ◌-◌, min, max};
 ghost use Rattle.sim_printer.specs.Printer.{page, more, gathered, blanks, Spelled};
 

@@ -1,6 +1,7 @@
 // The lines of the checklist, printed: at most 48 columns, a figure a line, and under two lines marked = whether they agree;
 // and the rows of its tables.
 #![tactic(auto)]
+
 ghost use Rattle.std.specs.Prelude.{◌≡◌, ◌∷◌, [], ◌-◌, min, get_or};
 ghost use Rattle.sim_printer.specs.Printer.{page};
 ghost use Rattle.sim_figures.specs.Figures.{tills_at};

@@ -1,4 +1,3 @@
-use Prim.Native.Nat.{◌-◌}
 use mathlib.Core.Path.{refl, ◌∙◌}
 use Rattle.sim_audit_compare.proofs.Laws.{all_closed, more_closed, none_closed}
 use Rattle.sim_audit_compare.proofs.closed.Goals as goal

@@ -1,4 +1,4 @@
-use Rattle.std.proofs.Common.{◌≡◌, ◌-◌, length}
+use Rattle.std.proofs.Common.{◌≡◌, length}
 use Rattle.sim_audit_difference.proofs.words.Given as goal
 
 abbrev pub invariant-loop-left : goal.invariant-loop-left

@@ -1,4 +1,3 @@
-use Prim.Native.Nat.{◌-◌}
 use Rattle.sim_audit_lines.proofs.Laws.{from_first, at_stop, at_on, at_end}
 use Rattle.sim_audit_lines.proofs.added_at.Goals as goal
 

@@ -1,4 +1,3 @@
-use Prim.Native.Nat.{◌-◌}
 use Rattle.sim_audit_lines.proofs.Laws.{end_stop, end_on, end_end}
 use Rattle.sim_audit_lines.proofs.line_end.Goals as goal
 

@@ -1,4 +1,4 @@
-use Rattle.std.proofs.Common.{◌-◌, refl, arith, rules}
+use Rattle.std.proofs.Common.{refl, arith, rules}
 use Rattle.sim_sheet.proofs.Laws.{table_none, table_more, table_end}
 use Rattle.sim_checklist_copies.proofs.class_lines.Goals as goal
 

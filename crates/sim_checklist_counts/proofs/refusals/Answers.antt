@@ -2,7 +2,6 @@ use Rattle.sim_sheet.proofs.Laws.{table_none, table_more, table_end}
 use borrow.Author.Rules.{rules}
 use native.Mathlib.Omega.{arith}
 use mathlib.Core.Path.{refl}
-use Prim.Native.Nat.{◌-◌}
 use Rattle.sim_checklist_counts.proofs.refusals.Goals as goal
 
 pub loop-n-init : goal.loop-n-init

@@ -1,5 +1,5 @@
 use Rattle.sim_comparison.proofs.Laws.{classes_none, classes_more, classes_end}
-use Rattle.std.proofs.Common.{◌-◌, arith}
+use Rattle.std.proofs.Common.{arith}
 use Rattle.sim_comparison.proofs.classes_differ.Goals as goal
 
 pub loop-k-init : goal.loop-k-init

@@ -1,5 +1,5 @@
 use Rattle.sim_comparison.proofs.Laws.{column_none, column_more, column_end}
-use Rattle.std.proofs.Common.{◌-◌, arith}
+use Rattle.std.proofs.Common.{arith}
 use Rattle.sim_comparison.proofs.column.Goals as goal
 
 pub loop-t-init : goal.loop-t-init

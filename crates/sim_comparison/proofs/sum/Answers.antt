@@ -1,5 +1,5 @@
 use Rattle.sim_comparison.proofs.Laws.{sum_none, sum_more, sum_end}
-use Rattle.std.proofs.Common.{◌-◌, arith}
+use Rattle.std.proofs.Common.{arith}
 use Rattle.sim_comparison.proofs.sum.Goals as goal
 
 pub loop-i-init : goal.loop-i-init

@@ -1,6 +1,6 @@
 use Rattle.sim_figures.proofs.Laws.{cleared}
 use borrow.Author.Fill.{fill_none, fill_more}
-use Rattle.std.proofs.Common.{ℕ, ◌-◌, List, set, refl, ap, ◌∙◌, arith, length-set}
+use Rattle.std.proofs.Common.{ℕ, List, set, refl, ap, ◌∙◌, arith, length-set}
 use Rattle.sim_figures.proofs.clear.Goals as goal
 
 pub loop-i-init : goal.loop-i-init

@@ -1,6 +1,6 @@
 use Rattle.sim_figures.proofs.Laws.{mask_more, mask_end}
 use Rattle.sim_figures.specs.Notes.{masked}
-use Rattle.std.proofs.Common.{◌-◌, refl, arith, rules}
+use Rattle.std.proofs.Common.{refl, arith, rules}
 use Rattle.sim_figures.proofs.put_masks.Goals as goal
 
 pub loop-t-init : goal.loop-t-init

@@ -1,5 +1,5 @@
 use Rattle.sim_figures.proofs.Laws.{one_more, count_none, count_end}
-use Rattle.std.proofs.Common.{◌-◌, arith}
+use Rattle.std.proofs.Common.{arith}
 use Rattle.sim_figures.proofs.recipients.Goals as goal
 
 pub loop-t-init : goal.loop-t-init

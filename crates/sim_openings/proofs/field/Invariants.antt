@@ -1,4 +1,3 @@
-use Rattle.std.proofs.Common.{◌-◌}
 use Rattle.sim_openings.proofs.field.Given as goal
 
 abbrev pub invariant-loop-left : goal.invariant-loop-left

@@ -1,4 +1,4 @@
-use Rattle.std.proofs.Common.{◌≡◌, ◌-◌, length}
+use Rattle.std.proofs.Common.{◌≡◌, length}
 use Rattle.sim_openings.proofs.names.Given as goal
 
 abbrev pub invariant-loop-left : goal.invariant-loop-left

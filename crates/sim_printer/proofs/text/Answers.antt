@@ -1,6 +1,5 @@
 use native.Mathlib.Omega.{arith}
 use borrow.Author.Rules.{rules}
-use Prim.Native.Nat.{◌-◌}
 use mathlib.Core.Path.{refl}
 use Rattle.sim_printer.proofs.Laws.{next, ended}
 use Rattle.sim_printer.proofs.text.Goals as goal

@@ -1,5 +1,4 @@
 use mathlib.Core.Path.{refl}
-use Prim.Native.Nat.{◌-◌}
 use Rattle.sim_script.proofs.calls.read.Goals as goal
 
 -- src/calls.rt:441:5

@@ -1,4 +1,4 @@
-use Rattle.std.proofs.Common.{◌-◌, refl, ap, ◌∙◌, arith}
+use Rattle.std.proofs.Common.{refl, ap, ◌∙◌, arith}
 use Rattle.std.proofs.lemmas.Bool.{not-true, not-false}
 use Rattle.sim_spelling.specs.Spelling.{more_of}
 use Rattle.sim_spelling.proofs.Laws.{next, stop, ended, no_digits, some_digits}

@@ -1,4 +1,4 @@
-use Rattle.std.proofs.Common.{◌-◌, refl, arith}
+use Rattle.std.proofs.Common.{refl, arith}
 use Rattle.sim_spelling.proofs.Laws.{unlike_lengths, alike_next, alike_stop, alike_end}
 use Rattle.sim_spelling.proofs.words.same.Goals as goal
 
