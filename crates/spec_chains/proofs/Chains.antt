@@ -17,7 +17,7 @@ use Rattle.spec_network.specs.Opening.{Opening}
 use Rattle.spec_network.specs.Layout.{plain}
 use Rattle.spec_network.specs.Live.{Live, LiveBy}
 use Rattle.spec_network.specs.Questions.{Asked, Room, alone, pooled}
-use Rattle.spec_network.specs.Tables.{cell, Tables, live, waiting_at}
+use Rattle.spec_network.specs.Tables.{cell, Tables, waiting_at}
 use Rattle.spec_network.specs.Limits.{range_tests}
 use Rattle.spec_network.specs.Real.{opening_of}
 use Rattle.spec_network.specs.Open.{lent_tests, limit_tests, open_number, open_tables}

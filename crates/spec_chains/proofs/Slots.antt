@@ -1,6 +1,6 @@
 -- The pool as lent memory: each chain finds there its book's waiting copies.
 use mathlib.Core.Path.{◌≡◌, refl, sym, ap, ◌∙◌, subst}
-use Prim.Native.Nat.{ℕ, zero, suc, ◌+◌, ◌-◌, ◌*◌, ◌≤◌, ◌<◌}
+use Prim.Native.Nat.{ℕ, zero, suc, ◌-◌, ◌*◌, ◌≤◌, ◌<◌}
 use native.Mathlib.Omega.{arith}
 use native.Mathlib.Nat.{le_refl, mul-le-mul_right}
 use mathlib.Core.Bool.{Bool, true, false, cond}
@@ -21,7 +21,7 @@ use Rattle.spec_network.specs.Layout.{plain}
 use Rattle.spec_network.specs.Live.{Live, LiveBy, plainly}
 use Rattle.spec_network.specs.Questions.{Room, alone, pooled, first_no, asked_in}
 use Rattle.spec_network.specs.Calls.{Call, Answer}
-use Rattle.spec_network.specs.Tables.{cell, Tables, live, waiting_at}
+use Rattle.spec_network.specs.Tables.{cell, Tables, waiting_at}
 use Rattle.spec_network.specs.Writes.{Reply, is_number, answer_t, room_reply, set_waiting}
 use Rattle.spec_book.specs.Book.{Book, book_step, expected}
 use Rattle.spec_book.specs.Demand3.{Item, own, others, reopen, Admitted, reply_to, replies_to, tables_after, book_after, CallHolds}
