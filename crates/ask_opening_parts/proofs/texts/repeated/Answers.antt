@@ -1,3 +1,4 @@
+use mathlib.Core.List.{[]}
 use Prim.Native.Nat.{◌+◌, ◌*◌, ◌-◌}
 use mathlib.Core.Path.{refl}
 use native.Mathlib.Omega.{arith}
