@@ -5,4 +5,4 @@ use lib.Dec.{T}
 use Rattle.ask_opening.proofs.rate_in_range.Goals as goal
 
 pub returns : goal.returns
-returns c = sym (asked rate_admitted _ _ _ (subst T (sym c.well-formed.0.1) tt) c.rate_admitted.ensures refl)
+returns c = sym (asked rate_admitted _ _ _ (subst T (sym c.well_formed.0.1) tt) c.rate_admitted.ensures refl)

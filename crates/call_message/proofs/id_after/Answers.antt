@@ -6,4 +6,4 @@ hash_parts-d-requires c = head_fits c.args.n c.args.buf.now _ c.args.wire.now c.
 
 pub returns : goal.returns
 returns c = let a = c.args in id_from _ a.wire.now c.hash_parts-d.result a.n c.wide-low.result c.wide-high.result a.buf.now
-    c.front.ensures c.hash_parts-d.ensures c.wide-low.ensures.0 c.wide-high.ensures.0
+    c.front.ensures c.hash_parts-d.ensures c.wide-low.ensures.is c.wide-high.ensures.is
