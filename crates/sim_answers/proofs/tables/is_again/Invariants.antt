@@ -1,8 +1,5 @@
 use Rattle.std.proofs.Common.{◌-◌}
 use Rattle.sim_answers.proofs.tables.is_again.Given as goal
 
-abbrev pub invariant-loop-j : goal.invariant-loop-j
-invariant-loop-j l = Unit {0}
-
 abbrev pub decreases-loop-j : goal.decreases-loop-j
 decreases-loop-j l = l.i - l.j

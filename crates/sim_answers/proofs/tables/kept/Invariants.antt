@@ -1,8 +1,5 @@
 use Rattle.std.proofs.Common.{◌-◌}
 use Rattle.sim_answers.proofs.tables.kept.Given as goal
 
-abbrev pub invariant-loop-r : goal.invariant-loop-r
-invariant-loop-r l = Unit {0}
-
 abbrev pub decreases-loop-r : goal.decreases-loop-r
 decreases-loop-r l = l.n - l.r

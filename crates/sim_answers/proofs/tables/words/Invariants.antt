@@ -1,8 +1,5 @@
-use Rattle.std.proofs.Common.{◌≡◌, ◌-◌, length}
+use Rattle.std.proofs.Common.{◌-◌}
 use Rattle.sim_answers.proofs.tables.words.Given as goal
-
-abbrev pub invariant-loop-i : goal.invariant-loop-i
-invariant-loop-i l = (length l.text ≡ length l.initial.text)
 
 abbrev pub decreases-loop-i : goal.decreases-loop-i
 decreases-loop-i l = 4096 - l.i
