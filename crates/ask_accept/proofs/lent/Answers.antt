@@ -118,7 +118,7 @@ returns-then-not-rules_held c = on _ _ _ (is_yes _ _ c.setup_held.ensures c.if-n
     (off _ _ (is_no _ _ c.rules_held.ensures c.if-not-rules_held.true)))))))))))
 
 pub blocks_held-requires : goal.blocks_held-requires
-blocks_held-requires c = ((is_yes _ _ c.setup_held.ensures c.if-not-setup_held.left), (is_yes _ _ c.net_held.ensures c.if-not-net_held.left))
+blocks_held-requires c = ((is_yes _ _ c.setup_held.ensures c.if-not-setup_held.false), (is_yes _ _ c.net_held.ensures c.if-not-net_held.false))
 
 pub returns : goal.returns
 unfolding accept_lent

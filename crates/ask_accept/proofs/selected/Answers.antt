@@ -28,4 +28,4 @@ pub loop-to-preserved : goal.loop-to-preserved
 loop-to-preserved c = (omega (arith, c.loop-to-test.true), omega (arith, one_small c.one-c.result c.selects-b.result c.one-c.ensures, c.loop-to.invariant.1), omega (arith, c.loop-to.invariant.2, count_on (λ t. selects_at c.args.tills.now c.args.m.scope c.args.m.from t) (λ t. true) (sizes_at c.args.setup.now).tills c.loop-to.to c.one-c.result c.selects-b.result (omega (arith, c.loop-to-test.true)) c.selects-b.ensures c.one-c.ensures))
 
 pub returns : goal.returns
-returns c = (omega (arith, c.loop-to.invariant.2, count_end (λ t. selects_at c.args.tills.now c.args.m.scope c.args.m.from t) (λ t. true) (sizes_at c.args.setup.now).tills c.loop-to.to (omega (arith, c.loop-to-test.false))), omega (arith, c.loop-to.invariant.0, c.loop-to.invariant.1, c.requires.few))
+returns c = record { is = omega (arith, c.loop-to.invariant.2, count_end (λ t. selects_at c.args.tills.now c.args.m.scope c.args.m.from t) (λ t. true) (sizes_at c.args.setup.now).tills c.loop-to.to (omega (arith, c.loop-to-test.false))); within = omega (arith, c.loop-to.invariant.0, c.loop-to.invariant.1, c.requires.few) }

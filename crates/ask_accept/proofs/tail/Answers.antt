@@ -11,16 +11,16 @@ returns-then-not-links_fresh c = let a = c.args in old_link a.setup.now a.net.no
     (is_no _ _ c.links_fresh.ensures c.if-not-links_fresh.true)
 
 pub returns-then-more-net : goal.returns-then-more-net
-returns-then-more-net c = no_number_lem c.args.setup.now c.args.net.now c.args.tills.now c.args.words.now c.args.seen.now c.args.m c.if-net-ge-MOST_WORDS.false (is_yes _ _ c.links_fresh.ensures c.if-not-links_fresh.false) (omega (arith, c.selected-more.ensures.0, c.selected-more.ensures.1, c.if-more-net.true))
+returns-then-more-net c = no_number_lem c.args.setup.now c.args.net.now c.args.tills.now c.args.words.now c.args.seen.now c.args.m c.if-net-ge-MOST_WORDS.false (is_yes _ _ c.links_fresh.ensures c.if-not-links_fresh.false) (omega (arith, c.selected-more.ensures.is, c.selected-more.ensures.within, c.if-more-net.true))
 
 pub returns-then-not-slots_free : goal.returns-then-not-slots_free
-returns-then-not-slots_free c = no_mark c.args.setup.now c.args.net.now c.args.tills.now c.args.words.now c.args.seen.now c.args.m c.if-net-ge-MOST_WORDS.false (is_yes _ _ c.links_fresh.ensures c.if-not-links_fresh.false) (omega (arith, c.selected-more.ensures.0, c.selected-more.ensures.1, c.if-more-net.false)) (is_no _ _ c.slots_free.ensures c.if-not-slots_free.true)
+returns-then-not-slots_free c = no_mark c.args.setup.now c.args.net.now c.args.tills.now c.args.words.now c.args.seen.now c.args.m c.if-net-ge-MOST_WORDS.false (is_yes _ _ c.links_fresh.ensures c.if-not-links_fresh.false) (omega (arith, c.selected-more.ensures.is, c.selected-more.ensures.within, c.if-more-net.false)) (is_no _ _ c.slots_free.ensures c.if-not-slots_free.true)
 
 pub returns-then-setup-more : goal.returns-then-setup-more
-returns-then-setup-more c = no_room c.args.setup.now c.args.net.now c.args.tills.now c.args.words.now c.args.seen.now c.args.m c.if-net-ge-MOST_WORDS.false (is_yes _ _ c.links_fresh.ensures c.if-not-links_fresh.false) (omega (arith, c.selected-more.ensures.0, c.selected-more.ensures.1, c.if-more-net.false)) (is_yes _ _ c.slots_free.ensures c.if-not-slots_free.false) (omega (arith, c.selected-more.ensures.0, c.if-setup-more.true))
+returns-then-setup-more c = no_room c.args.setup.now c.args.net.now c.args.tills.now c.args.words.now c.args.seen.now c.args.m c.if-net-ge-MOST_WORDS.false (is_yes _ _ c.links_fresh.ensures c.if-not-links_fresh.false) (omega (arith, c.selected-more.ensures.is, c.selected-more.ensures.within, c.if-more-net.false)) (is_yes _ _ c.slots_free.ensures c.if-not-slots_free.false) (omega (arith, c.selected-more.ensures.is, c.if-setup-more.true))
 
 pub returns-then-setup-more-2 : goal.returns-then-setup-more-2
-returns-then-setup-more-2 c = no_room c.args.setup.now c.args.net.now c.args.tills.now c.args.words.now c.args.seen.now c.args.m c.if-net-ge-MOST_WORDS.false (is_yes _ _ c.links_fresh.ensures c.if-not-links_fresh.false) (omega (arith, c.selected-more.ensures.0, c.selected-more.ensures.1, c.if-more-net.false)) (is_yes _ _ c.slots_free.ensures c.if-not-slots_free.false) (omega (arith, c.selected-more.ensures.0, c.if-setup-more.false, c.if-setup-more-2.true))
+returns-then-setup-more-2 c = no_room c.args.setup.now c.args.net.now c.args.tills.now c.args.words.now c.args.seen.now c.args.m c.if-net-ge-MOST_WORDS.false (is_yes _ _ c.links_fresh.ensures c.if-not-links_fresh.false) (omega (arith, c.selected-more.ensures.is, c.selected-more.ensures.within, c.if-more-net.false)) (is_yes _ _ c.slots_free.ensures c.if-not-slots_free.false) (omega (arith, c.selected-more.ensures.is, c.if-setup-more.false, c.if-setup-more-2.true))
 
 pub returns : goal.returns
-returns c = all_fit c.args.setup.now c.args.net.now c.args.tills.now c.args.words.now c.args.seen.now c.args.m c.if-net-ge-MOST_WORDS.false (is_yes _ _ c.links_fresh.ensures c.if-not-links_fresh.false) (omega (arith, c.selected-more.ensures.0, c.selected-more.ensures.1, c.if-more-net.false)) (is_yes _ _ c.slots_free.ensures c.if-not-slots_free.false) (omega (arith, c.selected-more.ensures.0, c.if-setup-more.false, c.if-setup-more-2.false))
+returns c = all_fit c.args.setup.now c.args.net.now c.args.tills.now c.args.words.now c.args.seen.now c.args.m c.if-net-ge-MOST_WORDS.false (is_yes _ _ c.links_fresh.ensures c.if-not-links_fresh.false) (omega (arith, c.selected-more.ensures.is, c.selected-more.ensures.within, c.if-more-net.false)) (is_yes _ _ c.slots_free.ensures c.if-not-slots_free.false) (omega (arith, c.selected-more.ensures.is, c.if-setup-more.false, c.if-setup-more-2.false))
