@@ -29,4 +29,4 @@ pub shape_of-keys : goal.shape_of-keys
 shape_of-keys c = simp length-set refl
 
 pub returns : goal.returns
-returns c = key_stored c.args.keys.now c.args.t3 c.args.b (omega (arith, c.well-formed.1.1.0.1.0.1)) (omega arith)
+returns c = key_stored c.args.keys.now c.args.key c.args.b (omega arith) (omega arith)

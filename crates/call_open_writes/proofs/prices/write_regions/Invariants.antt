@@ -7,7 +7,7 @@ use Rattle.link_geography.specs.Geography.{region_of}
 use Rattle.call_open_writes.proofs.prices.write_regions.Given as goal
 
 abbrev pub invariant-loop-t : goal.invariant-loop-t
-invariant-loop-t l = (l.t ≤ l.tills) × (length l.prices ≡ length l.initial.prices) × (l.prices ≡ (take l.n l.initial.prices ++ up_to l.t (λ l.t. region_of l.seed l.regions l.t)) ++ drop (l.n + l.t) l.initial.prices)
+invariant-loop-t l = (l.t ≤ l.tills) × (length l.prices ≡ length l.initial.prices) × (l.prices ≡ (take l.n l.initial.prices ++ up_to l.t (λ t. region_of l.seed l.regions t)) ++ drop (l.n + l.t) l.initial.prices)
 
 abbrev pub decreases-loop-t : goal.decreases-loop-t
 decreases-loop-t l = l.tills - l.t
