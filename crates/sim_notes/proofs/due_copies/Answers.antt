@@ -9,7 +9,7 @@ pub due_copy-row-requires : goal.due_copy-row-requires
 due_copy-row-requires c = (omega arith, omega arith)
 
 pub loop-i-preserved : goal.loop-i-preserved
-loop-i-preserved c = (omega arith, search rules, omega arith, due_more _ _ _ _ _ _ _ c.loop-i.invariant.3 c.due_copy-row.ensures.0)
+loop-i-preserved c = (omega arith, search rules, omega arith, due_more _ _ _ _ _ _ _ c.loop-i.invariant.3 c.due_copy-row.ensures.is)
 
 pub returns : goal.returns
 returns c = due_end _ _ _ _ _ _ c.loop-i.invariant.0 c.loop-i-test.false c.loop-i.invariant.3

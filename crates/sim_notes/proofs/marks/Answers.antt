@@ -6,7 +6,7 @@ pub loop-t-init : goal.loop-t-init
 loop-t-init c = (omega arith, total_none _)
 
 pub loop-t-preserved : goal.loop-t-preserved
-loop-t-preserved c = (omega arith, total_more _ _ _ _ _ c.loop-t.invariant.1 c.cell-in-loop-t.ensures c.wrapping_add_u64-total.ensures)
+loop-t-preserved c = (omega arith, total_more _ _ _ _ _ c.loop-t.invariant.1 c.cell-in-loop-t.ensures c.wrapping_add_u64-total.ensures.value)
 
 pub returns : goal.returns
-returns c = total_end _ _ _ _ _ _ c.loop-t.invariant.0 c.loop-t-test.false c.cell.ensures c.least-n.ensures.0 c.loop-t.invariant.1
+returns c = total_end _ _ _ _ _ _ c.loop-t.invariant.0 c.loop-t-test.false c.cell.ensures c.least-n.ensures.is c.loop-t.invariant.1
