@@ -1,5 +1,6 @@
 // A flush's work once no question refused it: one pass over the due copies, which stand at the front of waiting. Each lands as a row, or is dropped.
 #![tactic(auto)]
+
 ghost use Rattle.std.specs.Prelude.{◌≡◌, ◌+◌, ◌*◌, ◌≤◌, ◌<◌, length};
 ghost use Rattle.table_shift.specs.Shift.{put_words};
 ghost use Rattle.table_waiting.specs.Waiting.{copies};

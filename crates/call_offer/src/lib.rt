@@ -1,5 +1,6 @@
 // What becomes of a message at one recipient: decided from the tables, which stay as they are.
 #![tactic(auto)]
+
 ghost use Rattle.std.specs.Prelude.{◌≡◌, false, List, ℕ, ◌+◌, ◌*◌, ◌^◌, ◌<◌, ◌≤◌, length};
 ghost use Rattle.rand_streams.specs.Streams.{Holds};
 ghost use Rattle.table_marks.specs.Marks.{found, ids_of};

@@ -1,5 +1,6 @@
 // What an offer writes: word counts, the fired count, the mark, the copies and the ring. The decision is `call_offer`'s.
 #![tactic(auto)]
+
 ghost use Rattle.std.specs.Prelude.{◌≡◌, ◌+◌, ◌*◌, ◌<◌, ◌≤◌, length};
 ghost use Rattle.link_latency.specs.Latency.{longest};
 ghost use Rattle.spec_network.specs.Opening.{latest_now, most_types, link};

@@ -9,9 +9,9 @@ use Rattle.call_flush_pass.proofs.land.Goals as goal
 
 pub returns : goal.returns
 returns c = let a = c.args in record {
-      log = c.push.ensures;
-      out = c.put_row.ensures ∙ ap
-          (λ (k : Taken). put_words a.out.now (a.m.rows * row_width) (row_words (row_as a.c k))) c.handlers_of-k.ensures;
-      counts =
-          landed_made a.m c.is_handled-h.result _ (c.is_handled-h.ensures.is ∙ ap handled_by c.handlers_of-k.ensures);
-    }
+  log = c.push.ensures;
+  out = c.put_row.ensures ∙ ap
+      (λ (k : Taken). put_words a.out.now (a.m.rows * row_width) (row_words (row_as a.c k))) c.handlers_of-k.ensures;
+  counts =
+      landed_made a.m c.is_handled-h.result _ (c.is_handled-h.ensures.is ∙ ap handled_by c.handlers_of-k.ensures);
+}

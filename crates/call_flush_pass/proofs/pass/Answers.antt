@@ -1,4 +1,3 @@
-use Prim.Native.Nat.{◌-◌}
 use native.Mathlib.Omega.{arith}
 use Rattle.call_flush_pass.specs.Pass.{flush_view}
 use Rattle.call_flush_pass.proofs.Passing.{begin, more, end, near_copy_lem, row_room}

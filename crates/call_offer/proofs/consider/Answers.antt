@@ -3,7 +3,6 @@ use Rattle.call_offer.proofs.Considered.{is_deduplicated, is_partition}
 use Rattle.call_offer.proofs.Readings.{marked_is, stopped_is}
 use Rattle.call_offer.specs.Offering.{as_message, Draws, Offers}
 use mathlib.Core.Path.{sym, ◌∙◌}
-use borrow.Author.Rules.{rules}
 use Rattle.call_offer.proofs.consider.Goals as goal
 
 pub returns-then-marked : goal.returns-then-marked

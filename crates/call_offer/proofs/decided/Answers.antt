@@ -4,7 +4,6 @@ use Rattle.fault_decide.specs.Decide.{decide_of}
 use Rattle.fault_rules.specs.Rules.{rules_of}
 use Rattle.spec_network.specs.Tables.{cell, settings_at, rules_at, fault_words_at}
 use Rattle.spec_network.specs.Real.{fault_key_of}
-use borrow.Author.Rules.{rules}
 use Rattle.call_offer.proofs.decided.Goals as goal
 
 pub returns-then-n-eq0 : goal.returns-then-n-eq0

@@ -6,7 +6,6 @@ use Rattle.spec_network.specs.Tables.{sizes_at}
 use Rattle.spec_network.specs.Live.{rings_of}
 use Rattle.table_rings.specs.Rings.{number_of, entries}
 use native.Mathlib.Omega.{arith}
-use borrow.Author.Rules.{rules}
 use Rattle.call_offer.proofs.drawn.Goals as goal
 
 pub returns-then-l : goal.returns-then-l
@@ -29,13 +28,13 @@ returns-then-v c = let a = c.args in
 
 pub draw_echoes-e-requires : goal.draw_echoes-e-requires
 draw_echoes-e-requires c = let p = c.requires in (
-      record { priced = p.priced; sender = p.ranged.from; receiver = p.below; short = p.ranged.wire },
-      p.rings_held,
-      p.ranged,
-      p.types,
-      omega (arith, p.fresh, c.link_at-start.ensures.count, c.chance-l.ensures.few, c.delay-d.ensures.few),
-      c.delay-d.ensures.holds,
-    )
+  record { priced = p.priced; sender = p.ranged.from; receiver = p.below; short = p.ranged.wire },
+  p.rings_held,
+  p.ranged,
+  p.types,
+  omega (arith, p.fresh, c.link_at-start.ensures.count, c.chance-l.ensures.few, c.delay-d.ensures.few),
+  c.delay-d.ensures.holds,
+)
 
 pub returns : goal.returns
 unfolding Draws

@@ -1,6 +1,5 @@
 use Rattle.call_schedule.proofs.Applying.{writes_none, writes_nothing, writes_loss, writes_fault, writes_sent}
 use native.Mathlib.Omega.{arith}
-use borrow.Author.Rules.{rules}
 use Rattle.call_schedule.proofs.apply.Goals as goal
 
 pub overflow_mul-link : goal.overflow_mul-link
