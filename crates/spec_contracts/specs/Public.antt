@@ -1,4 +1,4 @@
--- Document 01, 'Agreed between us': the contract of each public call, as `gossip` states it, is met by a call of the list that demand 3 speaks of (`spec_book/specs/Contracts`).
+-- Document 01, 'Agreed between us': the contract of each public call, as `gossip` states it, is met by a call of the list that demand 3 speaks of (`spec_book/specs/PublicContracts`).
 -- T holds all the tables at entry, those among them that the call is not lent; what it writes stands primed.
 use Rattle.std.specs.Prelude.{◌≡◌, ℕ, List, [], length}
 use Rattle.spec_network.specs.Opening.{Settings}

@@ -1,5 +1,6 @@
 // Nothing runs here: the crate holds the tie from the contracts of the public calls to demand 3.
 #![tactic(auto)]
+
 pub fn nothing(x: u64) -> u64 {
     x
 }
