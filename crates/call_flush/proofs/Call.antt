@@ -9,7 +9,7 @@ use lib.Dec.{leb}
 use lib.ListN.{length, set, drop}
 use lib.Seq.{drop-drop}
 use borrow.Author.Tests.{le-leb, lt-leb}
-use Rattle.table_rows.specs.Rows.{rows, flat}
+use Rattle.table_rows.specs.Rows.{flat}
 use Rattle.table_rows.specs.Lists.{Each, front}
 use Rattle.table_rows.specs.Table.{over}
 use Rattle.table_rows.proofs.Table.{row_at}

@@ -1,5 +1,6 @@
 // The flush on the network's tables: questions 1, 7 and 14, then one pass over the due copies.
 #![tactic(auto)]
+
 ghost use Rattle.std.specs.Prelude.{◌≡◌, true, length};
 ghost use Rattle.spec_network.specs.Tables.{setup_width, net_width};
 ghost use Rattle.ask_tables.specs.Held.{setup_held, net_held};

@@ -18,7 +18,7 @@ use Rattle.spec_network.specs.Opening.{Opening, Sizes, link, longest_wire, most_
 use Rattle.spec_network.specs.Live.{Live, Carried, ids_at, marked, stopped, rings_of}
 use Rattle.spec_network.specs.Tables.{cell, Tables, live, sizes_at, ids_start, waiting_at, sequence_at, fault_words_at}
 use Rattle.spec_network.specs.Real.{opening_at}
-use Rattle.spec_network.specs.Accept.{Drawn, drawn, loss, sent, fate_of, offered, effect}
+use Rattle.spec_network.specs.Accept.{Drawn, drawn, sent, fate_of, offered, effect}
 use Rattle.spec_network.specs.Writes.{set_log, offered_t}
 use Rattle.spec_book.proofs.Formed.{Formed}
 use Rattle.spec_book.proofs.Fitting.{NearMessage}

@@ -1,5 +1,6 @@
 // The recipients of a message in host order: each is offered it on what the one before left.
 #![tactic(auto)]
+
 ghost use Rattle.std.specs.Prelude.{◌+◌, ◌<◌, ◌≤◌};
 ghost use Rattle.spec_network.specs.Accept.{total};
 ghost use Rattle.spec_network.specs.Tables.{sizes_at};

@@ -1,7 +1,6 @@
 use Rattle.call_recipients.proofs.Turns.{done_none, going_more, total_more, done_more, done_all}
 use native.Mathlib.Omega.{arith}
 use mathlib.Core.Path.{refl, ◌∙◌}
-use Prim.Native.Nat.{◌-◌}
 use Rattle.call_recipients.proofs.serve.Goals as goal
 
 pub bounds-setup-0 : goal.bounds-setup-0
@@ -9,19 +8,19 @@ bounds-setup-0 c = omega (arith, c.requires.0.priced.size)
 
 pub loop-to-init : goal.loop-to-init
 loop-to-init c = let a = c.args in (
-      omega arith,
-      omega arith,
-      refl,
-      refl,
-      refl,
-      refl,
-      refl,
-      refl,
-      c.requires.3,
-      done_none a.setup.now a.tills.now
-          a.keys.now a.prices.now a.blocks.now a.net.now a.words.now a.seen.now a.waiting.now a.rings.now a.rules.now a.m
-          _ refl,
-    )
+  omega arith,
+  omega arith,
+  refl,
+  refl,
+  refl,
+  refl,
+  refl,
+  refl,
+  c.requires.3,
+  done_none a.setup.now a.tills.now
+      a.keys.now a.prices.now a.blocks.now a.net.now a.words.now a.seen.now a.waiting.now a.rings.now a.rules.now a.m
+      _ refl,
+)
 
 pub turn-more-requires : goal.turn-more-requires
 turn-more-requires c = (c.requires.0, c.requires.1, c.loop-to.invariant.8, omega (arith, c.loop-to-test.true), c.loop-to.invariant.1)

@@ -1,7 +1,6 @@
 use Rattle.call_recipients.proofs.Turns.{can_apply, passed_by, taken_up}
 use native.Mathlib.Omega.{arith}
 use mathlib.Core.Path.{sym, ◌∙◌}
-use borrow.Author.Rules.{rules}
 use Rattle.call_recipients.proofs.turn.Goals as goal
 
 pub returns-then-not-selects : goal.returns-then-not-selects
