@@ -1,5 +1,6 @@
 // Accept's questions, in order: 1, 4 to 7; then, for a payload that opens, 8 to 11. All tables stay as they are.
 #![tactic(auto)]
+
 ghost use Rattle.std.specs.Prelude.{◌≡◌, true, cond, ◌+◌, ◌*◌, ◌<◌, ◌≤◌, length};
 ghost use Rattle.table_rows.specs.Rows.{all_of};
 ghost use Rattle.spec_network.specs.Opening.{links, most_tills};

@@ -7,7 +7,7 @@ use mathlib.Core.List.{List}
 use lib.Dec.{eqb}
 use lib.ListN.{length}
 use borrow.Author.Tests.{eq-eqb, ne_eqb}
-use Rattle.spec_network.specs.Accept.{Entry, message_of, Counts, no_counts, booked, tally}
+use Rattle.spec_network.specs.Accept.{Entry, message_of, no_counts, booked, tally}
 use Rattle.spec_network.specs.Calls.{Call, accept}
 use Rattle.spec_network.specs.Tables.{Tables, live, sizes_at}
 use Rattle.spec_network.specs.Real.{id_of, draws_of, opening_at}

@@ -1,5 +1,6 @@
 // Accept: the public call.
 #![tactic(auto)]
+
 ghost use Rattle.std.specs.Prelude.{◌≡◌};
 ghost use Rattle.spec_network.specs.Accept.{no_counts};
 ghost use Rattle.call_schedule.specs.Writing.{counts_of};

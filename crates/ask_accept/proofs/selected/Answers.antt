@@ -1,6 +1,5 @@
 use Rattle.ask_accept.proofs.Ways.{count_on, count_end, one_small}
 use native.Mathlib.Omega.{arith}
-use Prim.Native.Nat.{◌-◌}
 use Rattle.call_offer.specs.Offering.{selects_at}
 use Rattle.spec_network.specs.Tables.{sizes_at}
 use mathlib.Core.Bool.{true}

@@ -1,7 +1,6 @@
 use Rattle.ask_accept.proofs.Ways.{scan_on, scan_off, scan_end}
 use mathlib.Core.Path.{refl, sym, ◌∙◌}
 use native.Mathlib.Omega.{arith}
-use Prim.Native.Nat.{◌-◌}
 use Rattle.ask_accept.specs.Asking.{free_at}
 use Rattle.call_offer.specs.Offering.{selects_at}
 use Rattle.spec_network.specs.Tables.{sizes_at}

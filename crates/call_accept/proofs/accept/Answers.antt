@@ -4,7 +4,6 @@ use Rattle.call_offer.specs.declared.Outgoing.{Outgoing}
 use Rattle.ask_tables.proofs.Ladder.{is_no, is_yes}
 use lib.ListN.{length}
 use mathlib.Core.Path.{sym, ◌∙◌}
-use borrow.Author.Rules.{rules}
 use Rattle.call_accept.proofs.accept.Goals as goal
 
 pub returns-then-not-lent : goal.returns-then-not-lent
