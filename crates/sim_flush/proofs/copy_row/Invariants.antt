@@ -1,8 +1,5 @@
-use Rattle.std.proofs.Common.{◌≡◌, ◌-◌, length}
+use Rattle.std.proofs.Common.{◌-◌}
 use Rattle.sim_flush.proofs.copy_row.Given as goal
-
-abbrev pub invariant-loop-i : goal.invariant-loop-i
-invariant-loop-i l = (length l.to ≡ length l.initial.to)
 
 abbrev pub decreases-loop-i : goal.decreases-loop-i
 decreases-loop-i l = 12 - l.i
