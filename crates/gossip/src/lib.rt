@@ -1,5 +1,6 @@
 // The network as C functions: each call takes and writes the lent tables, and is proved equal to its definition in `spec_network`.
 #![tactic(auto)]
+
 mod accepting;
 mod engine;
 mod flushing;
