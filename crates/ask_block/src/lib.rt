@@ -1,5 +1,6 @@
 // The questions of the block calls, in order: 1 and 4, then 12, 12 and 18, or 7. The tables stay as they are.
 #![tactic(auto)]
+
 ghost use Rattle.std.specs.Prelude.{◌≡◌};
 ghost use Rattle.ask_block.specs.Questions.{blocks_lent, pair_number, free_number, window_number, during_number, now_number};
 

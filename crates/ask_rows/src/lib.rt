@@ -1,5 +1,6 @@
 // Question 1, of the tables whose rows are scanned: waiting, log, rings, names and prices. Definitions and the other tables are in `ask_tables`.
 #![tactic(auto)]
+
 ghost use Rattle.std.specs.Prelude.{◌≡◌, true, ◌+◌, ◌*◌, ◌≤◌, ◌<◌, length};
 ghost use Rattle.link_geography.specs.Geography.{link_width, link_in, most_regions};
 ghost use Rattle.table_scan.specs.Scan.{column_within};

@@ -1,5 +1,6 @@
 // The questions of the rule calls, in order: 1, 12, 13 and 18 of install; 1, 4, 5, 7 and 8 of decide. All tables stay as they are.
 #![tactic(auto)]
+
 ghost use Rattle.std.specs.Prelude.{◌≡◌};
 ghost use Rattle.ask_rule.specs.Questions.{rules_lent, place_number, exact_number, first_of, card_number, decide_number};
 

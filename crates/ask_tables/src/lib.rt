@@ -1,5 +1,6 @@
 // Question 1: are the lent tables of the opening's sizes, with counts, hosts, types and classes in range? One function a table.
 #![tactic(auto)]
+
 ghost use Rattle.std.specs.Prelude.{◌≡◌, true, ◌&&◌, ◌∷◌, [], ◌++◌, ◌+◌, ◌*◌, ◌^◌, ◌≤◌, leb, length, get_or, set, take, drop};
 ghost use Rattle.table_shift.specs.Shift.{put_words};
 ghost use Rattle.table_rows.specs.Rows.{all_of};

@@ -1,5 +1,6 @@
 // The questions of the calls on tills and marks, in order: 1, 4 and 5. All tables stay as they are.
 #![tactic(auto)]
+
 ghost use Rattle.std.specs.Prelude.{◌≡◌};
 ghost use Rattle.ask_till.specs.Questions.{tills_lent, seen_lent, both_lent, down_number, read_number, up_number, handlers_number, marks_number};
 

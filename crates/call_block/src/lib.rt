@@ -1,5 +1,6 @@
 // The block calls on the network's tables: block, block_during, unblock, is_blocked.
 #![tactic(auto)]
+
 ghost use Rattle.call_block.specs.Calls.{DoesBlock, DoesBlockDuring, DoesUnblock, DoesIsBlocked};
 
 use call_reply::{Done, Value};

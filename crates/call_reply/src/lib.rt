@@ -1,5 +1,6 @@
 // The replies of the calls that answer at most one number: first the number of the question that refused the call, 0 where none did.
 #![tactic(auto)]
+
 ghost use Rattle.std.specs.Prelude.{◌≡◌};
 ghost use Rattle.call_reply.specs.Reply.{refused_by, answered_by};
 

@@ -1,5 +1,6 @@
 // The rule calls on the network's tables: install, remove, fired, decide.
 #![tactic(auto)]
+
 ghost use Rattle.std.specs.Prelude.{◌≡◌};
 ghost use Rattle.call_rule.specs.Calls.{DoesInstall, DoesRemove, DoesFired, DoesDecide};
 

@@ -1,5 +1,6 @@
 // Is a message from one till to another stopped: by an end that is down, or by a block at that time? Accept asks it at now, a flush at the copy's own time.
 #![tactic(auto)]
+
 ghost use Rattle.std.specs.Prelude.{◌≡◌, ℕ, ◌*◌, ◌<◌, ◌≤◌, length};
 ghost use Rattle.fault_blocks.specs.Blocks.{block_width};
 ghost use Rattle.spec_network.specs.Tables.{till_form};

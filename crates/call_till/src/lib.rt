@@ -1,5 +1,6 @@
 // The calls on tills and marks: take_down, bring_up, set_handlers, is_down, marks_of.
 #![tactic(auto)]
+
 ghost use Rattle.std.specs.Prelude.{◌≡◌};
 ghost use Rattle.call_till.specs.Calls.{DoesTakeDown, DoesBringUp, DoesSetHandlers, DoesIsDown, DoesMarksOf};
 

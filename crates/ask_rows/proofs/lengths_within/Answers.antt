@@ -1,8 +1,6 @@
 use Rattle.ask_rows.proofs.Tests.{byte_on, byte_off, bytes_done}
 use Rattle.table_scan.proofs.Laws.{column_start, column_next, column_in}
-use mathlib.Core.Bool.{true}
 use native.Mathlib.Omega.{arith}
-use Prim.Native.Nat.{◌-◌}
 use mathlib.Core.Path.{refl}
 use Rattle.ask_rows.proofs.lengths_within.Goals as goal
 

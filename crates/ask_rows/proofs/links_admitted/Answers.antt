@@ -1,8 +1,6 @@
 use Rattle.ask_rows.proofs.Tests.{link_on, link_off, links_done}
-use Rattle.link_geography.specs.Geography.{link_in, link_admitted}
-use mathlib.Core.Bool.{true}
+use Rattle.link_geography.specs.Geography.{link_admitted}
 use native.Mathlib.Omega.{arith}
-use Prim.Native.Nat.{◌-◌}
 use mathlib.Core.Path.{refl, ap, ◌∙◌}
 use Rattle.ask_rows.proofs.links_admitted.Goals as goal
 

@@ -1,7 +1,6 @@
 use native.Mathlib.Omega.{arith}
 use Rattle.ask_tables.proofs.Ladder.{is_no, is_yes}
 use Rattle.ask_rule.proofs.Laws.{no1, no4, no5, no5_tier, no7, no8, none}
-use borrow.Author.Rules.{rules}
 use Rattle.ask_rule.proofs.decide_refusal.Goals as goal
 
 pub returns-then-not-lent : goal.returns-then-not-lent

@@ -1,6 +1,5 @@
 use Rattle.ask_tables.proofs.Ladder.{is_no, is_yes}
 use Rattle.ask_rule.proofs.Laws.{no_card, asks_card}
-use borrow.Author.Rules.{rules}
 use Rattle.ask_rule.proofs.install_refusal.Goals as goal
 
 pub returns-then-not-lent : goal.returns-then-not-lent

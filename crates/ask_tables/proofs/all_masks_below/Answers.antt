@@ -1,9 +1,7 @@
 use Rattle.ask_tables.proofs.Rows.{row_on, row_off, rows_done}
 use Rattle.ask_tables.specs.Held.{masks_below}
 use Rattle.spec_network.specs.Tables.{till_form}
-use mathlib.Core.Bool.{true}
 use native.Mathlib.Omega.{arith}
-use Prim.Native.Nat.{◌-◌}
 use mathlib.Core.Path.{refl}
 use Rattle.ask_tables.proofs.all_masks_below.Goals as goal
 

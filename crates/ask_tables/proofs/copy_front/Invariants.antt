@@ -1,6 +1,6 @@
 use mathlib.Core.List.{◌++◌}
 use lib.ListN.{take, drop}
-use Prim.Native.Nat.{◌+◌, ◌-◌, ◌≤◌}
+use Prim.Native.Nat.{◌-◌, ◌≤◌}
 use mathlib.Core.Path.{◌≡◌}
 use Rattle.ask_tables.proofs.copy_front.Given as goal
 

@@ -3,7 +3,6 @@ use native.Mathlib.Omega.{arith}
 use Rattle.call_rule.specs.Calls.{message}
 use Rattle.ask_rule.proofs.Laws.{decidable}
 use Rattle.call_rule.proofs.Laws.{verdict_is, decide_refused, decide_done}
-use borrow.Author.Rules.{rules}
 use Rattle.call_rule.proofs.decide.Goals as goal
 
 pub returns-then-refusal-ne0 : goal.returns-then-refusal-ne0

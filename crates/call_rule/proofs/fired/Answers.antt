@@ -3,7 +3,6 @@ use native.Mathlib.Omega.{arith}
 use Rattle.ask_tables.proofs.Ladder.{is_no, is_yes}
 use Rattle.ask_rule.proofs.Laws.{passed}
 use Rattle.call_rule.proofs.Laws.{fired_not_lent, fired_done}
-use borrow.Author.Rules.{rules}
 use Rattle.call_rule.proofs.fired.Goals as goal
 
 pub returns-then-not-lent : goal.returns-then-not-lent

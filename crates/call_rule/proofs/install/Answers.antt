@@ -3,7 +3,6 @@ use mathlib.Core.Path.{refl, sym, ◌∙◌}
 use native.Mathlib.Omega.{arith}
 use Rattle.ask_rule.proofs.Laws.{installable}
 use Rattle.call_rule.proofs.Laws.{install_refused, install_done}
-use borrow.Author.Rules.{rules}
 use Rattle.call_rule.proofs.install.Goals as goal
 
 pub returns-then-number-ne0 : goal.returns-then-number-ne0
