@@ -1,5 +1,6 @@
 // The opening's parameters and its questions: 1 (lengths of the lent tables), 2 (sizes and names), 3 (latency, fraction and rates), 5 (shard masks).
 #![tactic(auto)]
+
 ghost use Rattle.std.specs.Prelude.{◌≡◌, length};
 ghost use Rattle.link_latency.specs.Admitted.{latency_admitted, fraction_admitted, rate_admitted};
 ghost use Rattle.spec_network.specs.Lists.{every};

@@ -1,5 +1,6 @@
 // The parts of the opening's questions that are asked of plain numbers and lists: is a length a sum (1), are type names and shard keys admitted (2), and shard masks (5)?
 #![tactic(auto)]
+
 ghost use Rattle.std.specs.Prelude.{◌≡◌, ◌≤◌};
 ghost use Rattle.table_rows.specs.Rows.{all_of};
 ghost use Rattle.spec_network.specs.Lists.{within};

@@ -1,5 +1,6 @@
 // Tables into a memory, one behind the other, and back (M-112).
 #![tactic(auto)]
+
 ghost use Rattle.std.specs.Prelude.{◌≡◌, ◌++◌, ◌+◌, ◌≤◌, length, take, drop};
 ghost use Rattle.call_keeping.specs.Copied.{stored_at, five, four};
 

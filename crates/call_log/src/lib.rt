@@ -1,5 +1,6 @@
 // The log's calls on the network's tables: drain, and the tally of a class.
 #![tactic(auto)]
+
 ghost use Rattle.std.specs.Prelude.{◌≡◌, ◌≤◌, length};
 ghost use Rattle.table_log.specs.Log.{records_at, tallies_of};
 ghost use Rattle.call_log.specs.Call.{DoesDrain, DoesTally, log_lent, drain_number, tally_number, no_drain, no_tallies, tally_cells};

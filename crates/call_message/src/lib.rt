@@ -1,5 +1,6 @@
 // The id of an entry: the first 8 bytes, little-endian, of the digest of its type name, its scope and its wire bytes.
 #![tactic(auto)]
+
 ghost use Rattle.std.specs.Prelude.{◌≡◌, ◌++◌, ◌+◌, ◌≤◌, ◌<◌, length, take};
 ghost use Rattle.std.proofs.Math.Seq.{paste};
 ghost use Rattle.spec_network.specs.Tables.{text_at};

@@ -1,5 +1,6 @@
 // The opening: its questions, then every table that it writes.
 #![tactic(auto)]
+
 ghost use Rattle.std.specs.Prelude.{◌≡◌, replicate};
 ghost use Rattle.spec_network.specs.Opening.{links};
 ghost use Rattle.spec_network.specs.Tables.{setup_of};

@@ -1,5 +1,6 @@
 // A chain's rows back into the pool: the later chains' rows move, then the rows are written (M-113).
 #![tactic(auto)]
+
 ghost use Rattle.std.specs.Prelude.{◌≡◌, ◌+◌, ◌-◌, ◌≤◌, length, take};
 ghost use Rattle.call_pooling.specs.Pooling.{put_back};
 

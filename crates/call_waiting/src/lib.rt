@@ -1,5 +1,6 @@
 // Readings of the waiting copies on the network's tables: how many originals go to a till, when the next is due, and all of them.
 #![tactic(auto)]
+
 ghost use Rattle.std.specs.Prelude.{◌≡◌, ◌*◌, ◌≤◌, length};
 ghost use Rattle.table_waiting.specs.Waiting.{width};
 ghost use Rattle.spec_network.specs.Lists.{bit};

@@ -11,27 +11,27 @@ put-requires c = omega (arith, ap length c.text-name.ensures, text_short c.args.
 
 pub put_scope-n-requires : goal.put_scope-n-requires
 put_scope-n-requires c = (
-      c.requires.0,
-      omega (
-        arith,
-        ap length c.text-name.ensures,
-        text_short c.args.names.now (name_at c.args.kind) longest_name
-            c.requires.0.name,
-        c.put.auto.dst,
-      ),
-    )
+  c.requires.0,
+  omega (
+    arith,
+    ap length c.text-name.ensures,
+    text_short c.args.names.now (name_at c.args.kind) longest_name
+        c.requires.0.name,
+    c.put.auto.dst,
+  ),
+)
 
 pub id_after-requires : goal.id_after-requires
 id_after-requires c = (
-      omega (
-        arith,
-        c.put_scope-n.ensures.1,
-        ap length c.text-name.ensures,
-        text_short c.args.names.now
-            (name_at c.args.kind) longest_name c.requires.0.name,
-      ),
-      c.requires.1,
-    )
+  omega (
+    arith,
+    c.put_scope-n.ensures.1,
+    ap length c.text-name.ensures,
+    text_short c.args.names.now
+        (name_at c.args.kind) longest_name c.requires.0.name,
+  ),
+  c.requires.1,
+)
 
 pub returns : goal.returns
 returns c = let a = c.args in

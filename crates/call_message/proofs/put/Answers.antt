@@ -2,7 +2,7 @@ use lib.Seq.{paste, paste-zero, paste-suc}
 use lib.ListN.{length, get_or, set, length-set}
 use native.Mathlib.Numerals.{add-one}
 use mathlib.Core.Path.{◌≡◌, refl, ap, sym, ◌∙◌}
-use Prim.Native.Nat.{◌-◌, ◌+◌}
+use Prim.Native.Nat.{◌+◌}
 use native.Mathlib.Omega.{arith}
 use Rattle.call_message.proofs.put.Goals as goal
 

@@ -18,8 +18,8 @@ shape_of-buf c = omega (arith, c.put.auto.dst, length-set c.args.buf.now c.args.
 
 pub returns : goal.returns
 returns c = let a = c.args in (
-      scope_shard a.buf.now a.names.now a.at a.scope (ne_eqb _ _ c.if-scope-eq-GLOBAL.false) _ _ c.text-key.ensures
-          (omega (arith, ap length c.text-key.ensures, text_short a.names.now (shard_at a.scope) longest_key c.requires.0.key))
-          c.put.ensures,
-      omega (arith, ap length c.text-key.ensures, text_short a.names.now (shard_at a.scope) longest_key c.requires.0.key),
-    )
+  scope_shard a.buf.now a.names.now a.at a.scope (ne_eqb _ _ c.if-scope-eq-GLOBAL.false) _ _ c.text-key.ensures
+      (omega (arith, ap length c.text-key.ensures, text_short a.names.now (shard_at a.scope) longest_key c.requires.0.key))
+      c.put.ensures,
+  omega (arith, ap length c.text-key.ensures, text_short a.names.now (shard_at a.scope) longest_key c.requires.0.key),
+)

@@ -1,4 +1,3 @@
-use borrow.Author.Rules.{rules}
 use Rattle.spec_network.specs.Tables.{Tables}
 use Rattle.call_open.proofs.Whole.{refused, settled, begun, done}
 use Rattle.call_open.proofs.open_network.Goals as goal

@@ -7,9 +7,9 @@ use Rattle.call_open.proofs.write_begun.Goals as goal
 
 pub returns : goal.returns
 returns c = let a = c.args in (
-      all_clear net_width a.net.now _ c.requires.net_long c.clear.ensures,
-      c.write_tills.ensures ∙ ap (λ n. flat till_form.words (open_tills a.masks.now n)) c.requires.masks_long,
-      c.clear-2.ensures,
-      c.clear-3.ensures,
-      log_clear a.log.now _ c.clear-4.ensures,
-    )
+  all_clear net_width a.net.now _ c.requires.net_long c.clear.ensures,
+  c.write_tills.ensures ∙ ap (λ n. flat till_form.words (open_tills a.masks.now n)) c.requires.masks_long,
+  c.clear-2.ensures,
+  c.clear-3.ensures,
+  log_clear a.log.now _ c.clear-4.ensures,
+)

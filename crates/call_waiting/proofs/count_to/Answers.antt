@@ -1,4 +1,3 @@
-use Prim.Native.Nat.{◌-◌}
 use native.Mathlib.Omega.{arith}
 use Rattle.call_waiting.proofs.Work.{transit_first, transit_more, transit_end}
 use Rattle.call_waiting.proofs.count_to.Goals as goal

@@ -19,10 +19,10 @@ rate_bits-requires-5 c = (numbers c.args.config c.requires.0).spike
 
 pub returns : goal.returns
 returns c = let a = c.args in (
-      setup_made a.config a.sizes a.plan a.seed a.key.now c.requires.1 _ _ _ _ _ _ _ _ _ _ _ _ _
-          c.rate_bits.ensures c.rate_bits-2.ensures c.rate_bits-3.ensures c.rate_bits-4.ensures
-          c.rate_bits-5.ensures c.key_word.ensures c.key_word-2.ensures c.key_word-3.ensures
-          c.key_word-4.ensures c.key_word-5.ensures c.key_word-6.ensures c.key_word-7.ensures
-          c.key_word-8.ensures,
-      refl,
-    )
+  setup_made a.config a.sizes a.plan a.seed a.key.now c.requires.1 _ _ _ _ _ _ _ _ _ _ _ _ _
+      c.rate_bits.ensures c.rate_bits-2.ensures c.rate_bits-3.ensures c.rate_bits-4.ensures
+      c.rate_bits-5.ensures c.key_word.ensures c.key_word-2.ensures c.key_word-3.ensures
+      c.key_word-4.ensures c.key_word-5.ensures c.key_word-6.ensures c.key_word-7.ensures
+      c.key_word-8.ensures,
+  refl,
+)
