@@ -10,6 +10,7 @@ first=${1:-1} count=${2:-1000} calls=${3:-200} tills=${4:-any}
 . bench/oracle.sh
 (cd crates/gossip && rt lib) >/dev/null
 (cd crates/simulate && rt run </dev/null) >/dev/null
+mkdir -p target
 rustc --edition 2024 -O -o target/bench-network bench/network/main.rs -L crates/gossip/out -l static=gossip
 # lines that no C function answers
 leaves='^(latency|draw|should|linkkey|wire|nanos|secs|times) '

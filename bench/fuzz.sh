@@ -6,6 +6,7 @@ set -eu
 cd "$(dirname "$0")/.."
 calls=${1:-100000} seed=${2:-1}
 (cd crates/gossip && rt lib) >/dev/null
+mkdir -p target
 rustc --edition 2024 -O -o target/bench-fuzz bench/network/fuzz.rs -L crates/gossip/out -l static=gossip
 for place in before behind; do
     if bash -c "ulimit -c 0; target/bench-fuzz touch $place; exit \$?" >/dev/null 2>&1; then

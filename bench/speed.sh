@@ -9,6 +9,7 @@ counted=200
 . bench/oracle.sh
 deps=$oracle/target/release/deps
 (cd crates/gossip && rt lib) >/dev/null
+mkdir -p target
 rustc --edition 2024 -O -o target/bench-speed bench/network/speed.rs -L crates/gossip/out -l static=gossip \
     -L "dependency=$deps" --extern "hyperscale_network_memory=$(ls "$deps"/libhyperscale_network_memory-*.rlib)"
 target/bench-speed "$@" >"$work/said" || { cat "$work/said"; exit 1; }

@@ -4,5 +4,6 @@
 set -eu
 cd "$(dirname "$0")/../.."
 (cd crates/simulate && rt run </dev/null) >/dev/null
+mkdir -p target
 rustc --edition 2024 -O -o target/bench-delay bench/delay/main.rs
 exec target/bench-delay crates/simulate/out/simulate "${1:-10000000}" "${2:-1}"

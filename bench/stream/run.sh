@@ -4,6 +4,7 @@
 set -eu
 cd "$(dirname "$0")/../.."
 (cd crates/gossip && rt lib) >/dev/null
+mkdir -p target
 rustc --edition 2024 -O -o target/bench-stream bench/stream/main.rs -L crates/gossip/out -l static=gossip
 answers=target/bench-stream.answers
 grep '^draw long ' crates/simulate/stdin | target/bench-stream >$answers

@@ -10,7 +10,7 @@ use Rattle.ask_opening.specs.declared.NetworkConfig.{NetworkConfig}
 use Rattle.ask_opening.specs.declared.NetworkSizes.{NetworkSizes}
 use Rattle.ask_opening.specs.declared.RegionPlan.{RegionPlan}
 
--- a rate's bits. A NaN has no pattern of its own: question 3 refuses each of them alike (`Rates.nan-refused`)
+-- a rate's bits. A NaN has no pattern of its own: question 3 refuses each of them alike (`Rates.nan_refused`)
 abbrev pub bits_of : Float → ℕ
 bits_of x = to_bits binary64 x
 

@@ -87,7 +87,7 @@ pub fn open_network(
 ) -> Done
     ensures { DoesOpen
         (record {
-          setup = setup.entry.now;
+          setup = setup.old;
           net = net.old;
           names = names.now;
           tills = tills.old;
@@ -102,7 +102,7 @@ pub fn open_network(
           log = log.old;
         })
         (record {
-          setup = setup.exit.now;
+          setup = setup.new;
           net = net.new;
           names = names.now;
           tills = tills.new;

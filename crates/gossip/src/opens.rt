@@ -33,7 +33,7 @@ pub extern "C" fn gossip_open(
 ) -> Done
     ensures { DoesOpen
         (record {
-          setup = setup.entry.now;
+          setup = setup.old;
           net = net.old;
           names = names.now;
           tills = tills.old;
@@ -48,7 +48,7 @@ pub extern "C" fn gossip_open(
           log = log.old;
         })
         (record {
-          setup = setup.exit.now;
+          setup = setup.new;
           net = net.new;
           names = names.now;
           tills = tills.new;

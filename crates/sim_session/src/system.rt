@@ -34,7 +34,7 @@ pub fn arg_count(rt: &impl Env) -> usize {
     usize::MAX
 }
 
-// The file of that name, to read.
+// The file of that name, to read; a name that is not UTF-8 is an error.
 pub fn open_read<R: Files>(rt: &R, name: &[u8]) -> std::io::Result<R::File> {
     match std::str::from_utf8(name) {
         Ok(path) => File::open(rt, path),
