@@ -1,5 +1,6 @@
 // Accept as a line of a script: the call is made on the lent tables, and its answer written.
 #![tactic(auto)]
+
 ghost use Rattle.std.specs.Prelude.{◌≡◌};
 ghost use Rattle.spec_network.specs.Tables.{cell};
 

@@ -1,5 +1,6 @@
 // A call of a script on the tables of the network that is open: front parts of its sizes are lent, the call is made, and notes are taken of it.
 #![tactic(auto)]
+
 use ask_opening::{NetworkSizes, RegionPlan, TableSizes};
 use sim_outcome::Outcome;
 use sim_script::calls;

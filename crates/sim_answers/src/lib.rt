@@ -1,5 +1,6 @@
 // How the answers of a script are written: each function takes the gathered text and how much of it counts, and answers how much counts then.
 #![tactic(auto)]
+
 mod plain;
 mod rows_text;
 mod tables;

@@ -1,5 +1,6 @@
 // A call of a recorded run, played on the tables of the audit's own network: its answers go to a text, from its first byte on.
 #![tactic(auto)]
+
 use sim_openings::Opening;
 use sim_script::calls;
 use sim_session::lines::{Parsed, SKIPPED, Session};

@@ -1,5 +1,6 @@
 // The calls of a script on tills, blocks, rules and readings, on the lent tables of a network: each is made, and its answer written.
 #![tactic(auto)]
+
 mod engine_calls;
 mod hooks;
 mod readings;

@@ -1,5 +1,6 @@
 // Flush and drain as lines of a script: the call is made on the lent tables, and its answer written.
 #![tactic(auto)]
+
 use call_flush::Flushed;
 use call_log::Drained;
 use sim_outcome::{Outcome, done};

@@ -1,5 +1,6 @@
 // The calls of a script that need little of a network: draws, digest and seconds, geography, latencies.
 #![tactic(auto)]
+
 mod draw_calls;
 mod geography_calls;
 

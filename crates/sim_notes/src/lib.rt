@@ -1,6 +1,7 @@
 // The notes that a run of a script takes: behind each line, from its words, its outcome, and how many marks the tables count.
 // One table, `due`, holds the figures and, behind them, the copies that a flush keeps for its answer.
 #![tactic(auto)]
+
 ghost use Rattle.std.specs.Prelude.{◌≡◌, ◌+◌, ◌-◌, ◌≤◌};
 ghost use Rattle.spec_network.specs.Opening.{most_classes, most_slots};
 ghost use Rattle.sim_notes.specs.Noted as noted;

@@ -1,5 +1,6 @@
 // The calls of a script that move no copy, on the tables of the network that is open: which one a line asks for.
 #![tactic(auto)]
+
 use sim_outcome::Outcome;
 use sim_script::calls;
 
