@@ -112,7 +112,9 @@ const TYPES: usize = ask_tables::MOST_TYPES as usize;
 
 const REGIONS: usize = ask_tables::MOST_REGIONS as usize;
 
-// A run on tables of its own: arrays of the largest sizes, all 0.
+// A run on tables of its own: arrays of the largest sizes, all 0. Its tables stand on the stack once: it is not inlined
+// into its callers, of which one calls another.
+#[inline(never)]
 fn on_tables<R: Clock, S: Read>(rt: &R, asked: u64, from: &mut S) {
     let mut piece = [0u8; PIECE];
     let mut line = [0u8; LINE];
