@@ -1,5 +1,5 @@
 use Rattle.sim_notes.proofs.Laws.{due_none, due_more, due_end}
-use Rattle.std.proofs.Common.{◌-◌, refl, arith, rules}
+use Rattle.std.proofs.Common.{refl, arith, rules}
 use Rattle.sim_notes.proofs.due_copies.Goals as goal
 
 pub loop-i-init : goal.loop-i-init

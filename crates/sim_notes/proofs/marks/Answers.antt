@@ -1,5 +1,5 @@
 use Rattle.sim_notes.proofs.Laws.{total_none, total_more, total_end}
-use Rattle.std.proofs.Common.{◌-◌, arith}
+use Rattle.std.proofs.Common.{arith}
 use Rattle.sim_notes.proofs.marks.Goals as goal
 
 pub loop-t-init : goal.loop-t-init

@@ -1,5 +1,5 @@
 use Rattle.sim_notes.proofs.Laws.{tallies_none, tallies_more, tallies_end}
-use Rattle.std.proofs.Common.{◌-◌, refl, arith, rules}
+use Rattle.std.proofs.Common.{refl, arith, rules}
 use Rattle.sim_notes.proofs.tallies_of.Goals as goal
 
 pub loop-class-init : goal.loop-class-init

@@ -1,5 +1,5 @@
 use Rattle.sim_notes.proofs.Laws.{transits_none, transits_more, transits_end}
-use Rattle.std.proofs.Common.{◌-◌, refl, arith, rules}
+use Rattle.std.proofs.Common.{refl, arith, rules}
 use Rattle.sim_notes.proofs.transits_of.Goals as goal
 
 pub loop-t-init : goal.loop-t-init

@@ -1,5 +1,5 @@
 use Rattle.sim_notes.proofs.Laws.{waits_none, waits_more, waits_end}
-use Rattle.std.proofs.Common.{◌-◌, refl, arith, rules}
+use Rattle.std.proofs.Common.{refl, arith, rules}
 use Rattle.sim_notes.proofs.waiting_copies.Goals as goal
 
 pub loop-i-init : goal.loop-i-init
