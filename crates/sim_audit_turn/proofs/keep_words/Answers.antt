@@ -1,6 +1,5 @@
 use native.Mathlib.Omega.{arith}
 use borrow.Author.Rules.{rules}
-use Prim.Native.Nat.{◌-◌}
 use Rattle.sim_audit_turn.proofs.keep_words.Goals as goal
 
 pub loop-i-init : goal.loop-i-init
