@@ -19,7 +19,7 @@ pub struct Block {
 pub extern "C" fn leaf_digest(head: &[u8], tail: &[u8]) -> Hashed
     ensures { result ≡ digest_of (head.now ++ tail.now) }
 {
-    digest_parts(head, tail)
+    Hashed::from(digest_parts(head, tail))
 }
 
 // Block n of the stream whose key words are all k.

@@ -1,2 +1,1 @@
 pub mod Chunk
-pub mod Copy

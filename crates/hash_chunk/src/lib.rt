@@ -1,15 +1,13 @@
 // BLAKE3's chunks and parent nodes, over two parts in a row that are not joined.
 #![tactic(auto)]
 
-ghost use Rattle.std.specs.Prelude.{◌≡◌, ◌++◌, ℕ, ◌+◌, ◌-◌, ◌<◌, ◌≤◌, length, get_or};
-ghost use Rattle.hash_compress.specs.Compress.{iv};
-ghost use Rattle.hash_compress.specs.Words.{list_of};
+ghost use Rattle.std.specs.Prelude.{◌≡◌, ◌++◌, ◌+◌, ◌≤◌, length};
+ghost use Rattle.math_word.specs.Words.{list_of};
 ghost use Rattle.hash_chunk.specs.Chunk.{words_of, chunk, parent};
-ghost use Rattle.hash_chunk.specs.Copy.{Placed};
 
-use hash_compress::{Words, compress};
-use math_parts::{back, less};
-use math_word::le_word;
+use hash_compress::{IV, compress};
+use math_parts::{back, joined};
+use math_word::{Words, le_word};
 
 // The words of a whole block.
 pub fn words_whole(s: &[u8]) -> Words
@@ -36,37 +34,6 @@ pub fn words_whole(s: &[u8]) -> Words
     }
 }
 
-// The lesser of two numbers.
-fn least(a: usize, b: usize) -> usize
-    ensures { (result ≤ a) × (result ≤ b) × (result < b → result ≡ a) }
-{
-    if a < b { a } else { b }
-}
-
-// b with the bytes of s from place p on, as far as they fit.
-fn copy_in(b: [u8; 64], p: usize, s: &[u8]) -> [u8; 64]
-    requires { p ≤ 64 }
-    ensures { (k : ℕ) → k < 64 → Placed b p s.now result k }
-{
-    let n = least(s.len(), 64 - p);
-    let mut out = b;
-    let mut i: usize = 0;
-    while i < n {
-        out[p + i] = s[i];
-        i += 1;
-    }
-    out
-}
-
-// The first 64 bytes of the two parts; zeros follow where there are fewer.
-fn padded(head: &[u8], tail: &[u8]) -> [u8; 64]
-    requires { length head.now ≤ 64 }
-    ensures { (k : ℕ) → k < 64 → get_or result k 0 ≡ get_or (head.now ++ tail.now) k 0 }
-{
-    let begun = copy_in([0; 64], 0, head);
-    copy_in(begun, head.len(), tail)
-}
-
 // The words of the next block.
 fn block_words(head: &[u8], tail: &[u8]) -> Words
     ensures { list_of result ≡ words_of (head.now ++ tail.now) }
@@ -74,22 +41,11 @@ fn block_words(head: &[u8], tail: &[u8]) -> Words
     if 64 <= head.len() {
         return words_whole(head);
     }
-    if head.len() == 0 {
-        if 64 <= tail.len() {
-            return words_whole(tail);
-        }
+    if head.is_empty() && 64 <= tail.len() {
+        return words_whole(tail);
     }
-    let block = padded(head, tail);
+    let block: [u8; 64] = joined(head, tail);
     words_whole(&block)
-}
-
-fn iv_words() -> [u32; 8]
-    ensures { result ≡ iv }
-{
-    [
-        0x6a09e667, 0xbb67ae85, 0x3c6ef372, 0xa54ff53a, 0x510e527f, 0x9b05688c, 0x1f83d9ab,
-        0x5be0cd19,
-    ]
 }
 
 // The chaining value of chunk t.
@@ -97,7 +53,7 @@ pub fn chunk_value(head: &[u8], tail: &[u8], t: u64, e: u32) -> [u32; 8]
     requires { (length head.now + length tail.now ≤ 1024) × (e ≤ 8) }
     ensures { result ≡ chunk (head.now ++ tail.now) t e }
 {
-    let mut h = iv_words();
+    let mut h = IV;
     let mut d: u32 = 1;
     let mut front = head;
     let mut rest = tail;
@@ -105,8 +61,7 @@ pub fn chunk_value(head: &[u8], tail: &[u8], t: u64, e: u32) -> [u32; 8]
         let next = compress(h, block_words(front, rest), t, 64, d);
         h = next;
         d = 0;
-        let n = less(64, front.len());
-        let more = back(rest, n);
+        let more = back(rest, 64usize.saturating_sub(front.len()));
         rest = more;
         let left = back(front, 64);
         front = left;
@@ -115,7 +70,8 @@ pub fn chunk_value(head: &[u8], tail: &[u8], t: u64, e: u32) -> [u32; 8]
     compress(h, block_words(front, rest), t, n, d + 2 + e)
 }
 
-fn joined(l: [u32; 8], r: [u32; 8]) -> Words
+// The message of a parent node: the chaining values of its children.
+fn parent_words(l: [u32; 8], r: [u32; 8]) -> Words
     ensures { list_of result ≡ l ++ r }
 {
     Words {
@@ -138,9 +94,10 @@ fn joined(l: [u32; 8], r: [u32; 8]) -> Words
     }
 }
 
+// The chaining value of a parent node.
 pub fn parent_value(l: [u32; 8], r: [u32; 8], e: u32) -> [u32; 8]
     requires { e ≤ 8 }
     ensures { result ≡ parent l r e }
 {
-    compress(iv_words(), joined(l, r), 0, 64, 4 + e)
+    compress(IV, parent_words(l, r), 0, 64, 4 + e)
 }

@@ -4,7 +4,7 @@ use native.Mathlib.Omega.{arith}
 use mathlib.Core.Path.{◌≡◌, refl, ap, ap₂, sym, ◌∙◌}
 use mathlib.Core.List.{List, [], ◌∷◌}
 use lib.ListN.{length}
-use Rattle.hash_compress.specs.declared.Quad.{Quad}
+use Rattle.math_word.specs.declared.Quad.{Quad}
 use Rattle.hash_compress.specs.Compress.{mix_of, put_quad, mix_at, columns, diagonals, permuted, round_of, rounds, folded, compressed}
 
 -- the state after the four diagonals, in its order

@@ -1,7 +1,7 @@
 -- BLAKE3, specification section 2.2: the compression function.
 use Rattle.std.specs.Prelude.{ℕ, zero, suc, ◌/◌, ◌%◌, ◌^◌, List, [], ◌∷◌, get_or, set}
 use Rattle.math_word.specs.Word.{add32, xor32, rotr32}
-use Rattle.hash_compress.specs.declared.Quad.{Quad}
+use Rattle.math_word.specs.declared.Quad.{Quad}
 
 -- 2.2, table 1
 unfoldable pub iv : List ℕ

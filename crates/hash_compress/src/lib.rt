@@ -4,48 +4,24 @@
 
 ghost use Rattle.std.specs.Prelude.{◌≡◌, ◌<◌};
 ghost use Rattle.hash_compress.specs.Compress.{half_of, mix_of, round_of, permuted, rounds, initial, folded, compressed};
-ghost use Rattle.hash_compress.specs.Words.{list_of};
+ghost use Rattle.math_word.specs.Words.{list_of};
 
-use math_word::{add, rotr, xor};
+use math_word::{Quad, Words};
 
-// The four words that G mixes.
-#[derive(Clone, Copy)]
-pub struct Quad {
-    pub a: u32,
-    pub b: u32,
-    pub c: u32,
-    pub d: u32,
-}
+// The initial chaining value.
+pub const IV: [u32; 8] = [
+    0x6a09e667, 0xbb67ae85, 0x3c6ef372, 0xa54ff53a, 0x510e527f, 0x9b05688c, 0x1f83d9ab, 0x5be0cd19,
+];
 
-// 16 words by name: the state, or a block's message.
-#[derive(Clone, Copy)]
-pub struct Words {
-    pub w0: u32,
-    pub w1: u32,
-    pub w2: u32,
-    pub w3: u32,
-    pub w4: u32,
-    pub w5: u32,
-    pub w6: u32,
-    pub w7: u32,
-    pub w8: u32,
-    pub w9: u32,
-    pub w10: u32,
-    pub w11: u32,
-    pub w12: u32,
-    pub w13: u32,
-    pub w14: u32,
-    pub w15: u32,
-}
-
+// Half of G.
 fn half(q: Quad, m: u32, s: u32, t: u32) -> Quad
     requires { ((0 < s) × (s < 32)) × ((0 < t) × (t < 32)) }
     ensures { result ≡ half_of q m s t }
 {
-    let a = add(add(q.a, q.b), m);
-    let d = rotr(xor(q.d, a), s);
-    let c = add(q.c, d);
-    let b = rotr(xor(q.b, c), t);
+    let a = q.a.wrapping_add(q.b).wrapping_add(m);
+    let d = (q.d ^ a).rotate_right(s);
+    let c = q.c.wrapping_add(d);
+    let b = (q.b ^ c).rotate_right(t);
     Quad { a, b, c, d }
 }
 
@@ -90,7 +66,8 @@ fn round(v: Words, m: Words) -> Words
 }
 
 // The message words in the next round's order.
-fn permute(m: Words) -> Words
+#[inline(always)]
+pub fn permute(m: Words) -> Words
     ensures { list_of result ≡ permuted (list_of m) }
 {
     Words {
@@ -119,17 +96,14 @@ fn seven_rounds(v: Words, m: Words) -> Words
 {
     let mut state = v;
     let mut message = m;
-    let mut i: u32 = 0;
-    while i < 7 {
-        let mixed = round(state, message);
-        state = mixed;
-        let next = permute(message);
-        message = next;
-        i += 1;
+    for _ in 0..7u32 {
+        state = round(state, message);
+        message = permute(message);
     }
     state
 }
 
+// The state before the rounds: chaining value, four words of the IV, counter, block length, flags.
 pub fn start(h: [u32; 8], t: u64, b: u32, d: u32) -> Words
     ensures { list_of result ≡ initial h t b d }
 {
@@ -144,10 +118,10 @@ pub fn start(h: [u32; 8], t: u64, b: u32, d: u32) -> Words
         w5: h[5],
         w6: h[6],
         w7: h[7],
-        w8: 0x6a09e667,
-        w9: 0xbb67ae85,
-        w10: 0x3c6ef372,
-        w11: 0xa54ff53a,
+        w8: IV[0],
+        w9: IV[1],
+        w10: IV[2],
+        w11: IV[3],
         w12: lo,
         w13: hi,
         w14: b,
@@ -155,6 +129,7 @@ pub fn start(h: [u32; 8], t: u64, b: u32, d: u32) -> Words
     }
 }
 
+// The chaining value, or the hash, from the state after the rounds.
 pub fn fold(v: Words) -> [u32; 8]
     ensures { result ≡ folded (list_of v) }
 {
@@ -170,6 +145,7 @@ pub fn fold(v: Words) -> [u32; 8]
     ]
 }
 
+// The compression of a block of b bytes, with the counter t and the flags d.
 pub fn compress(h: [u32; 8], m: Words, t: u64, b: u32, d: u32) -> [u32; 8]
     ensures { result ≡ compressed h (list_of m) t b d }
 {

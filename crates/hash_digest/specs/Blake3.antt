@@ -1,7 +1,8 @@
 -- BLAKE3 in its default mode with a 32-byte output, specification sections 2.1 and 2.6: the tree over the chunks, and the hash.
-use Rattle.std.specs.Prelude.{ℕ, zero, suc, ◌+◌, ◌*◌, ◌/◌, ◌%◌, ◌^◌, List, [], ◌∷◌, Bool, true, false, leb, take, drop, length, replicate}
+use Rattle.std.specs.Prelude.{ℕ, zero, suc, ◌+◌, ◌*◌, ◌/◌, ◌%◌, ◌^◌, List, [], ◌∷◌, Bool, true, false, leb, take, drop, length, replicate, Result, Ok, Err}
 use Rattle.hash_chunk.specs.Chunk.{chunk_bytes, root, chunk, parent}
 use Rattle.hash_digest.specs.declared.Hashed.{Hashed}
+use Rattle.hash_digest.specs.declared.TooLong.{TooLong}
 
 abbrev pub pick : Bool → List ℕ → List ℕ → List ℕ
 pick true a b = a
@@ -33,6 +34,11 @@ answer false a b = b
 
 abbrev pub too_long : Hashed
 too_long = record { number = 6; words = replicate 8 0 }
+
+-- what C gets of a digest
+abbrev pub reply : Result (List ℕ) TooLong → Hashed
+reply (Ok words) = record { number = 0; words = words }
+reply (Err e) = too_long
 
 -- the digest of the bytes s, or the number 6 and zeros where they are too many
 unfoldable pub digest_of : List ℕ → Hashed

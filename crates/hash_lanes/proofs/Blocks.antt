@@ -1,6 +1,6 @@
 -- Laws of the loop over the blocks of a lane's chunk, which stands at byte p and has the counter c.
-use Prim.Native.Nat.{ℕ, zero, suc, ◌+◌, ◌-◌, ◌/◌, ◌<◌, ◌≤◌}
-use mathlib.Core.Path.{◌≡◌, refl, ap, ap₂, sym, ◌∙◌}
+use Prim.Native.Nat.{ℕ, zero, suc, ◌+◌, ◌-◌, ◌*◌, ◌/◌, ◌<◌, ◌≤◌}
+use mathlib.Core.Path.{◌≡◌, refl, ap, ap₂, sym, ◌∙◌, subst}
 use mathlib.Core.List.{List, [], ◌∷◌}
 use lib.ListN.{length, take, drop, length-drop}
 use lib.Seq.{drop-drop, take-take, length-take-le}
@@ -52,3 +52,20 @@ module _ (s : List ℕ) (p c : ℕ) where
         let e : d + 2 ≡ d + 2 + 0 = omega arith in
         blocks_last h (take w (drop p rest)) c d 0 (omega arith) (words_left (omega arith) ∙ ap words_of (sym (take_past 64 (take w (drop p rest)) (omega arith))))
         (q ∙ ap₂ (λ b f. compressed h (words_of (drop p rest)) c b f) (sym a) e) ∙ u
+
+  -- the loop over the blocks of s: block i stands at byte 64 i
+  pub under_next : (i d : ℕ) (h h' rest : List ℕ) → i < 15 → p + 1024 ≤ length s → rest ≡ drop (64 * i) s → Under d h (drop (64 * i) s) (1024 - 64 * i)
+      → h' ≡ compressed h (words_of (drop p rest)) c 64 d → Under 0 h' (drop (64 * (i + 1)) s) (1024 - 64 * (i + 1))
+  under_next i d h h' rest l room e u q =
+      let w : 1024 - 64 * i - 64 ≡ 1024 - 64 * (i + 1) = omega arith in
+      let f : 64 * i + 64 ≡ 64 * (i + 1) = omega arith in
+      let n : length rest ≡ length s - 64 * i = ap length e ∙ length-drop (64 * i) s in
+      subst (λ x. Under 0 h' (drop (64 * (i + 1)) s) x) w
+      (under_turn d h rest (1024 - 64 * i) (omega arith) h' (drop (64 * (i + 1)) s) (omega arith) (subst (λ x. Under d h x (1024 - 64 * i)) (sym e) u) q
+      (sym (ap (drop 64) e ∙ drop-drop 64 (64 * i) s ∙ ap (λ k. drop k s) f)))
+
+  pub under_done : (i d : ℕ) (h r rest : List ℕ) → i ≡ 15 → p + 1024 ≤ length s → rest ≡ drop 960 s → Under d h (drop (64 * i) s) (1024 - 64 * i)
+      → r ≡ compressed h (words_of (drop p rest)) c 64 (d + 2) → r ≡ chunk (take 1024 (drop p s)) c 0
+  under_done i d h r rest l room e u q =
+      let n : length rest ≡ length s - 960 = ap length e ∙ length-drop 960 s in
+      under_end d h rest 64 (omega arith) r refl (subst (λ x. Under d h x 64) (sym e) (subst (λ k. Under d h (drop (64 * k) s) (1024 - 64 * k)) l u)) q

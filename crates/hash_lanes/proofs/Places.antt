@@ -1,7 +1,12 @@
 -- Laws of words written into bytes, and of the blocks of four parent nodes.
-use Prim.Native.Nat.{ℕ, ◌+◌, ◌*◌, ◌/◌, ◌%◌, ◌<◌, ◌≤◌}
-use mathlib.Core.Path.{◌≡◌, ap, ◌∙◌}
-use mathlib.Core.List.{List, ◌++◌}
+use Prim.Native.Nat.{ℕ, ◌+◌, ◌*◌, ◌/◌, ◌%◌, ◌^◌, ◌<◌, ◌≤◌}
+use mathlib.Core.Path.{◌≡◌, refl, ap, ◌∙◌}
+use mathlib.Core.List.{List, [], ◌∷◌, ◌++◌}
+use native.Mathlib.Nat.{add-zero}
+use lib.Seq.{paste}
+use Rattle.std.proofs.lemmas.List.Edits.{paste_none, paste_more}
+use Rattle.std.proofs.lemmas.Slice.{put_mid-paste}
+use borrow.Rule.Slice.PartMut.{put_mid}
 use lib.ListN.{get_or, set, length, drop, length-set}
 use lib.Seq.{get_or-drop, get_or-set_same, get_or-set_other}
 use native.Mathlib.Omega.{arith}
@@ -12,11 +17,11 @@ use Rattle.hash_lanes.specs.Lanes.{lane8}
 
 -- b with the word w from byte p on
 abbrev pub written : List ℕ → ℕ → ℕ → List ℕ
-written b p w = set (set (set (set b p (w % 256)) (p + 1) (w / 256 % 256)) (p + 2) (w / 65536 % 256)) (p + 3) (w / 16777216)
+written b p w = set (set (set (set b p (w % 256)) (p + 1) (w / 256 % 256)) (p + 2) (w / 65536 % 256)) (p + 3) (w / 16777216 % 256)
 
 -- a word is its bytes
-digits : (w : ℕ) → w % 256 + 256 * (w / 256 % 256) + 65536 * (w / 65536 % 256) + 16777216 * (w / 16777216) ≡ w
-digits w = omega arith
+digits : (w : ℕ) → w < 2 ^ 32 → w % 256 + 256 * (w / 256 % 256) + 65536 * (w / 65536 % 256) + 16777216 * (w / 16777216 % 256) ≡ w
+digits w h = omega arith
 
 module _ (b : List ℕ) (p w : ℕ) where
   pub length_written : length (written b p w) ≡ length b
@@ -28,7 +33,7 @@ module _ (b : List ℕ) (p w : ℕ) where
       let b1 = set b p (w % 256) in
       let b2 = set b1 (p + 1) (w / 256 % 256) in
       let b3 = set b2 (p + 2) (w / 65536 % 256) in
-      get_or-set_other b3 (p + 3) x (w / 16777216) 0 n3
+      get_or-set_other b3 (p + 3) x (w / 16777216 % 256) 0 n3
       ∙ get_or-set_other b2 (p + 2) x (w / 65536 % 256) 0 n2
       ∙ get_or-set_other b1 (p + 1) x (w / 256 % 256) 0 n1
       ∙ get_or-set_other b p x (w % 256) 0 n0
@@ -42,9 +47,9 @@ module _ (b : List ℕ) (p w : ℕ) where
       let e3 = apart (q + 3) (λ e. n (omega arith)) (λ e. n (omega arith)) (λ e. n (omega arith)) (λ e. n (omega arith)) in
       cc
 
-  pub word_written : p + 4 ≤ length b → le_word (written b p w) p ≡ w
+  pub word_written : p + 4 ≤ length b → w < 2 ^ 32 → le_word (written b p w) p ≡ w
   unfolding le_word
-  word_written h =
+  word_written h g =
       let b1 = set b p (w % 256) in
       let b2 = set b1 (p + 1) (w / 256 % 256) in
       let b3 = set b2 (p + 2) (w / 65536 % 256) in
@@ -52,15 +57,39 @@ module _ (b : List ℕ) (p w : ℕ) where
       let l2 : length b2 ≡ length b1 = length-set b1 (p + 1) (w / 256 % 256) in
       let l3 : length b3 ≡ length b2 = length-set b2 (p + 2) (w / 65536 % 256) in
       let e0 : get_or (written b p w) p 0 ≡ w % 256 =
-      get_or-set_other b3 (p + 3) p (w / 16777216) 0 (λ e. omega arith) ∙ get_or-set_other b2 (p + 2) p (w / 65536 % 256) 0 (λ e. omega arith)
+      get_or-set_other b3 (p + 3) p (w / 16777216 % 256) 0 (λ e. omega arith) ∙ get_or-set_other b2 (p + 2) p (w / 65536 % 256) 0 (λ e. omega arith)
       ∙ get_or-set_other b1 (p + 1) p (w / 256 % 256) 0 (λ e. omega arith) ∙ get_or-set_same b p (w % 256) 0 (omega arith) in
       let e1 : get_or (written b p w) (p + 1) 0 ≡ w / 256 % 256 =
-      get_or-set_other b3 (p + 3) (p + 1) (w / 16777216) 0 (λ e. omega arith) ∙ get_or-set_other b2 (p + 2) (p + 1) (w / 65536 % 256) 0 (λ e. omega arith)
+      get_or-set_other b3 (p + 3) (p + 1) (w / 16777216 % 256) 0 (λ e. omega arith) ∙ get_or-set_other b2 (p + 2) (p + 1) (w / 65536 % 256) 0 (λ e. omega arith)
       ∙ get_or-set_same b1 (p + 1) (w / 256 % 256) 0 (omega arith) in
       let e2 : get_or (written b p w) (p + 2) 0 ≡ w / 65536 % 256 =
-      get_or-set_other b3 (p + 3) (p + 2) (w / 16777216) 0 (λ e. omega arith) ∙ get_or-set_same b2 (p + 2) (w / 65536 % 256) 0 (omega arith) in
-      let e3 : get_or (written b p w) (p + 3) 0 ≡ w / 16777216 = get_or-set_same b3 (p + 3) (w / 16777216) 0 (omega arith) in
-      cc (digits w)
+      get_or-set_other b3 (p + 3) (p + 2) (w / 16777216 % 256) 0 (λ e. omega arith) ∙ get_or-set_same b2 (p + 2) (w / 65536 % 256) 0 (omega arith) in
+      let e3 : get_or (written b p w) (p + 3) 0 ≡ w / 16777216 % 256 = get_or-set_same b3 (p + 3) (w / 16777216 % 256) 0 (omega arith) in
+      cc (digits w g)
+
+  abbrev bytes : List ℕ
+  bytes = w % 256 ∷ w / 256 % 256 ∷ w / 65536 % 256 ∷ w / 16777216 % 256 ∷ []
+
+  -- its bytes, copied there
+  pub copied : p + 4 ≤ length b → paste b p bytes 4 ≡ written b p w
+  copied h =
+      cc (
+        paste_none b p bytes,
+        add-zero p,
+        paste_more b p bytes 0 0 (omega arith) (omega arith),
+        paste_more b p bytes 1 0 (omega arith) (omega arith),
+        paste_more b p bytes 2 0 (omega arith) (omega arith),
+        paste_more b p bytes 3 0 (omega arith) (omega arith),
+      )
+
+  pub put_made : (x v : List ℕ) (k : ℕ) → v ≡ bytes → 4 ≡ k → x ≡ put_mid p k b v → p % 4 ≡ 0 → p + 4 ≤ 256 → length b ≡ 256 → w < 2 ^ 32
+      → (length x ≡ 256) × (le_word x p ≡ w) × ((q : ℕ) → q % 4 ≡ 0 → (q ≡ p → ⊥) → le_word x q ≡ le_word b q)
+  put_made x v k e f d h room long g =
+      let is : x ≡ written b p w = d ∙ put_mid-paste p k b v bytes 4 e f refl ∙ copied (omega arith) in (
+        ap length is ∙ length_written ∙ long,
+        ap (λ y. le_word y p) is ∙ word_written (omega arith) g,
+        λ q i n. ap (λ y. le_word y q) is ∙ word_kept h q i n,
+      )
 
 -- the byte at which word j of four lanes stands
 abbrev pub place : ℕ → ℕ

@@ -1,7 +1,7 @@
 -- BLAKE3, specification section 2.2: the state as a table of four rows, so that a column is one word of each row.
 use Rattle.std.specs.Prelude.{ℕ, List, [], ◌∷◌}
 use Rattle.math_word.specs.Word.{add32, xor32, rotr32}
-use Rattle.hash_compress.specs.declared.Quad.{Quad}
+use Rattle.math_word.specs.declared.Quad.{Quad}
 use Rattle.hash_lanes.specs.declared.rows.Rows.{Rows}
 
 -- the 16 words, row after row

@@ -7,13 +7,14 @@ mod rows;
 
 ghost use Rattle.std.specs.Prelude.{◌≡◌, ℕ, ◌+◌, ◌*◌, ◌<◌, ◌≤◌, ◌^◌, length, take, drop};
 ghost use Rattle.hash_compress.specs.Compress.{iv, compressed};
-ghost use Rattle.hash_compress.specs.Words.{list_of};
+ghost use Rattle.math_word.specs.Words.{list_of};
 ghost use Rattle.hash_chunk.specs.Chunk.{words_of, chunk, parent};
 ghost use Rattle.hash_lanes.specs.Lanes.{lane8, full, whole_of};
 
 use hash_chunk::{parent_value, words_whole};
-use hash_compress::{Words, fold, start};
+use hash_compress::{IV, fold, start};
 use math_parts::back;
+use math_word::Words;
 use nodes::node_blocks;
 use rounds::seven_rounds;
 
@@ -47,8 +48,7 @@ fn step(h: [u32; 32], s: &[u8], n: usize, t: u64, u: u64, d: u32) -> [u32; 32]
     ensures { (l : ℕ) → l < 4 → lane8 result l ≡ compressed (lane8 h l) (words_of (drop (n * l) s.now)) (t + u * l) 64 d }
 {
     let mut out = [0u32; 32];
-    let mut l: usize = 0;
-    while l < 4 {
+    for l in 0..4usize {
         let m = words_whole(back(s, n * l));
         let r = compress_block(lane(&h, l), m, t + u * l as u64, d);
         out[0 + l] = r[0];
@@ -59,7 +59,6 @@ fn step(h: [u32; 32], s: &[u8], n: usize, t: u64, u: u64, d: u32) -> [u32; 32]
         out[20 + l] = r[5];
         out[24 + l] = r[6];
         out[28 + l] = r[7];
-        l += 1;
     }
     out
 }
@@ -69,11 +68,9 @@ fn iv_lanes() -> [u32; 32]
     ensures { (l : ℕ) → l < 4 → lane8 result l ≡ iv }
 {
     [
-        0x6a09e667, 0x6a09e667, 0x6a09e667, 0x6a09e667, 0xbb67ae85, 0xbb67ae85, 0xbb67ae85,
-        0xbb67ae85, 0x3c6ef372, 0x3c6ef372, 0x3c6ef372, 0x3c6ef372, 0xa54ff53a, 0xa54ff53a,
-        0xa54ff53a, 0xa54ff53a, 0x510e527f, 0x510e527f, 0x510e527f, 0x510e527f, 0x9b05688c,
-        0x9b05688c, 0x9b05688c, 0x9b05688c, 0x1f83d9ab, 0x1f83d9ab, 0x1f83d9ab, 0x1f83d9ab,
-        0x5be0cd19, 0x5be0cd19, 0x5be0cd19, 0x5be0cd19,
+        IV[0], IV[0], IV[0], IV[0], IV[1], IV[1], IV[1], IV[1], IV[2], IV[2], IV[2], IV[2], IV[3],
+        IV[3], IV[3], IV[3], IV[4], IV[4], IV[4], IV[4], IV[5], IV[5], IV[5], IV[5], IV[6], IV[6],
+        IV[6], IV[6], IV[7], IV[7], IV[7], IV[7],
     ]
 }
 
@@ -84,17 +81,12 @@ fn chunks(s: &[u8], n: usize, t: u64, u: u64) -> [u32; 32]
 {
     let mut h = iv_lanes();
     let mut d: u32 = 1;
-    let mut rest = s;
-    let mut left: usize = 1024;
-    while 64 < left {
-        let next = step(h, rest, n, t, u, d);
+    for i in 0..15usize {
+        let next = step(h, back(s, 64 * i), n, t, u, d);
         h = next;
         d = 0;
-        let more = back(rest, 64);
-        rest = more;
-        left -= 64;
     }
-    step(h, rest, n, t, u, d + 2)
+    step(h, back(s, 960), n, t, u, d + 2)
 }
 
 // The parents of the lanes of a and b: lane l of a is the left child in lane l, that of b the right one.
@@ -110,7 +102,7 @@ pub fn power(k: u32) -> usize
     requires { k ≤ 6 }
     ensures { (result ≡ 2 ^ k) × (result ≤ 64) }
 {
-    1 << (k as usize)
+    1 << k
 }
 
 // The chaining values of four subtrees of 2^k chunks, n bytes apart, whose counters are u apart.

@@ -9,10 +9,8 @@ fn put(b: &mut [u8; 256], p: usize, w: u32)
     requires { (p % 4 ≡ 0) × (p + 4 ≤ 256) × (length b.old ≡ 256) }
     ensures { (length b.new ≡ 256) × (le_word b.new p ≡ w) × ((q : ℕ) → q % 4 ≡ 0 → (q ≡ p → ⊥) → le_word b.new q ≡ le_word b.old q) }
 {
-    b[p] = (w % 256) as u8;
-    b[p + 1] = (w / 256 % 256) as u8;
-    b[p + 2] = (w / 65536 % 256) as u8;
-    b[p + 3] = (w / 16777216) as u8;
+    let bytes = &mut b[..];
+    bytes[p..p + 4].copy_from_slice(&w.to_le_bytes());
 }
 
 // The blocks of the parents of the lanes of a and b: that of lane l from byte 64 l on.
@@ -20,12 +18,10 @@ pub fn node_blocks(a: [u32; 32], b: [u32; 32]) -> [u8; 256]
     ensures { (l : ℕ) → l < 4 → words_of (drop (64 * l) result) ≡ lane8 a l ++ lane8 b l }
 {
     let mut out = [0u8; 256];
-    let mut i: usize = 0;
-    while i < 32 {
+    for i in 0..32usize {
         let p = 64 * (i % 4) + 4 * (i / 4);
         put(&mut out, p, a[i]);
         put(&mut out, p + 32, b[i]);
-        i += 1;
     }
     out
 }

@@ -1,10 +1,9 @@
 // BLAKE3's state as four rows of four words, and a step of G on its four columns side by side.
 ghost use Rattle.std.specs.Prelude.{◌≡◌, ◌<◌};
-ghost use Rattle.hash_compress.specs.Words.{list_of};
+ghost use Rattle.math_word.specs.Words.{list_of};
 ghost use Rattle.hash_lanes.specs.Rows.{sums_of, rotated_of, half_rows, diagonals_of, columns_of, flat};
 
-use hash_compress::{Quad, Words};
-use math_word::{add, rotr, xor};
+use math_word::{Quad, Words};
 
 // The rows of a state: words 0 to 3, 4 to 7, 8 to 11, 12 to 15.
 #[derive(Clone, Copy)]
@@ -20,10 +19,10 @@ fn sums(x: Quad, y: Quad) -> Quad
     ensures { result ≡ sums_of x y }
 {
     Quad {
-        a: add(x.a, y.a),
-        b: add(x.b, y.b),
-        c: add(x.c, y.c),
-        d: add(x.d, y.d),
+        a: x.a.wrapping_add(y.a),
+        b: x.b.wrapping_add(y.b),
+        c: x.c.wrapping_add(y.c),
+        d: x.d.wrapping_add(y.d),
     }
 }
 
@@ -33,10 +32,10 @@ fn rotated(x: Quad, y: Quad, n: u32) -> Quad
     ensures { result ≡ rotated_of x y n }
 {
     Quad {
-        a: rotr(xor(x.a, y.a), n),
-        b: rotr(xor(x.b, y.b), n),
-        c: rotr(xor(x.c, y.c), n),
-        d: rotr(xor(x.d, y.d), n),
+        a: (x.a ^ y.a).rotate_right(n),
+        b: (x.b ^ y.b).rotate_right(n),
+        c: (x.c ^ y.c).rotate_right(n),
+        d: (x.d ^ y.d).rotate_right(n),
     }
 }
 

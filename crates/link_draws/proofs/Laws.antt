@@ -13,12 +13,9 @@ use borrow.Author.Tests.{leb-true}
 use Rattle.math_float.specs.Float.{zero64}
 use Rattle.math_time.specs.Seconds.{millisecond, seconds}
 use Rattle.rand_streams.specs.declared.Cursor.{Cursor}
-use Rattle.rand_streams.specs.declared.Drawn32.{Drawn32}
 use Rattle.rand_streams.specs.Streams.{Moved}
-use Rattle.rand_draw.specs.declared.Hit.{Hit}
 use Rattle.rand_draw.specs.Draw.{whole32_at, words32_at, draws_of, choose, again}
 use Rattle.rand_draw.specs.Fraction.{hits_at, hit_words}
-use Rattle.link_latency.specs.declared.Sample.{Sample}
 use Rattle.link_latency.specs.Latency.{latency_at, latency_words, jitter_words, jitters, spike_count, longest}
 use Rattle.link_latency.specs.Admitted.{Admitted, fraction_admitted, longest_base, longest_transmission}
 use Rattle.link_geography.specs.declared.Cost.{Cost}
@@ -58,18 +55,17 @@ delay_few key count base f r = omega (arith, two (jitters (seconds base) f), hit
 
 -- ---- What the draws give
 
-pub struck : (rate : ℕ) (c : Cursor) (h : Hit) (f : Float) → f ≡ rate_of rate → h.hit ≡ hits_at c.key c.count f → Moved c (hit_words f) h.next → Struck rate c h
+pub struck : (rate : ℕ) (c : Cursor) (hit : Bool) (next : Cursor) (f : Float) → f ≡ rate_of rate → hit ≡ hits_at c.key c.count f → Moved c (hit_words f) next → Struck rate c hit next
 unfolding chance
-struck rate c h f e a m = record {
+struck rate c hit next f e a m = record {
   hits = a ∙ ap (hits_at c.key c.count) e;
   words = m.count ∙ ap (λ (g : Float). c.count + hit_words g) e;
   key = m.key;
-  holds = m.holds;
   few = omega (arith, m.count, hit_few f);
 }
 
-pub picked : (n : ℕ) (c : Cursor) (d : Drawn32) → d.value ≡ whole32_at c.key c.count n → Moved c (words32_at c.key c.count n) d.next → d.value < n → Picked n c d
-picked n c d a m l = record { is = a; words = m.count; key = m.key; holds = m.holds; few = omega (arith, m.count, index_few c.key c.count n); below = l }
+pub picked : (n : ℕ) (c : Cursor) (i : ℕ) (next : Cursor) → i ≡ whole32_at c.key c.count n → Moved c (words32_at c.key c.count n) next → i < n → Picked n c i next
+picked n c i next a m l = record { is = a; words = m.count; key = m.key; few = omega (arith, m.count, index_few c.key c.count n); below = l }
 
 -- ---- Keys
 
@@ -161,14 +157,13 @@ module _ (setup prices : List ℕ) (from to bytes : ℕ) (s : Sent setup prices 
     subst (λ (q : Cost). q.transmission.ns ≤ longest_transmission) (sym e) cheap.1,
   )
 
-  pub delayed : (k : Cost) (c : Cursor) (j p : Float) (r : Sample) → k ≡ cost_at x prices from to bytes → j ≡ rate_of x.config.jitter → p ≡ rate_of x.config.spike
-      → r.latency.ns ≡ latency_at c.key c.count k.base.ns j p k.transmission.ns → Moved c (latency_words c.key c.count k.base.ns j p) r.next → r.latency.ns ≤ longest
-      → Delayed x prices from to bytes c r
-  delayed k c j p r ke je pe a m l = record {
+  pub delayed : (k : Cost) (c : Cursor) (j p : Float) (r : ℕ) (next : Cursor) → k ≡ cost_at x prices from to bytes → j ≡ rate_of x.config.jitter → p ≡ rate_of x.config.spike
+      → r ≡ latency_at c.key c.count k.base.ns j p k.transmission.ns → Moved c (latency_words c.key c.count k.base.ns j p) next → r ≤ longest
+      → Delayed x prices from to bytes c r next
+  delayed k c j p r next ke je pe a m l = record {
     is = a ∙ (λ i. latency_at c.key c.count (ke i).base.ns (je i) (pe i) (ke i).transmission.ns);
     words = m.count ∙ (λ i. c.count + latency_words c.key c.count (ke i).base.ns (je i) (pe i));
     key = m.key;
-    holds = m.holds;
     few = omega (arith, m.count, delay_few c.key c.count k.base.ns j p);
     below = l;
   }

@@ -1,11 +1,7 @@
 -- Document 01, link streams, draw rules and latency: what the draws of an opening need of its settings and prices (question 1), and what they give.
-use Rattle.std.specs.Prelude.{ℕ, ◌+◌, ◌*◌, ◌≤◌, ◌<◌, ◌≡◌, true, false, List, T, eqb, length}
+use Rattle.std.specs.Prelude.{ℕ, ◌+◌, ◌*◌, ◌≤◌, ◌<◌, ◌≡◌, Bool, true, false, List, T, eqb, length}
 use Rattle.rand_streams.specs.declared.Cursor.{Cursor}
-use Rattle.rand_streams.specs.declared.Drawn32.{Drawn32}
-use Rattle.rand_streams.specs.Streams.{Holds}
-use Rattle.rand_draw.specs.declared.Hit.{Hit}
 use Rattle.rand_draw.specs.Draw.{whole32_at, words32_at}
-use Rattle.link_latency.specs.declared.Sample.{Sample}
 use Rattle.link_latency.specs.Latency.{latency_at, latency_words, longest}
 use Rattle.link_latency.specs.Admitted.{longest_base, fraction_admitted}
 use Rattle.link_geography.specs.Geography.{at_least_one, most_regions, link_in, link_admitted}
@@ -32,22 +28,20 @@ pub record Sent (setup prices : List ℕ) (from to bytes : ℕ) : Type 0 where
   pub receiver : to < (settings_at setup).sizes.tills
   pub short : bytes ≤ longest_wire
 
--- a draw for a rate
-pub record Struck (rate : ℕ) (c : Cursor) (h : Hit) : Type 0 where
-  pub hits : h.hit ≡ (chance c.key rate c.count).value
-  pub words : h.next.count ≡ (chance c.key rate c.count).words
-  pub key : h.next.key ≡ c.key
-  pub holds : Holds h.next
-  pub few : h.next.count ≤ c.count + 2
+-- a draw for a rate, from the cursor c to next
+pub record Struck (rate : ℕ) (c : Cursor) (hit : Bool) (next : Cursor) : Type 0 where
+  pub hits : hit ≡ (chance c.key rate c.count).value
+  pub words : next.count ≡ (chance c.key rate c.count).words
+  pub key : next.key ≡ c.key
+  pub few : next.count ≤ c.count + 2
 
 -- an index below n
-pub record Picked (n : ℕ) (c : Cursor) (d : Drawn32) : Type 0 where
-  pub is : d.value ≡ whole32_at c.key c.count n
-  pub words : d.next.count ≡ c.count + words32_at c.key c.count n
-  pub key : d.next.key ≡ c.key
-  pub holds : Holds d.next
-  pub few : d.next.count ≤ c.count + 2
-  pub below : d.value < n
+pub record Picked (n : ℕ) (c : Cursor) (i : ℕ) (next : Cursor) : Type 0 where
+  pub is : i ≡ whole32_at c.key c.count n
+  pub words : next.count ≡ c.count + words32_at c.key c.count n
+  pub key : next.key ≡ c.key
+  pub few : next.count ≤ c.count + 2
+  pub below : i < n
 
 -- a latency, on the stream with this key from this word count on
 abbrev pub delay_draw : Settings → (prices : List ℕ) (from to bytes : ℕ) (key : List ℕ) (words : ℕ) → Draw ℕ
@@ -59,10 +53,9 @@ delay_draw x prices from to bytes key words =
       words = words + latency_words key words k.base.ns (rate_of c.jitter) (rate_of c.spike);
     }
 
-pub record Delayed (x : Settings) (prices : List ℕ) (from to bytes : ℕ) (c : Cursor) (r : Sample) : Type 0 where
-  pub is : r.latency.ns ≡ (delay_draw x prices from to bytes c.key c.count).value
-  pub words : r.next.count ≡ (delay_draw x prices from to bytes c.key c.count).words
-  pub key : r.next.key ≡ c.key
-  pub holds : Holds r.next
-  pub few : r.next.count ≤ c.count + 6
-  pub below : r.latency.ns ≤ longest
+pub record Delayed (x : Settings) (prices : List ℕ) (from to bytes : ℕ) (c : Cursor) (latency : ℕ) (next : Cursor) : Type 0 where
+  pub is : latency ≡ (delay_draw x prices from to bytes c.key c.count).value
+  pub words : next.count ≡ (delay_draw x prices from to bytes c.key c.count).words
+  pub key : next.key ≡ c.key
+  pub few : next.count ≤ c.count + 6
+  pub below : latency ≤ longest

@@ -2,7 +2,6 @@
 #![tactic(auto)]
 
 ghost use Rattle.std.specs.Prelude.{◌≡◌, ◌+◌, ◌*◌, ◌^◌, ◌%◌, ◌<◌, ◌≤◌, length, take, drop};
-ghost use Rattle.rand_streams.specs.Streams.{Holds};
 ghost use Rattle.link_geography.specs.Geography.{Stands};
 ghost use Rattle.spec_network.specs.Opening.{most_tills};
 ghost use Rattle.spec_network.specs.Tables.{cell, setup_width, settings_at};
@@ -11,10 +10,8 @@ ghost use Rattle.spec_network.specs.Real.{key_width, key_of, fault_key_of, regio
 ghost use Rattle.link_draws.specs.Drawing.{Priced, Sent, Struck, Picked, Delayed};
 
 use link_geography::Cost;
-use link_latency::Sample;
 use math_time::Time;
-use rand_draw::Hit;
-use rand_streams::{Cursor, Drawn32};
+use rand_streams::Cursor;
 
 // The words of a key.
 const KEY: usize = ask_tables::LINK_KEY_WIDTH as usize;
@@ -72,7 +69,7 @@ pub fn link_at(keys: &[u32], tills: usize, from: usize, to: usize, count: u64) -
     ensures { Stands (key_of tills keys.now «from» to) count result }
 {
     let key = key_at(keys, (from * tills + to) * KEY);
-    rand_streams::at(key, count)
+    Cursor::at(key, count)
 }
 
 // The fault stream at a word count.
@@ -81,21 +78,21 @@ pub fn fault_at(setup: &[u64], count: u64) -> Cursor
     ensures { Stands (fault_key_of (settings_at setup.now).fault_key) count result }
 {
     let key = fault_key(setup);
-    rand_streams::at(key, count)
+    Cursor::at(key, count)
 }
 
 // A draw for the rate in cell i, made only where it is above 0.
-pub fn chance(setup: &[u64], i: usize, c: Cursor) -> Hit
-    requires { (i < length setup.now) × (c.count + 1 < 2 ^ 63) × Holds c }
-    ensures { Struck (cell setup.now i) c result }
+pub fn chance(setup: &[u64], i: usize, c: &mut Cursor) -> bool
+    requires { (i < length setup.now) × (c.old.count + 1 < 2 ^ 63) }
+    ensures { Struck (cell setup.now i) c.old result c.new }
 {
     rand_draw::hits(c, rate(setup, i))
 }
 
 // A ring index below n.
-pub fn index(c: Cursor, n: u32) -> Drawn32
-    requires { (0 < n) × (c.count + 1 < 2 ^ 63) × Holds c }
-    ensures { Picked n c result }
+pub fn index(c: &mut Cursor, n: u32) -> u32
+    requires { (0 < n) × (c.old.count + 1 < 2 ^ 63) }
+    ensures { Picked n c.old result c.new }
 {
     rand_draw::whole32(c, n)
 }
@@ -133,18 +130,23 @@ fn cost(setup: &[u64], prices: &[u64], from: usize, to: usize, bytes: u64) -> Co
 }
 
 // The latency of so many bytes between two tills.
-pub fn delay(setup: &[u64], prices: &[u64], from: usize, to: usize, bytes: u64, c: Cursor) -> Sample
-    requires { Sent setup.now prices.now «from» to bytes × (c.count + 5 < 2 ^ 63) × Holds c }
-    ensures { Delayed (settings_at setup.now) prices.now «from» to bytes c result }
+pub fn delay(
+    setup: &[u64],
+    prices: &[u64],
+    from: usize,
+    to: usize,
+    bytes: u64,
+    c: &mut Cursor,
+) -> Time
+    requires { Sent setup.now prices.now «from» to bytes × (c.old.count + 5 < 2 ^ 63) }
+    ensures { Delayed (settings_at setup.now) prices.now «from» to bytes c.old result.ns c.new }
 {
     let k = cost(setup, prices, from, to, bytes);
-    let base = k.base;
-    let wire = k.transmission;
     link_latency::sample_latency(
         c,
-        base,
+        k.base,
         rate(setup, ask_tables::JITTER),
         rate(setup, ask_tables::SPIKE),
-        wire,
+        k.transmission,
     )
 }

@@ -1,7 +1,6 @@
 -- Document 01, geography: where tills sit, the links' prices and the time on the wire, as `Geography::new`, `region_of`, `link`, `transmission`.
 use Rattle.std.specs.Prelude.{ℕ, zero, suc, ◌+◌, ◌-◌, ◌*◌, ◌/◌, ◌%◌, ◌^◌, min, max, ◌≡◌, Bool, true, false, ◌&&◌, List, eqb, leb, get_or, set}
 use Rattle.rand_streams.specs.declared.Cursor.{Cursor}
-use Rattle.rand_streams.specs.Streams.{Holds}
 use Rattle.math_time.specs.Seconds.{second, millisecond}
 use Rattle.rand_draw.specs.Draw.{whole64_at, words64_at}
 use Rattle.link_geography.specs.declared.Link.{Link}
@@ -120,4 +119,3 @@ plan_cost planned seed regions from to latency bytes =
 pub record Stands (k : List ℕ) (n : ℕ) (c : Cursor) : Type 0 where
   pub key : c.key ≡ k
   pub count : c.count ≡ n
-  pub holds : Holds c

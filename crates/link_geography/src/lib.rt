@@ -2,7 +2,7 @@
 #![tactic(auto)]
 
 ghost use Rattle.std.specs.Prelude.{◌≡◌, ◌+◌, ◌<◌, ◌≤◌, ◌^◌, length};
-ghost use Rattle.rand_streams.specs.Streams.{Holds, Moved};
+ghost use Rattle.rand_streams.specs.Streams.{Moved};
 ghost use Rattle.math_word.specs.Word.{le8};
 ghost use Rattle.link_geography.specs.Bytes.{host_bytes, links_bytes, derive, host, links};
 ghost use Rattle.link_geography.specs.Geography.{at_least_one, region_of, transmission_of, band_of, drawn_link, link_words, link_admitted, most_bytes};
@@ -49,13 +49,6 @@ impl Band {
         rate: 100_000_000,
         rates: 900_000_001,
     };
-}
-
-// A link, and the cursor past its two draws.
-#[derive(Clone, Copy)]
-pub struct Priced {
-    pub link: Link,
-    pub next: Cursor,
 }
 
 // 0 acts as 1.
@@ -147,24 +140,20 @@ pub fn transmission(bytes: u64, rate: u64) -> Time
 }
 
 // A link of a band, drawn: the base first, then the rate.
-fn drawn_link(c: Cursor, s: Band) -> Priced
-    requires { ((0 < s.bases) × (s.base + s.bases ≤ 2 ^ 40)) × ((0 < s.rates) × (s.rate + s.rates ≤ 2 ^ 40)) × (c.count + 7 < 2 ^ 63) × Holds c }
-    ensures { (result.link ≡ drawn_link c.key c.count s) × Moved c (link_words c.key c.count s) result.next }
+fn drawn_link(c: &mut Cursor, s: Band) -> Link
+    requires { ((0 < s.bases) × (s.base + s.bases ≤ 2 ^ 40)) × ((0 < s.rates) × (s.rate + s.rates ≤ 2 ^ 40)) × (c.old.count + 7 < 2 ^ 63) }
+    ensures { (result ≡ drawn_link c.old.key c.old.count s) × Moved c.old (link_words c.old.key c.old.count s) c.new }
 {
-    let first = range64(c, s.base, s.bases);
-    let middle = first.next;
-    let second = range64(middle, s.rate, s.rates);
-    let next = second.next;
-    let base = Time::from_millis(first.value);
-    let rate = second.value;
-    let link = Link { base, rate };
-    Priced { link, next }
+    let millis = range64(c, s.base, s.bases);
+    let rate = range64(c, s.rate, s.rates);
+    let base = Time::from_millis(millis);
+    Link { base, rate }
 }
 
 // The price of the link between regions a and b.
-pub fn price(c: Cursor, a: u64, b: u64) -> Priced
-    requires { (c.count + 7 < 2 ^ 63) × Holds c }
-    ensures { (result.link ≡ drawn_link c.key c.count (band_of a b)) × Moved c (link_words c.key c.count (band_of a b)) result.next }
+pub fn price(c: &mut Cursor, a: u64, b: u64) -> Link
+    requires { c.old.count + 7 < 2 ^ 63 }
+    ensures { (result ≡ drawn_link c.old.key c.old.count (band_of a b)) × Moved c.old (link_words c.old.key c.old.count (band_of a b)) c.new }
 {
     if a == b {
         return drawn_link(c, Band::NEAR);

@@ -6,7 +6,7 @@ use native.Mathlib.Omega.{arith}
 use lib.Ieee.{Float, binary64, add, mul, neg, lt, of_int, of_bits}
 use Rattle.math_float.specs.Float.{zero64}
 use Rattle.rand_streams.specs.declared.Cursor.{Cursor}
-use Rattle.rand_streams.specs.Streams.{Holds, Moved, word_pair}
+use Rattle.rand_streams.specs.Streams.{Moved, word_pair}
 use Rattle.rand_draw.proofs.Words.{pair_small}
 use Rattle.math_time.specs.Seconds.{second, millisecond, whole, seconds, nanos, times, milli, InRange}
 use Rattle.rand_draw.specs.Real.{real_of, real_at}
@@ -25,10 +25,10 @@ module _ (c d : Cursor) (s f : Float) where
   unfolding jitter_of jitter_words jitters jitter_range real_at
   jitter_drawn h e m = (rw h e, moved_as c d 2 _ (rw h) m)
 
-  pub jitter_none : lt zero64 (mul binary64 s f) ≡ false → Holds c
+  pub jitter_none : lt zero64 (mul binary64 s f) ≡ false
       → (zero64 ≡ jitter_of s f (word_pair c.key c.count)) × Moved c (jitter_words s f) c
   unfolding jitter_of jitter_words jitters jitter_range
-  jitter_none h k = (rw h, moved_as c c 0 _ (rw h) (moved_none c k))
+  jitter_none h = (rw h, moved_as c c 0 _ (rw h) (moved_none c))
 
 pub at_least_floor : (x : Float) → lt x milli ≡ true → milli ≡ floored x
 unfolding floored

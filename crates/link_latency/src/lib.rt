@@ -2,21 +2,14 @@
 #![tactic(auto)]
 
 ghost use Rattle.std.specs.Prelude.{◌≡◌, ◌+◌, ◌<◌, ◌≤◌, ◌^◌};
-ghost use Rattle.rand_streams.specs.Streams.{Holds, Moved, word_pair};
+ghost use Rattle.rand_streams.specs.Streams.{Moved, word_pair};
 ghost use Rattle.math_time.specs.Seconds.{seconds};
 ghost use Rattle.link_latency.specs.Latency.{jitter_of, jitter_words, floored, delay_of, latency_at, latency_words, shortest, longest_delay, longest};
 ghost use Rattle.link_latency.specs.Admitted.{Admitted, latency_admitted, fraction_admitted, rate_admitted, longest_transmission};
 
 use math_time::Time;
-use rand_draw::{DrawnReal, draw_real, hits};
+use rand_draw::{draw_real, hits};
 use rand_streams::Cursor;
-
-// A latency, and the cursor past its draws.
-#[derive(Clone, Copy)]
-pub struct Sample {
-    pub latency: Time,
-    pub next: Cursor,
-}
 
 // Question 3, of the latency: at most 60 s.
 pub fn latency_admitted(latency: Time) -> bool
@@ -40,18 +33,15 @@ pub fn rate_admitted(rate: f64) -> bool
 }
 
 // The jitter of a base of s seconds: drawn in -j..j, and not drawn if j is 0.
-fn jitter(c: Cursor, s: f64, fraction: f64) -> DrawnReal
-    requires { (c.count + 1 < 2 ^ 63) × Holds c }
-    ensures { (result.value ≡ jitter_of s fraction (word_pair c.key c.count)) × Moved c (jitter_words s fraction) result.next }
+fn jitter(c: &mut Cursor, s: f64, fraction: f64) -> f64
+    requires { c.old.count + 1 < 2 ^ 63 }
+    ensures { (result ≡ jitter_of s fraction (word_pair c.old.key c.old.count)) × Moved c.old (jitter_words s fraction) c.new }
 {
     let j = s * fraction;
     if j > 0.0 {
         return draw_real(c, -j, j);
     }
-    DrawnReal {
-        value: 0.0,
-        next: c,
-    }
+    0.0
 }
 
 // At least 0.001.
@@ -62,36 +52,31 @@ fn at_least(x: f64) -> f64
 }
 
 // The latency before transmission.
-fn delay(c: Cursor, base: Time, fraction: f64) -> Sample
-    requires { Admitted base.ns fraction × (c.count + 1 < 2 ^ 63) × Holds c }
-    ensures { (result.latency.ns ≡ delay_of base.ns fraction (word_pair c.key c.count)) × Moved c (jitter_words (seconds base.ns) fraction) result.next × (shortest ≤ result.latency.ns) × (result.latency.ns ≤ longest_delay) }
+fn delay(c: &mut Cursor, base: Time, fraction: f64) -> Time
+    requires { Admitted base.ns fraction × (c.old.count + 1 < 2 ^ 63) }
+    ensures { (result.ns ≡ delay_of base.ns fraction (word_pair c.old.key c.old.count)) × Moved c.old (jitter_words (seconds base.ns) fraction) c.new × (shortest ≤ result.ns) × (result.ns ≤ longest_delay) }
 {
     let s = base.as_secs_f64();
     let j = jitter(c, s, fraction);
-    let next = j.next;
-    let latency = Time::from_secs_f64(at_least(s + j.value));
-    Sample { latency, next }
+    Time::from_secs_f64(at_least(s + j))
 }
 
 // The latency of a delivery: its base with jitter, its transmission, and with this rate a spike.
-pub fn sample_latency(c: Cursor, base: Time, fraction: f64, rate: f64, transmission: Time) -> Sample
-    requires { Admitted base.ns fraction × (transmission.ns ≤ longest_transmission) × (c.count + 5 < 2 ^ 63) × Holds c }
-    ensures { (result.latency.ns ≡ latency_at c.key c.count base.ns fraction rate transmission.ns) × Moved c (latency_words c.key c.count base.ns fraction rate) result.next × (shortest ≤ result.latency.ns) × (result.latency.ns ≤ longest) }
+pub fn sample_latency(
+    c: &mut Cursor,
+    base: Time,
+    fraction: f64,
+    rate: f64,
+    transmission: Time,
+) -> Time
+    requires { Admitted base.ns fraction × (transmission.ns ≤ longest_transmission) × (c.old.count + 5 < 2 ^ 63) }
+    ensures { (result.ns ≡ latency_at c.old.key c.old.count base.ns fraction rate transmission.ns) × Moved c.old (latency_words c.old.key c.old.count base.ns fraction rate) c.new × (shortest ≤ result.ns) × (result.ns ≤ longest) }
 {
-    let first = delay(c, base, fraction);
-    let drawn = first.latency;
-    let middle = first.next;
-    let plain = drawn.plus(transmission);
-    let spike = hits(middle, rate);
-    let after = spike.next;
-    if spike.hit {
-        let by = draw_real(after, 10.0, 50.0);
-        let next = by.next;
-        let latency = plain.mul_f64(by.value);
-        return Sample { latency, next };
+    let drawn = delay(c, base, fraction);
+    let plain = drawn + transmission;
+    if hits(c, rate) {
+        let by = draw_real(c, 10.0, 50.0);
+        return plain.mul_f64(by);
     }
-    Sample {
-        latency: plain,
-        next: after,
-    }
+    plain
 }

@@ -8,7 +8,7 @@ use native.Mathlib.Numerals.{add-one}
 use native.Mathlib.Nat.{mul-le-mul}
 use lib.ListN.{get_or, set}
 use Rattle.rand_streams.specs.declared.Cursor.{Cursor}
-use Rattle.rand_streams.specs.Streams.{Moved, Holds}
+use Rattle.rand_streams.specs.Streams.{Moved}
 use Rattle.rand_draw.specs.Draw.{words64_at}
 use Rattle.rand_draw.proofs.Laws.{words_most}
 use Rattle.link_geography.specs.declared.Link.{Link}
@@ -56,11 +56,11 @@ pub row_none : (key : List ℕ) (R a : ℕ) (t : List ℕ) → t ≡ priced_row 
 unfolding priced_row
 row_none key R a t = let e : a - a ≡ 0 = omega arith in subst (λ n. t ≡ priced_row key R a n t) (sym e) refl
 
-pub row_start : (key : List ℕ) (a : ℕ) (c : Cursor) → c.key ≡ key → Holds c → Stands key (row_count key a c.count (a - a)) c
+pub row_start : (key : List ℕ) (a : ℕ) (c : Cursor) → c.key ≡ key → Stands key (row_count key a c.count (a - a)) c
 unfolding row_count
-row_start key a c p h =
+row_start key a c p =
     let e : a - a ≡ 0 = omega arith in
-    record { key = p; count = subst (λ n. c.count ≡ row_count key a c.count n) (sym e) refl; holds = h }
+    record { key = p; count = subst (λ n. c.count ≡ row_count key a c.count n) (sym e) refl }
 
 module _ (key : List ℕ) (R a b : ℕ) (le : a ≤ b) where
   one_more : suc (b - a) ≡ b + 1 - a
@@ -77,7 +77,6 @@ module _ (key : List ℕ) (R a b : ℕ) (le : a ≤ b) where
     count = m.count ∙ ap₂ (λ k n. n + link_words k n (band_of a b)) s.key s.count
         ∙ ap (λ x. row_count key a count (b - a) + link_words key (row_count key a count (b - a)) (band_of a x)) (sym back)
         ∙ ap (row_count key a count) one_more;
-    holds = m.holds;
   }
 
   pub row_writes : (t t₀ t' : List ℕ) (count : ℕ) (d : Cursor) (l : Link) → count ≡ all_count key R a → Stands key (row_count key a count (b - a)) d → l ≡ drawn_link d.key d.count (band_of a b)
@@ -91,7 +90,7 @@ pub row_end : (key : List ℕ) (R a b : ℕ) (c d : Cursor) → b ≤ R → R �
 unfolding all_count
 row_end key R a b c d p q e s =
     let same : b ≡ R = omega arith in
-    record { key = s.key; count = s.count ∙ ap₂ (λ n x. row_count key a n (x - a)) e same ∙ ap (all_count key R) (sym (add-one a)); holds = s.holds }
+    record { key = s.key; count = s.count ∙ ap₂ (λ n x. row_count key a n (x - a)) e same ∙ ap (all_count key R) (sym (add-one a)) }
 
 pub row_done : (key : List ℕ) (R a b : ℕ) (t t₀ : List ℕ) → b ≤ R → R ≤ b → t ≡ priced_row key R a (b - a) t₀ → t ≡ priced_row key R a (R - a) t₀
 row_done key R a b t t₀ p q e = let same : b ≡ R = omega arith in e ∙ ap (λ x. priced_row key R a (x - a) t₀) same
@@ -101,9 +100,9 @@ pub all_none : (key : List ℕ) (R : ℕ) (t : List ℕ) → t ≡ priced_all ke
 unfolding priced_all
 all_none key R t = refl
 
-pub all_start : (key : List ℕ) (R : ℕ) (c : Cursor) → c.key ≡ key → c.count ≡ 0 → Holds c → Stands key (all_count key R 0) c
+pub all_start : (key : List ℕ) (R : ℕ) (c : Cursor) → c.key ≡ key → c.count ≡ 0 → Stands key (all_count key R 0) c
 unfolding all_count
-all_start key R c p q h = record { key = p; count = q; holds = h }
+all_start key R c p q = record { key = p; count = q }
 
 pub all_count_lem : (key : List ℕ) (R a : ℕ) (d : Cursor) → Stands key (all_count key R a) d → d.count ≡ all_count d.key R a
 all_count_lem key R a d s = s.count ∙ ap (λ k. all_count k R a) (sym s.key)

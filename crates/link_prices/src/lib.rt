@@ -2,7 +2,6 @@
 #![tactic(auto)]
 
 ghost use Rattle.std.specs.Prelude.{◌≡◌, ◌+◌, ◌-◌, ◌<◌, ◌≤◌, ◌^◌, get_or, set};
-ghost use Rattle.rand_streams.specs.Streams.{Holds};
 ghost use Rattle.link_geography.specs.Geography.{put_link, put_pair, link_at, cost_of, Stands, all_count, priced_row, priced_all, prices_of, most_regions, most_bytes};
 
 use link_geography::{Cost, Link};
@@ -37,33 +36,23 @@ fn put_pair(prices: &mut [u64], regions: u64, a: u64, b: u64, l: Link)
 }
 
 // Row a: the pairs (a, a), (a, a + 1), ..
-fn price_row(prices: &mut [u64], c: Cursor, regions: u64, a: u64) -> Cursor
-    requires { (a < regions) × (regions ≤ most_regions) × (c.count ≡ all_count c.key regions a) × Holds c }
-    ensures { (prices.new ≡ priced_row c.key regions a (regions - a) prices.old) × Stands c.key (all_count c.key regions (a + 1)) result }
+fn price_row(prices: &mut [u64], c: &mut Cursor, regions: u64, a: u64)
+    requires { (a < regions) × (regions ≤ most_regions) × (c.old.count ≡ all_count c.old.key regions a) }
+    ensures { (prices.new ≡ priced_row c.old.key regions a (regions - a) prices.old) × Stands c.old.key (all_count c.old.key regions (a + 1)) c.new }
 {
-    let mut d = c;
-    let mut b = a;
-    while b < regions {
-        let p = link_geography::price(d, a, b);
-        let next = p.next;
-        put_pair(prices, regions, a, b, p.link);
-        d = next;
-        b += 1;
+    for b in a..regions {
+        let link = link_geography::price(c, a, b);
+        put_pair(prices, regions, a, b, link);
     }
-    d
 }
 
 // Every row.
-fn price_rows(prices: &mut [u64], c: Cursor, regions: u64)
-    requires { (regions ≤ most_regions) × (c.count ≡ 0) × Holds c }
-    ensures { prices.new ≡ priced_all c.key regions regions prices.old }
+fn price_rows(prices: &mut [u64], c: &mut Cursor, regions: u64)
+    requires { (regions ≤ most_regions) × (c.old.count ≡ 0) }
+    ensures { prices.new ≡ priced_all c.old.key regions regions prices.old }
 {
-    let mut d = c;
-    let mut a: u64 = 0;
-    while a < regions {
-        let next = price_row(prices, d, regions, a);
-        d = next;
-        a += 1;
+    for a in 0..regions {
+        price_row(prices, c, regions, a);
     }
 }
 
@@ -74,8 +63,8 @@ pub fn price_links(prices: &mut [u64], seed: u64, regions: u64)
 {
     let n = link_geography::at_least_one(regions);
     let key = link_geography::links_digest(seed);
-    let c = rand_streams::at(key, 0);
-    price_rows(prices, c, n);
+    let mut c = Cursor::at(key, 0);
+    price_rows(prices, &mut c, n);
 }
 
 fn get(s: &[u64], i: usize) -> u64

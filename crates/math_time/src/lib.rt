@@ -6,40 +6,38 @@ ghost use Rattle.std.specs.Float.{binary64};
 ghost use Rattle.std.specs.Float.Ieee.{mul};
 ghost use Rattle.math_time.specs.Seconds as Seconds;
 
+use std::ops::Add;
+
 // A time, or a length of time, in whole nanoseconds.
-#[derive(Clone, Copy)]
+#[derive(Clone, Copy, Debug, PartialEq, Eq, PartialOrd, Ord)]
 pub struct Time {
     pub ns: u64,
 }
 
 impl Time {
+    // No time at all.
     pub const ZERO: Time = Time { ns: 0 };
 
+    // A thousandth of a second.
     pub const MILLISECOND: Time = Time { ns: 1_000_000 };
 
+    // A second.
     pub const SECOND: Time = Time { ns: 1_000_000_000 };
 
+    // So many nanoseconds.
     pub fn from_nanos(ns: u64) -> Time
         ensures { result.ns ≡ ns }
     {
         Time { ns }
     }
 
+    // So many milliseconds.
     pub fn from_millis(ms: u64) -> Time
         requires { ms ≤ 2 ^ 40 }
         ensures { result.ns ≡ ms * Seconds.millisecond }
     {
         Time {
             ns: ms * Time::MILLISECOND.ns,
-        }
-    }
-
-    pub fn plus(self, more: Time) -> Time
-        requires { self.ns + more.ns < 2 ^ 64 }
-        ensures { result.ns ≡ self.ns + more.ns }
-    {
-        Time {
-            ns: self.ns + more.ns,
         }
     }
 
@@ -67,6 +65,22 @@ impl Time {
     }
 }
 
+impl Add for Time {
+    type Output = Time;
+
+    ghost can_add = { λ a b. a.ns + b.ns < 2 ^ 64 };
+
+    ghost add_gives = { λ a b r. r.ns ≡ a.ns + b.ns };
+
+    // The sum of two lengths of time.
+    fn add(self, more: Time) -> Time {
+        Time {
+            ns: self.ns + more.ns,
+        }
+    }
+}
+
+// A time in seconds.
 fn seconds(ns: u64) -> f64
     ensures { result ≡ Seconds.seconds ns }
 {

@@ -5,7 +5,7 @@ use mathlib.Core.List.{List, [], ◌∷◌}
 use lib.ListN.{get_or}
 use native.Mathlib.Omega.{arith}
 use native.Mathlib.Numerals.{add-one}
-use Rattle.rand_chacha8.specs.declared.Quad.{Quad}
+use Rattle.math_word.specs.declared.Quad.{Quad}
 use Rattle.rand_chacha8.specs.Chacha.{quarter_of, put_quad, quarter_at, columns, diagonals, double_rounds, initial, sums, block_of, word_at}
 
 -- the matrix after the four diagonals, in its order

@@ -2,7 +2,7 @@
 -- The block counter has 64 bits, in words 12 and 13; the nonce has 64 bits, here 0, in words 14 and 15.
 use Rattle.std.specs.Prelude.{ℕ, zero, suc, ◌/◌, ◌%◌, ◌^◌, List, [], ◌∷◌, get_or, set}
 use Rattle.math_word.specs.Word.{add32, xor32, rotl32}
-use Rattle.rand_chacha8.specs.declared.Quad.{Quad}
+use Rattle.math_word.specs.declared.Quad.{Quad}
 
 -- "The quarter-round", in two halves alike but for their rotations: a += b; d ^= a; d <<<= s; c += d; b ^= c; b <<<= t
 unfoldable pub half_of : Quad → ℕ → ℕ → Quad

@@ -4,51 +4,23 @@
 
 ghost use Rattle.std.specs.Prelude.{◌≡◌, ◌/◌, ◌%◌, ◌<◌};
 ghost use Rattle.rand_chacha8.specs.Chacha.{half_of, quarter_of, columns, diagonals, double_rounds, initial, sums, block_of, word_at};
-ghost use Rattle.rand_chacha8.specs.Words.{list_of};
+ghost use Rattle.math_word.specs.Words.{list_of};
 
-use math_word::{add, low_half, rotl, xor};
+use math_word::{Quad, Words, low_half};
 
-// The four words of a quarter-round.
-#[derive(Clone, Copy)]
-pub struct Quad {
-    pub a: u32,
-    pub b: u32,
-    pub c: u32,
-    pub d: u32,
-}
-
-// The 16 words of the matrix by name.
-#[derive(Clone, Copy)]
-pub struct Words {
-    pub w0: u32,
-    pub w1: u32,
-    pub w2: u32,
-    pub w3: u32,
-    pub w4: u32,
-    pub w5: u32,
-    pub w6: u32,
-    pub w7: u32,
-    pub w8: u32,
-    pub w9: u32,
-    pub w10: u32,
-    pub w11: u32,
-    pub w12: u32,
-    pub w13: u32,
-    pub w14: u32,
-    pub w15: u32,
-}
-
+// Half of a quarter-round.
 fn half(q: Quad, s: u32, t: u32) -> Quad
     requires { ((0 < s) × (s < 32)) × ((0 < t) × (t < 32)) }
     ensures { result ≡ half_of q s t }
 {
-    let a = add(q.a, q.b);
-    let d = rotl(xor(q.d, a), s);
-    let c = add(q.c, d);
-    let b = rotl(xor(q.b, c), t);
+    let a = q.a.wrapping_add(q.b);
+    let d = (q.d ^ a).rotate_left(s);
+    let c = q.c.wrapping_add(d);
+    let b = (q.b ^ c).rotate_left(t);
     Quad { a, b, c, d }
 }
 
+// The quarter-round.
 fn quarter(a: u32, b: u32, c: u32, d: u32) -> Quad
     ensures { result ≡ quarter_of (record { a = a; b = b; c = c; d = d }) }
 {
@@ -93,11 +65,8 @@ fn rounds(v: Words) -> Words
     ensures { list_of result ≡ double_rounds 4 (list_of v) }
 {
     let mut state = v;
-    let mut i: u32 = 0;
-    while i < 4 {
-        let mixed = double_round(state);
-        state = mixed;
-        i += 1;
+    for _ in 0..4u32 {
+        state = double_round(state);
     }
     state
 }
@@ -133,22 +102,22 @@ fn sum_words(y: Words, x: Words) -> [u32; 16]
     ensures { result ≡ sums (list_of y) (list_of x) }
 {
     [
-        add(y.w0, x.w0),
-        add(y.w1, x.w1),
-        add(y.w2, x.w2),
-        add(y.w3, x.w3),
-        add(y.w4, x.w4),
-        add(y.w5, x.w5),
-        add(y.w6, x.w6),
-        add(y.w7, x.w7),
-        add(y.w8, x.w8),
-        add(y.w9, x.w9),
-        add(y.w10, x.w10),
-        add(y.w11, x.w11),
-        add(y.w12, x.w12),
-        add(y.w13, x.w13),
-        add(y.w14, x.w14),
-        add(y.w15, x.w15),
+        y.w0.wrapping_add(x.w0),
+        y.w1.wrapping_add(x.w1),
+        y.w2.wrapping_add(x.w2),
+        y.w3.wrapping_add(x.w3),
+        y.w4.wrapping_add(x.w4),
+        y.w5.wrapping_add(x.w5),
+        y.w6.wrapping_add(x.w6),
+        y.w7.wrapping_add(x.w7),
+        y.w8.wrapping_add(x.w8),
+        y.w9.wrapping_add(x.w9),
+        y.w10.wrapping_add(x.w10),
+        y.w11.wrapping_add(x.w11),
+        y.w12.wrapping_add(x.w12),
+        y.w13.wrapping_add(x.w13),
+        y.w14.wrapping_add(x.w14),
+        y.w15.wrapping_add(x.w15),
     ]
 }
 

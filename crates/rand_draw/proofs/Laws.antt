@@ -62,7 +62,7 @@ pub moved_as : (c d : Cursor) (m n : ℕ) → m ≡ n → Moved c m d → Moved 
 moved_as c d m n e = subst (λ k. Moved c k d) e
 
 pub moved_on : (c d e : Cursor) (m n : ℕ) → Moved c m d → Moved d n e → Moved c (m + n) e
-moved_on c d e m n p q = record { key = q.key ∙ p.key; count = omega (arith, p.count, q.count); holds = q.holds }
+moved_on c d e m n p q = record { key = q.key ∙ p.key; count = omega (arith, p.count, q.count) }
 
 -- the second draw, at the cursor that the first left
 pub pair_on : (c d : Cursor) {v : ℕ} → Moved c 2 d → v ≡ word_pair d.key d.count → v ≡ word_pair c.key (c.count + 2)

@@ -7,7 +7,7 @@ use native.Mathlib.Omega.{arith}
 use lib.Ieee.{Float, lt}
 use Rattle.math_float.specs.Float.{zero64}
 use Rattle.rand_streams.specs.declared.Cursor.{Cursor}
-use Rattle.rand_streams.specs.Streams.{Holds, Moved, word_pair}
+use Rattle.rand_streams.specs.Streams.{Moved, word_pair}
 use Rattle.rand_draw.specs.Fraction.{fraction, fraction_at, hits_at, hit_words}
 use Rattle.rand_draw.specs.Real.{real_of, real_at}
 use Rattle.rand_draw.proofs.Laws.{moved_as}
@@ -21,8 +21,8 @@ unfolding real_at
 real_at_lem key count low high p q = q ∙ ap (real_of low high) p
 
 -- no word is taken
-pub moved_none : (c : Cursor) → Holds c → Moved c 0 c
-moved_none c h = record { key = refl; count = omega arith; holds = h }
+pub moved_none : (c : Cursor) → Moved c 0 c
+moved_none c = record { key = refl; count = omega arith }
 
 -- a rate above 0 is drawn against; any other, a NaN too, is not
 module _ (c d : Cursor) (rate : Float) where
@@ -31,6 +31,6 @@ module _ (c d : Cursor) (rate : Float) where
   unfolding hits_at hit_words
   drawn h e m = (rw h (ap (λ y. lt y rate) e), moved_as c d 2 _ (rw h) m)
 
-  pub undrawn : lt zero64 rate ≡ false → Holds c → (false ≡ hits_at c.key c.count rate) × Moved c (hit_words rate) c
+  pub undrawn : lt zero64 rate ≡ false → (false ≡ hits_at c.key c.count rate) × Moved c (hit_words rate) c
   unfolding hits_at hit_words
-  undrawn h k = (rw h, moved_as c c 0 _ (rw h) (moved_none c k))
+  undrawn h = (rw h, moved_as c c 0 _ (rw h) (moved_none c))

@@ -2,13 +2,8 @@
 use Rattle.std.specs.Prelude.{ℕ, ◌+◌, ◌*◌, ◌/◌, ◌^◌, ◌≡◌, List, Bool, true, false, ltb}
 use Rattle.rand_chacha8.specs.Chacha.{word_at, block_of}
 use Rattle.rand_streams.specs.declared.Cursor.{Cursor}
-use Rattle.rand_streams.specs.declared.Step.{Step}
 
--- what every cursor keeps: the block that it holds, if any, is the stream's
-unfoldable pub Holds : Cursor → Type 0
-Holds c = (n : ℕ) → c.held ≡ n + 1 → c.block ≡ block_of c.key n
-
--- a cursor that holds the block of its count
+-- a cursor that holds the block of its count; that whatever block it holds is the stream's stands in its type
 unfoldable pub keeps_block : Cursor → Type 0
 keeps_block c = (c.held ≡ c.count / 16 + 1) × (c.block ≡ block_of c.key (c.count / 16))
 
@@ -16,11 +11,15 @@ keeps_block c = (c.held ≡ c.count / 16 + 1) × (c.block ≡ block_of c.key (c.
 pub record Moved (c : Cursor) (n : ℕ) (c' : Cursor) : Type 0 where
   pub key : c'.key ≡ c.key
   pub count : c'.count ≡ c.count + n
-  pub holds : Holds c'
 
 -- the 64-bit draw at a count: two words, the low one first
 unfoldable pub word_pair : List ℕ → ℕ → ℕ
 word_pair key count = word_at key count + 2 ^ 32 * word_at key (count + 1)
+
+-- a draw, and the count of words after it
+pub record Step : Type 0 where
+  pub value : ℕ
+  pub count : ℕ
 
 abbrev pub pick : Bool → Step → Step → Step
 pick true x y = x

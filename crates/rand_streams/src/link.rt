@@ -36,6 +36,5 @@ pub fn link_key(seed: u64, from: u32, to: u32) -> [u32; 8]
     ensures { result ≡ link_key seed «from» to }
 {
     let bytes = link_bytes(seed, from, to);
-    let answer = hash_digest::digest(&bytes);
-    answer.words
+    hash_digest::hash(&bytes)
 }

@@ -3,11 +3,10 @@
 #![tactic(auto)]
 
 ghost use Rattle.std.specs.Prelude.{◌+◌, ◌<◌, ◌≤◌, ◌^◌};
-ghost use Rattle.rand_streams.specs.Streams.{Holds};
 
-use hash_digest::{Hashed, digest, digest_parts};
+use hash_digest::{Hashed, TooLong, digest, digest_parts};
 use math_parts::{back, front};
-use rand_streams::{Cursor, at, draw64, link_key};
+use rand_streams::{Cursor, link_key};
 
 // The descriptor of standard output.
 const STDOUT_FILENO: i32 = 1;
@@ -18,14 +17,28 @@ const LENGTHS: [usize; 48] = [
     9216, 12288, 16384, 16385, 31744, 32768, 32769, 65536, 65537, 65700, 65701,
 ];
 
-// Two parts: the first one's length, then that of both.
-const HEADS: [usize; 20] = [
-    0, 1, 3, 30, 63, 64, 65, 30, 81, 1, 1023, 1024, 1025, 30, 4096, 4096, 81, 1, 65700, 81,
-];
-
-const TOTALS: [usize; 20] = [
-    0, 1, 64, 50, 64, 64, 65, 286, 337, 1025, 2048, 2048, 4096, 4126, 4096, 8192, 8273, 65536,
-    65700, 65617,
+// Two parts: the length of the first one, then that of both.
+const PARTS: [(usize, usize); 20] = [
+    (0, 0),
+    (1, 1),
+    (3, 64),
+    (30, 50),
+    (63, 64),
+    (64, 64),
+    (65, 65),
+    (30, 286),
+    (81, 337),
+    (1, 1025),
+    (1023, 2048),
+    (1024, 2048),
+    (1025, 4096),
+    (30, 4126),
+    (4096, 4096),
+    (4096, 8192),
+    (81, 8273),
+    (1, 65536),
+    (65700, 65700),
+    (81, 65617),
 ];
 
 const COUNTS: [u64; 24] = [
@@ -68,25 +81,24 @@ const STARTS: [u64; 10] = [
     1099511637775,
 ];
 
-const SEEDS: [u64; 8] = [
-    0,
-    1,
-    7,
-    255,
-    4294967296,
-    81985529216486895,
-    9223372036854775808,
-    18446744073709551615,
+// Links: a seed, the sending till, and the receiving one.
+const LINKS: [(u64, u32, u32); 8] = [
+    (0, 0, 1),
+    (1, 0, 0),
+    (7, 3, 2),
+    (255, 1, 63),
+    (4294967296, 63, 0),
+    (81985529216486895, 62, 63),
+    (9223372036854775808, 5, 6),
+    (18446744073709551615, 63, 62),
 ];
 
-const FROMS: [u32; 8] = [0, 0, 3, 1, 63, 62, 5, 63];
-
-const TOS: [u32; 8] = [1, 0, 2, 63, 0, 63, 6, 62];
-
+// Text as it is.
 fn say(s: &[u8]) {
     io::write_all(STDOUT_FILENO, s);
 }
 
+// A number behind a space.
 fn number(n: u64) {
     say(b" ");
     io::print_decimal(STDOUT_FILENO, n);
@@ -94,69 +106,54 @@ fn number(n: u64) {
 
 // The four bytes of a word, the lowest first.
 fn bytes(w: u32) {
-    let x = w as u64;
-    io::print_hex(
-        STDOUT_FILENO,
-        (x % 256) * 16777216 + (x / 256 % 256) * 65536 + (x / 65536 % 256) * 256 + x / 16777216,
-        8,
-    );
+    io::print_hex(STDOUT_FILENO, u64::from(w.swap_bytes()), 8);
 }
 
-fn hex32(w: [u32; 8]) {
+// The 32 bytes of a digest or a key, and the line's end.
+fn hex32(words: [u32; 8]) {
     say(b" ");
-    bytes(w[0]);
-    bytes(w[1]);
-    bytes(w[2]);
-    bytes(w[3]);
-    bytes(w[4]);
-    bytes(w[5]);
-    bytes(w[6]);
-    bytes(w[7]);
+    for w in words {
+        bytes(w);
+    }
     say(b"\n");
 }
 
-fn answer(d: Hashed) {
-    if d.number != 0 {
-        say(b" refused");
-        number(d.number as u64);
-        say(b"\n");
-        return;
+// A digest, or the number of its refusal.
+fn answer(digest: Result<[u32; 8], TooLong>) {
+    match digest {
+        Ok(words) => hex32(words),
+        Err(e) => {
+            say(b" refused");
+            number(u64::from(Hashed::from(Err(e)).number));
+            say(b"\n");
+        }
     }
-    let words = d.words;
-    hex32(words);
 }
 
 // Byte i is i modulo 251.
 fn fill(buf: &mut [u8]) {
-    let mut i: usize = 0;
-    while i < buf.len() {
-        buf[i] = (i % 251) as u8;
-        i += 1;
+    for (i, byte) in buf.iter_mut().enumerate() {
+        *byte = (i % 251) as u8;
     }
 }
 
+// The digests of front parts of s.
 fn digests(s: &[u8]) {
-    let mut k: usize = 0;
-    while k < 48 {
-        let n = LENGTHS[k];
+    for n in LENGTHS {
         say(b"digest");
         number(n as u64);
         answer(digest(front(s, n)));
-        k += 1;
     }
 }
 
+// The digests of front parts of s in two parts.
 fn digests_of_parts(s: &[u8]) {
-    let mut k: usize = 0;
-    while k < 20 {
-        let h = HEADS[k];
-        let n = TOTALS[k];
+    for (h, n) in PARTS {
         say(b"parts");
         number(h as u64);
         number(n as u64);
         let whole = front(s, n);
         answer(digest_parts(front(whole, h), back(whole, h)));
-        k += 1;
     }
 }
 
@@ -174,68 +171,50 @@ fn key_of(i: usize) -> [u32; 8] {
     [0xffffffff; 8]
 }
 
+// Words of the stream of key i.
 fn words(i: usize) {
-    let mut k: usize = 0;
-    while k < 24 {
-        let count = COUNTS[k];
+    for count in COUNTS {
         say(b"word");
         number(i as u64);
         number(count);
         say(b" ");
-        io::print_hex(
-            STDOUT_FILENO,
-            rand_chacha8::word(key_of(i), count) as u64,
-            8,
-        );
+        let word = rand_chacha8::word(key_of(i), count);
+        io::print_hex(STDOUT_FILENO, u64::from(word), 8);
         say(b"\n");
-        k += 1;
     }
 }
 
 // 12 draws of 64 bits in a row: two blocks are read, or three.
-fn draws_from(c: Cursor)
-    requires { (c.count + 24 < 2 ^ 63) × Holds c }
+fn draws_from(c: &mut Cursor)
+    requires { c.old.count + 24 < 2 ^ 63 }
 {
-    let mut d = c;
-    let mut k: u64 = 0;
-    while k < 12 {
-        let drawn = draw64(d);
-        let next = drawn.next;
-        d = next;
+    for k in 0..12_u64 {
         say(b" ");
-        io::print_hex(STDOUT_FILENO, drawn.value, 16);
-        k += 1;
+        io::print_hex(STDOUT_FILENO, c.draw64(), 16);
     }
     say(b"\n");
 }
 
+// Draws of the stream of key i.
 fn draws(i: usize) {
-    let mut k: usize = 0;
-    while k < 10 {
-        let start = STARTS[k];
+    for start in STARTS {
         say(b"long");
         number(i as u64);
         number(start);
         if start < 1099511637776 {
-            draws_from(at(key_of(i), start));
+            draws_from(&mut Cursor::at(key_of(i), start));
         }
-        k += 1;
     }
 }
 
-fn show_link(seed: u64, from: u32, to: u32) {
-    say(b"link");
-    number(seed);
-    number(from as u64);
-    number(to as u64);
-    hex32(link_key(seed, from, to));
-}
-
+// The keys of links.
 fn links() {
-    let mut k: usize = 0;
-    while k < 8 {
-        show_link(SEEDS[k], FROMS[k], TOS[k]);
-        k += 1;
+    for (seed, from, to) in LINKS {
+        say(b"link");
+        number(seed);
+        number(u64::from(from));
+        number(u64::from(to));
+        hex32(link_key(seed, from, to));
     }
 }
 

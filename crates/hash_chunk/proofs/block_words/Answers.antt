@@ -1,4 +1,4 @@
-use Rattle.hash_chunk.proofs.Copying.{words_head, words_same}
+use Rattle.hash_chunk.proofs.Copying.{words_head, words_joined}
 use Rattle.math_parts.proofs.Parts.{empty_left}
 use Rattle.hash_chunk.specs.Chunk.{words_of}
 use mathlib.Core.Path.{ap, ◌∙◌}
@@ -7,8 +7,5 @@ use Rattle.hash_chunk.proofs.block_words.Goals as goal
 pub returns-then-head-ge64 : goal.returns-then-head-ge64
 returns-then-head-ge64 c = c.words_whole.ensures ∙ words_head c.args.head.now c.args.tail.now c.if-head-ge64.true
 
-pub returns-then-tail-ge64 : goal.returns-then-tail-ge64
-returns-then-tail-ge64 c = c.words_whole-then-tail-ge64.ensures ∙ ap words_of (empty_left c.args.head.now c.args.tail.now c.if-head-eq0.true)
-
 pub returns : goal.returns
-returns c = c.words_whole-2.ensures ∙ words_same _ _ c.padded-block.ensures
+returns c = c.words_whole-2.ensures ∙ words_joined c.args.head.now c.args.tail.now _ _ c.joined-block.ensures

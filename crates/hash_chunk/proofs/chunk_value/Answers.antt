@@ -2,23 +2,23 @@ use native.Mathlib.Omega.{arith}
 use lib.ListN.{length}
 use Prim.Native.Nat.{◌-◌, ◌/◌}
 use mathlib.Core.List.{◌++◌}
-use mathlib.Core.Path.{ap, ◌∙◌}
+use mathlib.Core.Path.{refl, ◌∙◌}
+use Rattle.hash_compress.specs.Compress.{iv}
 use Rattle.hash_chunk.specs.Chunk.{blocks, chunk}
 use Rattle.hash_chunk.proofs.Laws.{blocks_two, blocks_end, shorter}
 use Rattle.hash_chunk.proofs.chunk_value.Goals as goal
 
 pub loop-front-init : goal.loop-front-init
-unfolding chunk
-loop-front-init c = let a = c.args in
-    (ap (λ h. blocks ((length (a.head.now ++ a.tail.now) - 1) / 64) h (a.head.now ++ a.tail.now) a.t 1 a.e) c.iv_words-h.ensures, omega arith)
+unfolding chunk iv
+loop-front-init c = (refl, omega arith)
 
 pub loop-front-smaller : goal.loop-front-smaller
-loop-front-smaller c = omega (arith, shorter c.loop-front.front.now c.loop-front.rest.now c.less-n.result c.less-n.ensures c.back-more.ensures c.back-left.ensures)
+loop-front-smaller c = omega (arith, shorter c.loop-front.front.now c.loop-front.rest.now c.saturating_sub.result c.saturating_sub.ensures c.back-more.ensures c.back-left.ensures)
 
 pub loop-front-preserved : goal.loop-front-preserved
 loop-front-preserved c = let l = c.loop-front in
     let a = c.args in
-    (blocks_two l.h l.front.now l.rest.now a.t l.d a.e c.less-n.result c.loop-front-test.true c.less-n.ensures c.back-more.ensures c.back-left.ensures c.block_words.ensures c.compress-next.ensures ∙ l.invariant.0, omega (arith, shorter l.front.now l.rest.now c.less-n.result c.less-n.ensures c.back-more.ensures c.back-left.ensures))
+    (blocks_two l.h l.front.now l.rest.now a.t l.d a.e c.saturating_sub.result c.loop-front-test.true c.saturating_sub.ensures c.back-more.ensures c.back-left.ensures c.block_words.ensures c.compress-next.ensures ∙ l.invariant.0, omega (arith, shorter l.front.now l.rest.now c.saturating_sub.result c.saturating_sub.ensures c.back-more.ensures c.back-left.ensures))
 
 pub returns : goal.returns
 returns c = let l = c.loop-front in

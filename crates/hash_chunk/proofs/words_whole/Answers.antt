@@ -1,5 +1,5 @@
 use Rattle.math_word.proofs.Lists.{list16}
-use Rattle.hash_compress.specs.Words.{list_of}
+use Rattle.math_word.specs.Words.{list_of}
 use Rattle.hash_chunk.specs.Chunk.{words_of}
 use Rattle.hash_chunk.proofs.words_whole.Goals as goal
 

@@ -1,5 +1,5 @@
 use mathlib.Core.Path.{ap, ◌∙◌}
-use Rattle.hash_compress.specs.Words.{list_of}
+use Rattle.math_word.specs.Words.{list_of}
 use Rattle.hash_compress.specs.Compress.{compressed, folded, rounds}
 use Rattle.hash_compress.proofs.compress.Goals as goal
 

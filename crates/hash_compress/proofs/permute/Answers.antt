@@ -1,4 +1,4 @@
-use Rattle.hash_compress.specs.Words.{list_of}
+use Rattle.math_word.specs.Words.{list_of}
 use Rattle.hash_compress.specs.Compress.{permuted}
 use mathlib.Core.Path.{refl}
 use Rattle.hash_compress.proofs.permute.Goals as goal

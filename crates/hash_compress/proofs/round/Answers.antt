@@ -1,4 +1,4 @@
-use Rattle.hash_compress.specs.Words.{list_of}
+use Rattle.math_word.specs.Words.{list_of}
 use Rattle.hash_compress.proofs.Laws.{round_made, laid}
 use Rattle.hash_compress.proofs.round.Goals as goal
 

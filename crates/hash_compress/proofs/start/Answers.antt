@@ -1,5 +1,5 @@
 use mathlib.Core.Path.{refl}
-use Rattle.hash_compress.specs.Words.{list_of}
+use Rattle.math_word.specs.Words.{list_of}
 use Rattle.hash_compress.specs.Compress.{initial, iv}
 use Rattle.hash_compress.proofs.start.Goals as goal
 

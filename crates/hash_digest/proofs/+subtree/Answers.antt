@@ -24,10 +24,10 @@ returns-then-head-tail t c = let a = c.args in
 
 pub subtree-r-requires : goal.subtree-r-requires
 subtree-r-requires t c = let a = c.args in
-    omega (arith, c.requires, double a.k c.if-k-eq0.false, c.power-n.ensures, right_length (1024 * c.power-n.result) c.less-m.result a.head.now a.tail.now c.less-m.ensures c.back.ensures c.back-2.ensures)
+    omega (arith, c.requires, double a.k c.if-k-eq0.false, c.power-n.ensures, right_length (1024 * c.power-n.result) c.saturating_sub-m.result a.head.now a.tail.now c.saturating_sub-m.ensures c.back.ensures c.back-2.ensures)
 
 pub returns : goal.returns
 returns t c = let a = c.args in
-    tree_two_made a.k a.head.now a.tail.now a.t a.e c.power-n.result c.less-m.result c.front.result.now c.front-2.result.now c.back.result.now c.back-2.result.now
-    c.if-k-eq0.false c.power-n.ensures.0 c.if-head-tail.false c.less-m.ensures c.front.ensures c.front-2.ensures c.back.ensures c.back-2.ensures
+    tree_two_made a.k a.head.now a.tail.now a.t a.e c.power-n.result c.saturating_sub-m.result c.front.result.now c.front-2.result.now c.back.result.now c.back-2.result.now
+    c.if-k-eq0.false c.power-n.ensures.0 c.if-head-tail.false c.saturating_sub-m.ensures c.front.ensures c.front-2.ensures c.back.ensures c.back-2.ensures
     c.subtree-l.ensures c.subtree-r.ensures c.parent_value.ensures

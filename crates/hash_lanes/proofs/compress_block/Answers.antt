@@ -1,4 +1,4 @@
-use Rattle.hash_compress.specs.Words.{list_of}
+use Rattle.math_word.specs.Words.{list_of}
 use Rattle.hash_compress.specs.Compress.{compressed, folded, rounds}
 use mathlib.Core.Path.{ap, ◌∙◌}
 use Rattle.hash_lanes.proofs.compress_block.Goals as goal

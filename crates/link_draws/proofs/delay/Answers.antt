@@ -8,10 +8,9 @@ sample_latency-requires c = let a = c.args in (
   (cost_admitted a.setup.now a.prices.now a.from a.to
       a.bytes c.requires.0 c.cost-k.result c.rate.result c.cost-k.ensures c.rate.ensures).1,
   c.requires.1,
-  c.requires.2,
 )
 
 pub returns : goal.returns
-returns c = let a = c.args in delayed a.setup.now a.prices.now a.from a.to a.bytes c.requires.0 c.cost-k.result a.c
-    c.rate.result c.rate-2.result c.sample_latency.result c.cost-k.ensures c.rate.ensures
+returns c = let a = c.args in delayed a.setup.now a.prices.now a.from a.to a.bytes c.requires.0 c.cost-k.result a.c.now
+    c.rate.result c.rate-2.result c.sample_latency.result.ns c.sample_latency.new.c c.cost-k.ensures c.rate.ensures
     c.rate-2.ensures c.sample_latency.ensures.0 c.sample_latency.ensures.1 c.sample_latency.ensures.3

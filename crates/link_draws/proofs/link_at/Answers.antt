@@ -16,4 +16,4 @@ pub key_at-key-requires : goal.key_at-key-requires
 key_at-key-requires c = omega (arith, key_in c.args.from c.args.to c.args.tills c.requires.0 c.requires.1, c.requires.3)
 
 pub returns : goal.returns
-returns c = record { key = c.at.ensures.0 ∙ c.key_at-key.ensures; count = c.at.ensures.1; holds = c.at.ensures.2 }
+returns c = record { key = c.at.ensures.0 ∙ c.key_at-key.ensures; count = c.at.ensures.1 }

@@ -3,7 +3,7 @@ use Rattle.link_prices.proofs.Laws.{plan_made}
 use Rattle.link_prices.proofs.price_links.Goals as goal
 
 pub price_rows-requires : goal.price_rows-requires
-price_rows-requires c = (one_most _ c.requires c.at_least_one-n.ensures.0, c.at-c.ensures.1, c.at-c.ensures.2)
+price_rows-requires c = (one_most _ c.requires c.at_least_one-n.ensures.0, c.at-c.ensures.1)
 
 pub returns : goal.returns
 returns c = let a = c.args in plan_made a.seed a.regions c.at_least_one-n.result a.prices.now c.at-c.result

@@ -4,7 +4,7 @@ use Prim.Native.Nat.{ℕ, ◌%◌, ◌^◌, ◌<◌, ◌≤◌, ◌-◌}
 use borrow.Author.Tests.{lt-ltb, le-ltb}
 use lib.Dec.{T}
 use lib.Bits.{bit_and, and_mask}
-use lib.Ieee.{Float, nan, inf, fin, binary64, nan_bits, is_nan, of_bits, div}
+use lib.Ieee.{Float, nan, inf, fin, binary64, nan_bits, is_nan, of_bits}
 use lib.Ieee.Bits.{nan_bits_above, nan_bits_is}
 use Rattle.math_float.proofs.of_any.Goals as goal
 
@@ -22,12 +22,12 @@ only nan h = refl
 only (inf s) h = absurd (subst T (sym h) tt)
 only (fin s m e) h = absurd (subst T (sym h) tt)
 
-zero_by_zero : div binary64 (of_bits binary64 0) (of_bits binary64 0) ≡ nan
-unfolding div of_bits
-zero_by_zero = refl
+the_nan : of_bits binary64 9221120237041090560 ≡ nan
+unfolding of_bits
+the_nan = refl
 
 pub float_from_bits-result : goal.float_from_bits-result
 float_from_bits-result c = subst (λ (b : Bool). T (not b)) (sym (no c.args.n c.if-n-gt9218868437227405312.false)) tt
 
 pub returns-then-n-gt9218868437227405312 : goal.returns-then-n-gt9218868437227405312
-returns-then-n-gt9218868437227405312 c = zero_by_zero ∙ only (of_bits binary64 c.args.n) (sym (nan_bits_is binary64 c.args.n) ∙ yes c.args.n c.if-n-gt9218868437227405312.true)
+returns-then-n-gt9218868437227405312 c = the_nan ∙ only (of_bits binary64 c.args.n) (sym (nan_bits_is binary64 c.args.n) ∙ yes c.args.n c.if-n-gt9218868437227405312.true)

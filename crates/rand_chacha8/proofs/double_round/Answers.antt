@@ -1,5 +1,5 @@
 use Rattle.rand_chacha8.proofs.Laws.{double_made, laid}
-use Rattle.rand_chacha8.specs.Words.{list_of}
+use Rattle.math_word.specs.Words.{list_of}
 use Rattle.rand_chacha8.proofs.double_round.Goals as goal
 
 pub returns : goal.returns

@@ -1,5 +1,5 @@
 use Rattle.rand_chacha8.specs.Chacha.{initial}
-use Rattle.rand_chacha8.specs.Words.{list_of}
+use Rattle.math_word.specs.Words.{list_of}
 use Rattle.rand_chacha8.proofs.start.Goals as goal
 
 pub returns : goal.returns

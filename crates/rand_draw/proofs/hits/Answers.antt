@@ -1,13 +1,12 @@
 use lib.Ieee.{of_bits}
+use Rattle.std.proofs.Common.{◌∙◌}
 use Rattle.rand_draw.proofs.Real.{drawn, undrawn}
 use Rattle.rand_draw.proofs.hits.Goals as goal
 
--- src/lib.rt:72:9
 pub returns-then-rate : goal.returns-then-rate
 unfolding of_bits
-returns-then-rate c = drawn c.args.c c.draw_fraction-d.result.next c.args.rate c.if-rate.true c.draw_fraction-d.ensures.0 c.draw_fraction-d.ensures.1
+returns-then-rate c = drawn c.args.c.now c.draw_fraction.new.c c.args.rate c.if-rate.true c.draw_fraction.ensures.0 c.draw_fraction.ensures.1
 
--- src/lib.rt:64:1
-pub returns : goal.returns
+pub returns-else-rate : goal.returns-else-rate
 unfolding of_bits
-returns c = undrawn c.args.c c.args.c c.args.rate c.if-rate.false c.requires.1
+returns-else-rate c = let u = undrawn c.args.c.now c.args.c.now c.args.rate c.if-rate.false in (c.if-rate.false ∙ u.0, u.1)

@@ -1,8 +1,8 @@
 use native.Mathlib.Omega.{arith}
-use mathlib.Core.Path.{◌∙◌}
-use Rattle.hash_lanes.proofs.Places.{length_written, word_written, word_kept}
+use mathlib.Core.Path.{refl, ◌∙◌}
+use Rattle.hash_lanes.proofs.Places.{put_made}
 use Rattle.hash_lanes.proofs.nodes.put.Goals as goal
 
 pub returns : goal.returns
-returns c = let b = c.args.b.now in
-    (length_written b c.args.p c.args.w ∙ c.requires.2, word_written b c.args.p c.args.w (omega arith), word_kept b c.args.p c.args.w c.requires.0)
+returns c = let a = c.args in
+    put_made a.b.now a.p a.w _ _ _ (c.copy_from_slice.ensures.after ∙ c.to_le_bytes.ensures) (omega arith) refl c.requires.0 c.requires.1 c.requires.2 c.ranges.w.fits

@@ -1,5 +1,5 @@
 use mathlib.Core.Path.{refl}
-use Rattle.hash_compress.specs.Words.{list_of}
+use Rattle.math_word.specs.Words.{list_of}
 use Rattle.hash_lanes.specs.Rows.{flat}
 use Rattle.hash_lanes.proofs.rows.words_of.Goals as goal
 
