@@ -3,6 +3,7 @@ ghost use Rattle.std.specs.Prelude.{◌≡◌, [], ◌∷◌};
 ghost use Rattle.bench_tables.specs.Answers.{left, log_fits, push_fits, push_of, drain_fits, drain_of};
 
 use crate::{Told, unfit, valued};
+use table_rows::Row;
 
 // Has a log of so many slots its length, and a head in range?
 fn log_fits(log: &[u64], capacity: usize) -> bool
@@ -45,7 +46,7 @@ pub extern "C" fn tables_log_push(log: &mut [u64], capacity: usize, row: &[u64])
     if !push_fits(log, capacity, row) {
         return unfit();
     }
-    let d = table_delivery::get(row, 0);
+    let d = table_delivery::Delivery::get(row, 0);
     table_log::push(log, capacity, d);
     valued(0)
 }

@@ -4,6 +4,7 @@ ghost use Rattle.table_waiting.specs.Waiting as waiting;
 ghost use Rattle.bench_tables.specs.Answers.{left, has_rows, insert_fits, insert_of, due_of, drop_fits, drop_of, copies_of};
 
 use crate::{Told, unfit, valued, yes_or_no};
+use table_rows::Row;
 use table_scan::Limits;
 
 // Are there n copies?
@@ -41,7 +42,7 @@ pub extern "C" fn tables_waiting_insert(ws: &mut [u64], n: usize, row: &[u64]) -
     if !insert_fits(ws, n, row) {
         return unfit();
     }
-    let c = table_waiting::get(row, 0);
+    let c = table_waiting::Copy::get(row, 0);
     table_waiting::insert(ws, n, c);
     valued(0)
 }

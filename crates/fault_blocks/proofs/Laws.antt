@@ -37,29 +37,18 @@ pub alone : (l m : List ℕ) → block_width ≤ length l → first_block (l ++ 
 unfolding block_of
 alone l m h = ext (λ k. get_or (l ++ m) k 0) (λ k. get_or l k 0) (λ k q. get_or-append l m 0 k (omega arith))
 
-block_drop : (ws : List ℕ) (b : ℕ) → block_at ws b ≡ first_block (drop b ws)
-unfolding block_of
-block_drop ws b =
-    ap (λ (k : ℕ). record { from = get_or ws k 0; to = get_or ws (b + 1) 0; bounded = get_or ws (b + 2) 0; start = get_or ws (b + 3) 0; end = get_or ws (b + 4) 0 }) (sym (add-zero b))
-    ∙ sym (ext (λ k. get_or (drop b ws) k 0) (λ k. get_or ws (b + k) 0) (λ k q. get_or-drop b ws k 0))
-
--- what the stores of `put` leave
-pub put_stores : (l : List ℕ) (b : ℕ) (e : BlockWindow) → b + block_width ≤ length l → stores (set l b e.from) b 1 (drop 1 (words e)) ≡ put_at l b e
-unfolding put_at
-put_stores l b e h = stored l b e.from (drop 1 (words e)) h
-
 -- ---- the search for a block
 module _ (from to at : ℕ) (ws : List ℕ) (n : ℕ) where
   pub blocked_first : blocked from to at (blocks_of ws n) ≡ blocked from to at (blocks_of (drop (0 * block_width) ws) (n - 0))
   blocked_first = sym (ap (blocked from to at) (rows_first block_width first_block ws n))
 
-  module _ (i : ℕ) (h : i < n) (e : BlockWindow) (b : Bool) (there : e ≡ block_at ws (i * block_width)) (test : b ≡ stops from to at e) where
+  module _ (i : ℕ) (h : i < n) (e : BlockWindow) (b : Bool) (there : e ≡ first_block (drop (i * block_width) ws)) (test : b ≡ stops from to at e) where
     next : blocked from to at (blocks_of (drop (i * block_width) ws) (n - i)) ≡ b || blocked from to at (blocks_of (drop ((i + 1) * block_width) ws) (n - (i + 1)))
     unfolding blocked
     next =
         ap (blocked from to at) (rows_next block_width first_block ws n i h)
         ∙ ap (λ (x : Bool). x || blocked from to at (blocks_of (drop ((i + 1) * block_width) ws) (n - (i + 1))))
-        (ap (stops from to at) (sym (block_drop ws (i * block_width)) ∙ sym there) ∙ sym test)
+        (ap (stops from to at) (sym there) ∙ sym test)
 
     pub blocked_here : b ≡ true → true ≡ blocked from to at (blocks_of (drop (i * block_width) ws) (n - i))
     blocked_here t = sym (next ∙ ap (λ (x : Bool). x || blocked from to at (blocks_of (drop ((i + 1) * block_width) ws) (n - (i + 1)))) t)
@@ -76,8 +65,8 @@ pub add_full : (ws : List ℕ) (n : ℕ) (e : BlockWindow) → block_slots ≤ n
 unfolding block_number block_table
 add_full ws n e h = let q = le-ltb n block_slots h in (no _ _ _ _ q refl, no _ _ _ _ q refl)
 
-pub add_done : (ws after : List ℕ) (n : ℕ) (e : BlockWindow) → n < block_slots → after ≡ put_at ws (n * block_width) e → (0 ≡ block_number n) × (after ≡ block_table ws n e)
-unfolding block_number block_table
+pub add_done : (ws after : List ℕ) (n : ℕ) (e : BlockWindow) → n < block_slots → after ≡ put_words ws (n * block_width) (words e) → (0 ≡ block_number n) × (after ≡ block_table ws n e)
+unfolding block_number block_table put_at
 add_done ws after n e h p = let q = lt-ltb n block_slots h in (yes _ _ _ _ q refl, yes _ _ _ _ q p)
 
 -- ---- `unblock` at block i, k of those before it left
@@ -99,10 +88,10 @@ module _ (from to n : ℕ) (ws : List ℕ) where
   unfolding open_count unblock_table
   begin = record { within = omega arith; behind = omega arith; same = refl; count = refl; cells = sym (kept_first block_width first_block words (other from to) long back ws) }
 
-  module _ (i k : ℕ) (now : List ℕ) (h : i < n) (m : Moved from to n ws i k now) (e : BlockWindow) (b : Bool) (there : e ≡ block_at now (i * block_width)) (test : b ≡ joins from to e) where
+  module _ (i k : ℕ) (now : List ℕ) (h : i < n) (m : Moved from to n ws i k now) (e : BlockWindow) (b : Bool) (there : e ≡ first_block (drop (i * block_width) now)) (test : b ≡ joins from to e) where
     reads : e ≡ first_block (drop (i * block_width) ws)
     unfolding unblock_table
-    reads = there ∙ block_drop now (i * block_width) ∙ ap first_block (ap (drop (i * block_width)) m.cells ∙ kept_read block_width first_block words (other from to) long back ws i)
+    reads = there ∙ ap first_block (ap (drop (i * block_width)) m.cells ∙ kept_read block_width first_block words (other from to) long back ws i)
 
     keeps : (t : Bool) → b ≡ t → other from to (first_block (drop (i * block_width) ws)) ≡ not t
     keeps t x = ap (other from to) (sym reads) ∙ ap not (sym test ∙ x)
@@ -119,8 +108,8 @@ module _ (from to n : ℕ) (ws : List ℕ) where
           cells = m.cells ∙ kept_same block_width first_block words (other from to) long back ws i no-keep;
         }
 
-    pub move : (after : List ℕ) → b ≡ false → length after ≡ length now → after ≡ put_at now (k * block_width) e → Moved from to n ws (i + 1) (k + 1) after
-    unfolding open_count unblock_table put_at put_words
+    pub move : (after : List ℕ) → b ≡ false → length after ≡ length now → after ≡ put_words now (k * block_width) (words e) → Moved from to n ws (i + 1) (k + 1) after
+    unfolding open_count unblock_table put_words
     move after t l p =
         let keep-it = keeps false t in
         record {

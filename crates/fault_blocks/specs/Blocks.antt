@@ -1,11 +1,15 @@
 -- Document 01, fault engine (`block`, `block_during`, `unblock`, `is_blocked`): the block table, the list of windows that it holds, and what the calls make of each.
-use Rattle.std.specs.Prelude.{Bool, false, cond, not, ◌&&◌, ◌||◌, List, [], ◌∷◌, ℕ, ◌+◌, ◌*◌, length, get_or, eqb, ltb}
+use Rattle.std.specs.Prelude.{Result, Ok, Err, Bool, false, cond, not, ◌&&◌, ◌||◌, List, [], ◌∷◌, ℕ, ◌+◌, ◌*◌, length, get_or, eqb, ltb, refl}
+use Rattle.std.proofs.Common.{arith}
+use Rattle.table_shift.proofs.Blocks.{cells_eq}
+use Rattle.table_rows.specs.Table.{Form, Exact}
 use Rattle.table_shift.specs.Shift.{put_words}
 use Rattle.table_rows.specs.Rows.{rows, keep, kept}
 use Rattle.fault_rule.specs.declared.TimeWindow.{TimeWindow}
 use Rattle.fault_rule.specs.declared.TimeWindow.TheVariants.{Always, During}
 use Rattle.fault_rule.specs.Rule.{holds}
 use Rattle.fault_blocks.specs.declared.BlockWindow.{BlockWindow}
+use Rattle.fault_blocks.specs.declared.Full.{Full}
 
 -- ---- the table
 
@@ -27,6 +31,13 @@ put_at ws b e = put_words ws b (words e)
 
 abbrev pub first_block : List ℕ → BlockWindow
 first_block ws = block_at ws 0
+
+abbrev pub form : Form BlockWindow
+form = record { width = block_width; read = first_block; words = words }
+
+-- a window and its words: each way undoes the other
+pub exact : Exact form
+exact = record { long = λ e. refl; back = λ e m. refl; whole = λ l h. cells_eq l 0 0 block_width (omega arith) }
 
 -- the first n blocks of a table
 abbrev pub blocks_of : List ℕ → ℕ → List BlockWindow
@@ -64,6 +75,11 @@ abbrev pub unblocked : ℕ → ℕ → List BlockWindow → List BlockWindow
 unblocked from to es = keep (other from to) es
 
 -- ---- what a call answers, and what it leaves in the table
+
+-- the number of the question that refused, 0 where the window stands
+abbrev pub number_in : {T : Type 0} → Result T Full → ℕ
+number_in (Ok v) = 0
+number_in (Err e) = 12
 
 -- question 12: a place is free
 unfoldable pub block_number : ℕ → ℕ

@@ -11,7 +11,7 @@ use borrow.Author.Tests.{eq-eqb, ne_eqb, le-leb, lt-leb, lt-ltb, le-ltb}
 use Rattle.fault_rule.specs.declared.DropSpec.{DropSpec}
 use Rattle.fault_rule.specs.Rule.{has, kind_bit, from_bit, to_bit, tier_bit, probability_bit, window_bit, closed_bit}
 use Rattle.fault_rule.proofs.Laws.{yes, no}
-use Rattle.fault_card.specs.declared.Card.TheVariants.{Exact, Inexact}
+use Rattle.std.specs.Prelude.{Option, Some, None}
 use Rattle.fault_card.specs.declared.Places.{Places}
 use Rattle.fault_card.specs.Card.{le_at, size_of, places_of, field_of, spec_of, map_of, fields_of, map_exact, exact, card_of}
 
@@ -40,18 +40,6 @@ none s i w = let z : w - w ≡ 0 = omega arith in rw z
 pub single : (w : ℕ) → 0 < 256 ^ (w - w)
 single w = let z : w - w ≡ 0 = omega arith in rw z (lit< tt)
 
-pub whole : (s : List ℕ) (i w k v : ℕ) → k ≤ 0 → v ≡ le_at s (i + k) (w - k) → v ≡ le_at s i w
-whole s i w k v h e = let z : k ≡ 0 = omega arith in let a : i + 0 ≡ i = omega arith in let b : w - 0 ≡ w = omega arith in e ∙ rw (z, a, b)
-
--- ---- a field, read only where its bit stands
-pub field_there : (s : List ℕ) (map k i w v : ℕ) (b : Bool) → b ≡ has map k → b ≡ true → v ≡ le_at s i w → v ≡ field_of s map k i w
-unfolding field_of
-field_there s map k i w v b e t h = yes _ _ _ _ (sym e ∙ t) h
-
-pub field_absent : (s : List ℕ) (map k i w : ℕ) (b : Bool) → b ≡ has map k → b ≡ false → 0 ≡ field_of s map k i w
-unfolding field_of
-field_absent s map k i w b e t = no _ _ _ _ (sym e ∙ t) refl
-
 pub laid : (map a b c d e f : ℕ)
     → a ≡ size_of map kind_bit 1 → b ≡ size_of map from_bit 4 → c ≡ size_of map to_bit 4 → d ≡ size_of map tier_bit 1 → e ≡ size_of map probability_bit 8 → f ≡ size_of map window_bit 16
     → ◌≡◌ {A = Places}
@@ -67,20 +55,6 @@ pub read_fields : (s : List ℕ) (map : ℕ) (at : Places) (k f t i p b e : ℕ)
 unfolding spec_of
 read_fields s map at k f t i p b e hk hf ht hi hp hb he = cc
 
--- ---- the ways through `map_exact`
-pub bit_7 : (map : ℕ) → 128 ≤ map → false ≡ map_exact map
-unfolding map_exact
-bit_7 map h = ap (λ (b : Bool). b && (has map window_bit || not (has map closed_bit))) (sym (le-ltb map 128 h))
-
-module _ (map : ℕ) (low : map < 128) where
-  pub beside_5 : has map window_bit ≡ true → true ≡ map_exact map
-  unfolding map_exact
-  beside_5 h = rw (lt-ltb map 128 low, h)
-
-  pub without_5 : has map window_bit ≡ false → (b : Bool) → b ≡ has map closed_bit → not b ≡ map_exact map
-  unfolding map_exact
-  without_5 h b e = rw (lt-ltb map 128 low, h, e)
-
 -- ---- the ways through `read`, whose first byte is m
 all_three : (a b c : Bool) → a ≡ true → b ≡ true → c ≡ true → a && b && c ≡ true
 all_three a b c p q r = rw (p, q, r)
@@ -95,7 +69,7 @@ not_third : (a b c : Bool) → a ≡ true → b ≡ true → c ≡ false → a &
 not_third a b c p q r = rw (p, q, r)
 
 module _ (s : List ℕ) (m : ℕ) (first : m ≡ map_of s) where
-  pub bad_map : map_exact m ≡ false → Inexact ≡ card_of s
+  pub bad_map : map_exact m ≡ false → ◌≡◌ {A = Option DropSpec} None (card_of s)
   unfolding card_of exact
   bad_map h = no _ _ _ _ (not_first _ _ _ (ap map_exact (sym first) ∙ h)) refl
 
@@ -106,7 +80,7 @@ module _ (s : List ℕ) (m : ℕ) (first : m ≡ map_of s) where
     clear : map_exact (map_of s) ≡ true
     clear = ap map_exact (sym first) ∙ good
 
-    pub other_length : (length s ≡ at.end → ⊥) → Inexact ≡ card_of s
+    pub other_length : (length s ≡ at.end → ⊥) → ◌≡◌ {A = Option DropSpec} None (card_of s)
     unfolding card_of exact
     other_length h = no _ _ _ _ (not_second _ _ _ clear (ne_eqb _ _ (λ e. h (e ∙ sym ends)))) refl
 
@@ -120,27 +94,27 @@ module _ (s : List ℕ) (m : ℕ) (first : m ≡ map_of s) where
       tier_is : d.tier ≡ (fields_of s).tier
       tier_is = ap (λ (x : DropSpec). x.tier) on
 
-      pub high_tier : 3 < d.tier → Inexact ≡ card_of s
+      pub high_tier : 3 < d.tier → ◌≡◌ {A = Option DropSpec} None (card_of s)
       unfolding card_of exact
       high_tier h = no _ _ _ _ (not_third _ _ _ clear fits (lt-leb (fields_of s).tier 3 (omega (arith, tier_is)))) refl
 
-      pub exactly : d.tier ≤ 3 → Exact d ≡ card_of s
+      pub exactly : d.tier ≤ 3 → Some d ≡ card_of s
       unfolding card_of exact
-      exactly h = yes _ _ _ _ (all_three _ _ _ clear fits (le-leb (fields_of s).tier 3 (omega (arith, tier_is)))) (ap Exact on)
+      exactly h = yes _ _ _ _ (all_three _ _ _ clear fits (le-leb (fields_of s).tier 3 (omega (arith, tier_is)))) (ap Some on)
 
 -- ---- a card's answer says whether it is exact, and what it carries
-answered : (s : List ℕ) (b : Bool) (d : DropSpec) → exact s ≡ b → cond b (Exact (fields_of s)) Inexact ≡ Exact d → (exact s ≡ true) × (d ≡ fields_of s)
+answered : (s : List ℕ) (b : Bool) (d : DropSpec) → exact s ≡ b → cond b (Some (fields_of s)) None ≡ Some d → (exact s ≡ true) × (d ≡ fields_of s)
 answered s true d e h = (e, cc)
 answered s false d e h = let z : ◌≡◌ {A = ℕ} 0 1 = cc in absurd (omega arith)
 
-pub exact_card : (s : List ℕ) (d : DropSpec) → card_of s ≡ Exact d → (exact s ≡ true) × (d ≡ fields_of s)
+pub exact_card : (s : List ℕ) (d : DropSpec) → card_of s ≡ Some d → (exact s ≡ true) × (d ≡ fields_of s)
 unfolding card_of
 exact_card s d h = answered s (exact s) d refl h
 
-refused : (s : List ℕ) (b : Bool) → exact s ≡ b → cond b (Exact (fields_of s)) Inexact ≡ Inexact → exact s ≡ false
+refused : (s : List ℕ) (b : Bool) → exact s ≡ b → cond b (Some (fields_of s)) None ≡ None → exact s ≡ false
 refused s true e h = let z : ◌≡◌ {A = ℕ} 0 1 = cc in absurd (omega arith)
 refused s false e h = e
 
-pub inexact_card : (s : List ℕ) → card_of s ≡ Inexact → exact s ≡ false
+pub inexact_card : (s : List ℕ) → card_of s ≡ None → exact s ≡ false
 unfolding card_of
 inexact_card s h = refused s (exact s) refl h

@@ -1,9 +1,7 @@
 -- Document 01, fault engine, and question 13: a drop card and the fields that it carries. Document 02, M-111: bit 6, a closed window.
-use Rattle.std.specs.Prelude.{Bool, cond, not, ◌&&◌, ◌||◌, List, ℕ, zero, suc, ◌+◌, ◌*◌, ◌≤◌, length, get_or, ltb, leb, eqb}
+use Rattle.std.specs.Prelude.{Bool, Option, Some, None, cond, not, ◌&&◌, ◌||◌, List, ℕ, zero, suc, ◌+◌, ◌*◌, ◌≤◌, length, get_or, ltb, leb, eqb}
 use Rattle.fault_rule.specs.declared.DropSpec.{DropSpec}
 use Rattle.fault_rule.specs.Rule.{has, kind_bit, from_bit, to_bit, tier_bit, probability_bit, window_bit, closed_bit}
-use Rattle.fault_card.specs.declared.Card.{Card}
-use Rattle.fault_card.specs.declared.Card.TheVariants.{Exact, Inexact}
 use Rattle.fault_card.specs.declared.Places.{Places}
 
 -- the bytes of a card with every field
@@ -93,5 +91,6 @@ map_exact map = ltb map 128 && (has map window_bit || not (has map closed_bit))
 unfoldable pub exact : List ℕ → Bool
 exact s = map_exact (map_of s) && eqb (length s) (places_of (map_of s)).end && leb (fields_of s).tier 3
 
-unfoldable pub card_of : List ℕ → Card
-card_of s = cond (exact s) (Exact (fields_of s)) Inexact
+-- what an exact card says; another is refused
+unfoldable pub card_of : List ℕ → Option DropSpec
+card_of s = cond (exact s) (Some (fields_of s)) None

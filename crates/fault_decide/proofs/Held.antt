@@ -25,7 +25,7 @@ module _ (key : List ℕ) (m : MessageContext) where
   choice_words true t w h = h
   choice_words false t w h = omega arith
 
-  rule_words : (r : FaultRule) (w : ℕ) → (try_rule key m r w).words ≤ w + 2
+  pub rule_words : (r : FaultRule) (w : ℕ) → (try_rule key m r w).words ≤ w + 2
   unfolding try_rule
   rule_words r w = choice_words (applies (rule_of r.spec) m) (try_action key (rule_of r.spec).action w) w (action_words (rule_of r.spec).action w)
 

@@ -1,5 +1,5 @@
 -- Document 01, fault engine (`decide`): a decision on a message, the rules in install order, and the fault stream's words from its count on.
-use Rattle.std.specs.Prelude.{Bool, true, false, cond, not, List, [], ◌∷◌, ℕ, suc, ◌+◌, Float}
+use Rattle.std.specs.Prelude.{Bool, true, false, cond, not, List, [], ◌∷◌, ℕ, ◌+◌, Float, Option, Some, None}
 use Rattle.std.specs.Float.Ieee.{le}
 use Rattle.rand_streams.specs.Streams.{word_pair}
 use Rattle.rand_draw.specs.Fraction.{fraction}
@@ -9,7 +9,6 @@ use Rattle.fault_rule.specs.declared.MessageContext.{MessageContext}
 use Rattle.fault_rule.specs.Rule.{rule_of, applies}
 use Rattle.fault_rules.specs.declared.FaultRule.{FaultRule}
 use Rattle.fault_rules.specs.Rules.{fire_at}
-use Rattle.fault_decide.specs.declared.Verdict.{Verdict}
 
 -- whether a rule drops a message, and the fault stream's word count after it
 pub record Tried : Type 0 where
@@ -22,9 +21,13 @@ pub record Decision : Type 0 where
   pub place : ℕ
   pub words : ℕ
 
--- the cursor that `decide` answers stands at that count
-abbrev pub decision : Verdict → Decision
-decision v = record { drops = v.drops; place = v.place; words = v.next.count }
+abbrev pub tried : Bool → ℕ → Tried
+tried drops words = record { drops = drops; words = words }
+
+-- what `decide` answers over n rules, with the fault stream at that count afterwards
+abbrev pub decision : Option ℕ → ℕ → ℕ → Decision
+decision (Some i) n w = record { drops = true; place = i; words = w }
+decision None n w = record { drops = false; place = n; words = w }
 
 -- whether a probability drops at a draw: unless the draw's fraction is at least the probability, so a NaN drops
 unfoldable pub hits : Float → ℕ → Bool
@@ -49,11 +52,6 @@ decide_of key m [] w = record { drops = false; place = 0; words = w }
 decide_of key m (r ∷ rs) w =
     let t = try_rule key m r w in
     cond t.drops (record { drops = true; place = 0; words = t.words }) (after 1 (decide_of key m rs t.words))
-
--- the place of the first rule that applies; with none, their number
-unfoldable pub met_of : MessageContext → List FaultRule → ℕ
-met_of m [] = 0
-met_of m (r ∷ rs) = cond (applies (rule_of r.spec) m) 0 (suc (met_of m rs))
 
 -- the rules after a decision: the one that dropped the message has fired once more
 abbrev pub rules_after : Decision → List FaultRule → List FaultRule

@@ -1,10 +1,10 @@
 -- Document 01, fault engine: a drop rule, its window, its filters and its action. Document 02, M-110: a window the wrong way round; M-111: a closed window.
-use Rattle.std.specs.Prelude.{◌≡◌, Bool, true, cond, ◌&&◌, ℕ, ◌/◌, ◌%◌, ◌^◌, leb, ltb, eqb}
+use Rattle.std.specs.Prelude.{◌≡◌, Bool, true, cond, ◌&&◌, Option, Some, None, ℕ, ◌/◌, ◌%◌, ◌^◌, leb, ltb, eqb}
 use Rattle.std.specs.Float.{binary64}
 use Rattle.std.specs.Float.Ieee.{of_bits}
 use Rattle.math_float.specs.Float.{clamped}
-use Rattle.fault_rule.specs.declared.Filter.{Filter}
-use Rattle.fault_rule.specs.declared.Filter.TheVariants.{Any, Is}
+use Rattle.fault_rule.specs.declared.Field.{Field}
+use Rattle.fault_rule.specs.declared.Field.TheVariants.{Kind, From, To, Tier, Probability, Window, Closed as ClosedEnd}
 use Rattle.fault_rule.specs.declared.TimeWindow.{TimeWindow}
 use Rattle.fault_rule.specs.declared.TimeWindow.TheVariants.{Always, During, Closed}
 use Rattle.fault_rule.specs.declared.FaultAction.{FaultAction}
@@ -36,13 +36,22 @@ window_bit = 5
 abbrev pub closed_bit : ℕ
 closed_bit = 6
 
+abbrev pub bit_of : Field → ℕ
+bit_of Kind = kind_bit
+bit_of From = from_bit
+bit_of To = to_bit
+bit_of Tier = tier_bit
+bit_of Probability = probability_bit
+bit_of Window = window_bit
+bit_of ClosedEnd = closed_bit
+
 -- bit k of a map stands
 unfoldable pub has : ℕ → ℕ → Bool
 has map k = eqb (map / 2 ^ k % 2) 1
 
 -- a field that does not stand asks for nothing
-unfoldable pub filter_of : ℕ → ℕ → ℕ → Filter
-filter_of map k x = cond (has map k) (Is x) Any
+unfoldable pub filter_of : ℕ → ℕ → ℕ → Option ℕ
+filter_of map k x = cond (has map k) (Some x) None
 
 unfoldable pub window_of : ℕ → ℕ → ℕ → TimeWindow
 window_of map start end = cond (has map window_bit) (cond (has map closed_bit) (Closed start end) (During start end)) Always
@@ -82,9 +91,9 @@ pub record HoldsSome (w : TimeWindow) : Type 0 where
   pub time : ℕ
   pub held : holds w time ≡ true
 
-unfoldable pub passes : Filter → ℕ → Bool
-passes Any x = true
-passes (Is y) x = eqb y x
+unfoldable pub passes : Option ℕ → ℕ → Bool
+passes None x = true
+passes (Some y) x = eqb y x
 
 unfoldable pub applies : Rule → MessageContext → Bool
 applies r m =

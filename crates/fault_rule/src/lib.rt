@@ -2,29 +2,28 @@
 #![tactic(auto)]
 
 ghost use Rattle.std.specs.Prelude.{◌≡◌, ◌<◌};
-ghost use Rattle.fault_rule.specs.Rule.{has, filter_of, window_of, action_of, window_in, rule_of, holds, forward, passes, applies};
+ghost use Rattle.fault_rule.specs.Rule.{bit_of, has, filter_of, action_of, window_in, rule_of, holds, forward, passes, applies};
 
 // The bits of a drop card's map, one for each field that it may have.
-pub const KIND: u64 = 0;
+#[derive(Clone, Copy, Debug, PartialEq, Eq)]
+pub enum Field {
+    Kind = 0,
+    From = 1,
+    To = 2,
+    Tier = 3,
+    Probability = 4,
+    Window = 5,
+    // The window's end belongs to it; no bytes of its own.
+    Closed = 6,
+}
 
-pub const FROM: u64 = 1;
-
-pub const TO: u64 = 2;
-
-pub const TIER: u64 = 3;
-
-pub const PROBABILITY: u64 = 4;
-
-pub const WINDOW: u64 = 5;
-
-// The window's end belongs to it; no bytes of its own.
-pub const CLOSED: u64 = 6;
-
-// A host, a type or a tier that a rule asks for.
-#[derive(Clone, Copy)]
-pub enum Filter {
-    Any,
-    Is(u64),
+impl Field {
+    // Does the field stand in this map?
+    pub fn stands_in(self, map: u64) -> bool
+        ensures { result ≡ has map (bit_of self) }
+    {
+        has(map, self as u64)
+    }
 }
 
 // When a rule or a block is active: always, from a start up to an end, or from a start to an end that is in it too.
@@ -41,7 +40,7 @@ pub enum FaultAction {
     DropWithProbability(f64),
 }
 
-// A drop card's map and fields, 0 where its bit does not stand; the probability is the bits of an f64.
+// A drop card's map and fields, 0 where its bit does not stand; the probability is the bits of an f64. The raw words of lent memory: `Rule` says what they mean.
 #[derive(Clone, Copy)]
 pub struct DropSpec {
     pub map: u64,
@@ -54,13 +53,13 @@ pub struct DropSpec {
     pub end: u64,
 }
 
-// What a drop card means.
+// What a drop card means: the type, the hosts and the tier that it asks for, where it asks; what it does, and when.
 #[derive(Clone, Copy)]
 pub struct Rule {
-    pub kind: Filter,
-    pub from: Filter,
-    pub to: Filter,
-    pub tier: Filter,
+    pub kind: Option<u64>,
+    pub from: Option<u64>,
+    pub to: Option<u64>,
+    pub tier: Option<u64>,
     pub action: FaultAction,
     pub window: TimeWindow,
 }
@@ -76,6 +75,7 @@ pub struct MessageContext {
 }
 
 // Does bit k of the map stand?
+#[tactic(auto, unfolding(crate::specs::Rule::has))]
 pub fn has(map: u64, k: u64) -> bool
     requires { k < 64 }
     ensures { result ≡ has map k }
@@ -83,126 +83,106 @@ pub fn has(map: u64, k: u64) -> bool
     (map >> k) % 2 == 1
 }
 
-fn filter_of(map: u64, k: u64, x: u64) -> Filter
-    requires { k < 64 }
-    ensures { result ≡ filter_of map k x }
+// What a field asks for, where it stands.
+#[tactic(auto, unfolding(crate::specs::Rule::filter_of))]
+fn filter_of(map: u64, field: Field, x: u64) -> Option<u64>
+    ensures { result ≡ filter_of map (bit_of field) x }
 {
-    if has(map, k) {
-        return Filter::Is(x);
-    }
-    Filter::Any
+    if field.stands_in(map) { Some(x) } else { None }
 }
 
-fn window_of(map: u64, start: u64, end: u64) -> TimeWindow
-    ensures { result ≡ window_of map start end }
+// Does the value pass? Where nothing is asked for, all do.
+#[tactic(auto, unfolding(crate::specs::Rule::passes))]
+fn passes(filter: Option<u64>, x: u64) -> bool
+    ensures { result ≡ passes filter x }
 {
-    if !has(map, WINDOW) {
-        return TimeWindow::Always;
+    match filter {
+        None => true,
+        Some(wanted) => wanted == x,
     }
-    if has(map, CLOSED) {
-        return TimeWindow::Closed { start, end };
-    }
-    TimeWindow::During { start, end }
 }
 
 // Any 64 bits are a probability, clamped to 0..1; a NaN stays one.
+#[tactic(auto, unfolding(crate::specs::Rule::action_of))]
 fn action_of(map: u64, bits: u64) -> FaultAction
     ensures { result ≡ action_of map bits }
 {
-    if has(map, PROBABILITY) {
+    if Field::Probability.stands_in(map) {
         return FaultAction::DropWithProbability(math_float::clamp01(math_float::of_any(bits)));
     }
     FaultAction::Drop
 }
 
-pub fn rule_of(s: DropSpec) -> Rule
-    ensures { result ≡ rule_of s }
-{
-    let kind = filter_of(s.map, KIND, s.kind);
-    let from = filter_of(s.map, FROM, s.from);
-    let to = filter_of(s.map, TO, s.to);
-    let tier = filter_of(s.map, TIER, s.tier);
-    let action = action_of(s.map, s.probability);
-    let window = window_of(s.map, s.start, s.end);
-    Rule {
-        kind,
-        from,
-        to,
-        tier,
-        action,
-        window,
+impl DropSpec {
+    // The card's window: without one, always.
+    #[tactic(auto, unfolding(crate::specs::Rule::window_of))]
+    pub fn window(self) -> TimeWindow
+        ensures { result ≡ window_in self }
+    {
+        if !Field::Window.stands_in(self.map) {
+            return TimeWindow::Always;
+        }
+        let DropSpec { start, end, .. } = self;
+        if Field::Closed.stands_in(self.map) {
+            return TimeWindow::Closed { start, end };
+        }
+        TimeWindow::During { start, end }
     }
 }
 
-// Does the window hold the time? It holds its start, and not its end; a closed one holds both.
-pub fn window_holds(w: TimeWindow, now: u64) -> bool
-    ensures { result ≡ holds w now }
-{
-    match w {
-        TimeWindow::Always => true,
-        TimeWindow::During { start, end } => {
-            if now < start {
-                return false;
-            }
-            now < end
-        }
-        TimeWindow::Closed { start, end } => {
-            if now < start {
-                return false;
-            }
-            now <= end
+impl From<DropSpec> for Rule {
+    ghost from_gives = { λ s r. r ≡ rule_of s };
+
+    // The meaning of a card's words.
+    #[tactic(auto, unfolding(crate::specs::Rule::rule_of))]
+    fn from(s: DropSpec) -> Rule {
+        Rule {
+            kind: filter_of(s.map, Field::Kind, s.kind),
+            from: filter_of(s.map, Field::From, s.from),
+            to: filter_of(s.map, Field::To, s.to),
+            tier: filter_of(s.map, Field::Tier, s.tier),
+            action: action_of(s.map, s.probability),
+            window: s.window(),
         }
     }
 }
 
-// Is the window's end after its start, a closed one's not before it? One that always holds has neither.
-pub fn window_forward(w: TimeWindow) -> bool
-    ensures { result ≡ forward w }
-{
-    match w {
-        TimeWindow::Always => true,
-        TimeWindow::During { start, end } => start < end,
-        TimeWindow::Closed { start, end } => start <= end,
+impl TimeWindow {
+    // Does the window hold the time? It holds its start, and not its end; a closed one holds both.
+    #[tactic(auto, unfolding(crate::specs::Rule::holds))]
+    pub fn holds(self, now: u64) -> bool
+        ensures { result ≡ holds self now }
+    {
+        match self {
+            TimeWindow::Always => true,
+            TimeWindow::During { start, end } => start <= now && now < end,
+            TimeWindow::Closed { start, end } => start <= now && now <= end,
+        }
+    }
+
+    // Is the window's end after its start, a closed one's not before it? One that always holds has neither.
+    #[tactic(auto, unfolding(crate::specs::Rule::forward))]
+    pub fn is_forward(self) -> bool
+        ensures { result ≡ forward self }
+    {
+        match self {
+            TimeWindow::Always => true,
+            TimeWindow::During { start, end } => start < end,
+            TimeWindow::Closed { start, end } => start <= end,
+        }
     }
 }
 
-// The same of a card's window; a card without one has nothing to turn round.
-pub fn card_forward(s: DropSpec) -> bool
-    ensures { result ≡ forward (window_in s) }
-{
-    let w = window_of(s.map, s.start, s.end);
-    window_forward(w)
-}
-
-fn filter_passes(f: Filter, x: u64) -> bool
-    ensures { result ≡ passes f x }
-{
-    match f {
-        Filter::Any => true,
-        Filter::Is(y) => y == x,
+impl Rule {
+    // Does the rule's window hold the time, and does each filter let the message pass?
+    #[tactic(auto, unfolding(crate::specs::Rule::applies))]
+    pub fn applies(self, m: MessageContext) -> bool
+        ensures { result ≡ applies self m }
+    {
+        self.window.holds(m.now)
+            && passes(self.kind, m.kind)
+            && passes(self.from, m.from)
+            && passes(self.to, m.to)
+            && passes(self.tier, m.tier)
     }
-}
-
-// Does the rule's window hold the time, and does each filter let the message pass?
-pub fn rule_applies(r: Rule, m: MessageContext) -> bool
-    ensures { result ≡ applies r m }
-{
-    let w = r.window;
-    if !window_holds(w, m.now) {
-        return false;
-    }
-    let k = r.kind;
-    if !filter_passes(k, m.kind) {
-        return false;
-    }
-    let f = r.from;
-    if !filter_passes(f, m.from) {
-        return false;
-    }
-    let t = r.to;
-    if !filter_passes(t, m.to) {
-        return false;
-    }
-    let i = r.tier;
-    filter_passes(i, m.tier)
 }

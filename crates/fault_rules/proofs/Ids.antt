@@ -3,11 +3,11 @@ use Rattle.std.proofs.Common.{◌≡◌, ℕ, zero, suc, ◌+◌, ◌<◌, ◌�
 use Rattle.fault_rule.specs.declared.DropSpec.{DropSpec}
 use Rattle.table_rows.specs.Rows.{keep, pick}
 use Rattle.fault_rules.specs.declared.FaultRule.{FaultRule}
-use Rattle.fault_rules.specs.declared.Reading.{Reading}
+use Rattle.std.specs.Prelude.{Option, Some, None}
 use Rattle.fault_rules.specs.Rules.{with_rule, without, reading_of, fire_at, Ascending}
 
-abbrev gone : Reading
-gone = record { found = 0; fired = 0 }
+abbrev gone : Option ℕ
+gone = None
 
 -- ---- each call keeps the ids in ascending order
 pub install_ascends : (low high : ℕ) (rs : List FaultRule) (s : DropSpec) → low ≤ high → Ascending low high rs → Ascending low (high + 1) (with_rule high s rs)
@@ -40,14 +40,14 @@ above : (id low high : ℕ) (rs : List FaultRule) → id < low → Ascending low
 unfolding reading_of
 above id low high [] h a = refl
 above id low high (r ∷ rs) h a =
-    ap (λ (b : Bool). cond b (record { found = 1; fired = r.fired }) (reading_of id rs)) (ne_eqb r.id id (λ e. omega (arith, a.0)))
+    ap (λ (b : Bool). cond b (Some r.fired) (reading_of id rs)) (ne_eqb r.id id (λ e. omega (arith, a.0)))
     ∙ above id (r.id + 1) high rs (omega (arith, a.0)) a.2
 
 gone_step : (id high : ℕ) (r : FaultRule) (rs : List FaultRule) (b : Bool) → eqb r.id id ≡ b → Ascending (r.id + 1) high rs → reading_of id (without id rs) ≡ gone
     → reading_of id (cond b rs (r ∷ without id rs)) ≡ gone
 unfolding reading_of
 gone_step id high r rs true e a h = let q = eqb-true r.id id e in above id (r.id + 1) high rs (omega (arith, q)) a
-gone_step id high r rs false e a h = ap (λ (b : Bool). cond b (record { found = 1; fired = r.fired }) (reading_of id (without id rs))) e ∙ h
+gone_step id high r rs false e a h = ap (λ (b : Bool). cond b (Some r.fired) (reading_of id (without id rs))) e ∙ h
 
 -- a removed id reads as gone
 pub removed_gone : (id low high : ℕ) (rs : List FaultRule) → Ascending low high rs → reading_of id (without id rs) ≡ gone

@@ -1,18 +1,16 @@
 -- The rule table against the list of rules that it holds: rows, the search for an id, and what each call leaves.
-use Rattle.std.proofs.Common.{◌≡◌, ℕ, suc, ◌+◌, ◌-◌, ◌*◌, ◌/◌, ◌%◌, ◌^◌, ◌<◌, ◌≤◌, Bool, true, false, cond, ◌&&◌, eqb, ltb, List, [], ◌∷◌, ◌++◌, length, get_or, take, drop, set, sym, refl, ap, ◌∙◌, add-zero, zero-add, arith, lit<, get_or-drop, le-ltb, lt-ltb, eq-eqb, ne_eqb}
+use Rattle.std.proofs.Common.{◌≡◌, ℕ, suc, ◌+◌, ◌-◌, ◌*◌, ◌/◌, ◌%◌, ◌^◌, ◌<◌, ◌≤◌, ◌⊎◌, inl, inr, Bool, true, false, cond, ◌&&◌, eqb, ltb, List, [], ◌∷◌, ◌++◌, length, get_or, take, drop, set, sym, refl, ap, ◌∙◌, add-zero, zero-add, arith, lit<, get_or-drop, le-ltb, lt-ltb, eq-eqb, ne_eqb}
 use lib.ListN.{get_or-append}
 use lib.Seq.{set_out}
 use Rattle.fault_rule.specs.declared.DropSpec.{DropSpec}
 use Rattle.fault_rule.proofs.Laws.{yes, no}
-use Rattle.fault_card.specs.declared.Card.{Card}
-use Rattle.fault_card.specs.declared.Card.TheVariants.{Exact, Inexact}
+use Rattle.std.specs.Prelude.{Option, Some, None}
 use Rattle.fault_card.specs.Card.{card_of}
 use Rattle.fault_card.proofs.Laws.{exact_card, inexact_card}
 use Rattle.table_rows.proofs.Rows.{length_rows, drop_rows, rows_next, rows_end_lem, rows_first}
-use Rattle.table_shift.specs.Shift.{closed}
+use Rattle.table_shift.specs.Shift.{closed, put_words}
 use Rattle.table_shift.proofs.Laws.{stores, stored}
 use Rattle.fault_rules.specs.declared.FaultRule.{FaultRule}
-use Rattle.fault_rules.specs.declared.Reading.{Reading}
 use Rattle.fault_rules.specs.declared.Removed.{Removed}
 use Rattle.fault_rules.specs.Rules.{rule_width, fired_word, rule_slots, most_rules, rule_at, words, put_at, first_rule, rules_of, new_rule, without, reading_of, removed_of, install_number, install_table, index_of, remove_table, fire_table}
 
@@ -35,11 +33,6 @@ unfolding rule_of
 rule_drop ws b =
     ap (λ (k : ℕ). record { id = get_or ws k 0; spec = (rule_at ws b).spec; fired = get_or ws (b + fired_word) 0 }) (sym (add-zero b))
     ∙ sym (ext (λ k. get_or (drop b ws) k 0) (λ k. get_or ws (b + k) 0) (λ k q. get_or-drop b ws k 0))
-
--- what the stores of `put` leave
-pub put_stores : (l : List ℕ) (b : ℕ) (r : FaultRule) → b + rule_width ≤ length l → stores (set l b r.id) b 1 (drop 1 (words r)) ≡ put_at l b r
-unfolding put_at
-put_stores l b r h = stored l b r.id (drop 1 (words r)) h
 
 -- the rules from place p on
 pub rules_from : (ws : List ℕ) (n p : ℕ) → p < n → drop p (rules_of ws n) ≡ rule_at ws (p * rule_width) ∷ rules_of (drop ((p + 1) * rule_width) ws) (n - (p + 1))
@@ -79,22 +72,22 @@ module _ (id : ℕ) (ws : List ℕ) (n : ℕ) where
 -- ---- the rule at the place that was found
 module _ (id : ℕ) where
   reading_step : (b : Bool) (x r : FaultRule) (rs rest : List FaultRule)
-      → (drop (index_of id rs) rs ≡ r ∷ rest → reading_of id rs ≡ record { found = 1; fired = r.fired })
-      → drop (cond b 0 (suc (index_of id rs))) (x ∷ rs) ≡ r ∷ rest → cond b (record { found = 1; fired = x.fired }) (reading_of id rs) ≡ record { found = 1; fired = r.fired }
-  reading_step true x r rs rest next h = let e : x ≡ r = cc in ap (λ (y : FaultRule). record { found = 1; fired = y.fired }) e
+      → (drop (index_of id rs) rs ≡ r ∷ rest → reading_of id rs ≡ Some r.fired)
+      → drop (cond b 0 (suc (index_of id rs))) (x ∷ rs) ≡ r ∷ rest → cond b (Some x.fired) (reading_of id rs) ≡ Some r.fired
+  reading_step true x r rs rest next h = let e : x ≡ r = cc in ap (λ (y : FaultRule). Some y.fired) e
   reading_step false x r rs rest next h = next h
 
-  reading_at : (rs rest : List FaultRule) (r : FaultRule) → drop (index_of id rs) rs ≡ r ∷ rest → reading_of id rs ≡ record { found = 1; fired = r.fired }
+  reading_at : (rs rest : List FaultRule) (r : FaultRule) → drop (index_of id rs) rs ≡ r ∷ rest → reading_of id rs ≡ Some r.fired
   unfolding index_of reading_of
   reading_at [] rest r h = let z : ◌≡◌ {A = ℕ} 0 1 = cc in absurd (omega arith)
   reading_at (x ∷ rs) rest r h = reading_step (eqb x.id id) x r rs rest (reading_at rs rest r) h
 
-  none_step : (b : Bool) (x : FaultRule) (rs : List FaultRule) → (index_of id rs ≡ length rs → reading_of id rs ≡ record { found = 0; fired = 0 })
-      → cond b 0 (suc (index_of id rs)) ≡ suc (length rs) → cond b (record { found = 1; fired = x.fired }) (reading_of id rs) ≡ record { found = 0; fired = 0 }
+  none_step : (b : Bool) (x : FaultRule) (rs : List FaultRule) → (index_of id rs ≡ length rs → reading_of id rs ≡ None)
+      → cond b 0 (suc (index_of id rs)) ≡ suc (length rs) → cond b (Some x.fired) (reading_of id rs) ≡ None
   none_step true x rs next h = absurd (omega arith)
   none_step false x rs next h = next (omega arith)
 
-  reading_none : (rs : List FaultRule) → index_of id rs ≡ length rs → reading_of id rs ≡ record { found = 0; fired = 0 }
+  reading_none : (rs : List FaultRule) → index_of id rs ≡ length rs → reading_of id rs ≡ None
   unfolding index_of reading_of
   reading_none [] h = refl
   reading_none (x ∷ rs) h = none_step (eqb x.id id) x rs (reading_none rs) h
@@ -141,34 +134,34 @@ module _ (id : ℕ) where
   fewer [] h = absurd (omega arith)
   fewer (x ∷ rs) h = fewer_step (eqb x.id id) x rs (fewer rs) h
 
--- ---- the calls' ways, where the search answered p
-module _ (id : ℕ) (ws : List ℕ) (n p : ℕ) (at : p ≡ index_of id (rules_of ws n)) where
-  module _ (none : p ≡ n) where
+-- ---- the calls' ways, where the search found no place, or place p
+module _ (id : ℕ) (ws : List ℕ) (n : ℕ) where
+  module _ (none : index_of id (rules_of ws n) ≡ n) where
     nowhere : index_of id (rules_of ws n) ≡ length (rules_of ws n)
-    nowhere = sym at ∙ none ∙ sym (length_rules ws n)
+    nowhere = none ∙ sym (length_rules ws n)
 
-    pub fired_none : ◌≡◌ {A = Reading} (record { found = 0; fired = 0 }) (reading_of id (rules_of ws n))
+    pub fired_none : ◌≡◌ {A = Option ℕ} None (reading_of id (rules_of ws n))
     fired_none = sym (reading_none id (rules_of ws n) nowhere)
 
-    pub remove_none : ◌≡◌ {A = Removed} (record { found = 0; fired = 0; left = n }) (removed_of id (rules_of ws n))
+    pub remove_none : ◌≡◌ {A = Removed} (record { fired = None; left = n }) (removed_of id (rules_of ws n))
     remove_none =
         let l : n ≡ length (without id (rules_of ws n)) = sym (ap length (stays id (rules_of ws n) nowhere) ∙ length_rules ws n) in
-        ap (λ (x : Reading). record { found = x.found; fired = x.fired; left = n }) fired_none
-        ∙ ap (λ (x : ℕ). record { found = (reading_of id (rules_of ws n)).found; fired = (reading_of id (rules_of ws n)).fired; left = x }) l
+        ap (λ (x : Option ℕ). record { fired = x; left = n }) fired_none
+        ∙ ap (λ (x : ℕ). record { fired = reading_of id (rules_of ws n); left = x }) l
 
     pub table_none : ws ≡ remove_table ws n id
     unfolding remove_table
-    table_none = no _ _ _ _ (le-ltb (index_of id (rules_of ws n)) n (omega (arith, at, none))) refl
+    table_none = no _ _ _ _ (le-ltb (index_of id (rules_of ws n)) n (omega (arith, none))) refl
 
-  module _ (there : p < n) where
-    pub fired_there : ◌≡◌ {A = Reading} (record { found = 1; fired = get_or ws (p * rule_width + fired_word) 0 }) (reading_of id (rules_of ws n))
+  module _ (p : ℕ) (at : p ≡ index_of id (rules_of ws n)) (there : p < n) where
+    pub fired_there : ◌≡◌ {A = Option ℕ} (Some (get_or ws (p * rule_width + fired_word) 0)) (reading_of id (rules_of ws n))
     fired_there = sym (reading_at id (rules_of ws n) _ _ (ap (λ (k : ℕ). drop k (rules_of ws n)) (sym at) ∙ rules_from ws n p there))
 
-    pub remove_there : ◌≡◌ {A = Removed} (record { found = 1; fired = get_or ws (p * rule_width + fired_word) 0; left = n - 1 }) (removed_of id (rules_of ws n))
+    pub remove_there : ◌≡◌ {A = Removed} (record { fired = Some (get_or ws (p * rule_width + fired_word) 0); left = n - 1 }) (removed_of id (rules_of ws n))
     remove_there =
         let l : n - 1 ≡ length (without id (rules_of ws n)) = (let q = length_rules ws n in let k = fewer id (rules_of ws n) (omega (arith, at, q)) in omega (arith, q, k)) in
-        ap (λ (x : Reading). record { found = x.found; fired = x.fired; left = n - 1 }) fired_there
-        ∙ ap (λ (x : ℕ). record { found = (reading_of id (rules_of ws n)).found; fired = (reading_of id (rules_of ws n)).fired; left = x }) l
+        ap (λ (x : Option ℕ). record { fired = x; left = n - 1 }) fired_there
+        ∙ ap (λ (x : ℕ). record { fired = reading_of id (rules_of ws n); left = x }) l
 
     pub table_there : (after : List ℕ) → after ≡ closed ws ((p + 1) * rule_width) (n * rule_width) ((p + 1 - p) * rule_width) → after ≡ remove_table ws n id
     unfolding remove_table
@@ -199,23 +192,27 @@ module _ (ws : List ℕ) (n ever : ℕ) (bytes : List ℕ) where
     unfolding install_number
     install_spent h = refusing 11 (no _ _ _ _ (ap (λ (b : Bool). b && ltb ever most_rules) (lt-ltb n rule_slots free) ∙ le-ltb ever most_rules h) refl)
 
-    module _ (few : ever < most_rules) (c : Card) (is : c ≡ card_of bytes) where
+    module _ (few : ever < most_rules) (c : Option DropSpec) (is : c ≡ card_of bytes) where
       room : ltb n rule_slots && ltb ever most_rules ≡ true
       room = both _ _ (lt-ltb n rule_slots free) (lt-ltb ever most_rules few)
 
-      pub install_inexact : c ≡ Inexact → (13 ≡ install_number n ever bytes) × (ws ≡ install_table ws n ever bytes)
+      pub install_inexact : c ≡ None → (13 ≡ install_number n ever bytes) × (ws ≡ install_table ws n ever bytes)
       unfolding install_number
       install_inexact h = refusing 12 (yes _ _ _ _ room (no _ _ _ _ (inexact_card bytes (sym is ∙ h)) refl))
 
-      accepted : (s : DropSpec) → c ≡ Exact s → 0 ≡ install_number n ever bytes
+      accepted : (s : DropSpec) → c ≡ Some s → 0 ≡ install_number n ever bytes
       unfolding install_number
       accepted s h = yes _ _ _ _ room (yes _ _ _ _ (exact_card bytes s (sym is ∙ h)).0 refl)
 
-      pub install_done : (s : DropSpec) (after : List ℕ) → c ≡ Exact s → after ≡ put_at ws (n * rule_width) (record { id = ever; spec = s; fired = 0 })
+      pub install_done : (s : DropSpec) (after : List ℕ) → c ≡ Some s → after ≡ put_words ws (n * rule_width) (words (record { id = ever; spec = s; fired = 0 }))
           → (0 ≡ install_number n ever bytes) × (after ≡ install_table ws n ever bytes)
-      unfolding install_table
+      unfolding install_table put_at
       install_done s after h e =
           (accepted s h, yes _ _ _ _ (eq-eqb _ _ (sym (accepted s h))) (e ∙ ap (λ (x : DropSpec). put_at ws (n * rule_width) (new_rule ever x)) (exact_card bytes s (sym is ∙ h)).1))
+
+  pub install_none : (rule_slots ≤ n) ⊎ (n < rule_slots × most_rules ≤ ever) → (12 ≡ install_number n ever bytes) × (ws ≡ install_table ws n ever bytes)
+  install_none (inl h) = install_full h
+  install_none (inr h) = install_spent h.0 h.1
 
 -- ---- the ways through `fire`
 module _ (ws : List ℕ) (p : ℕ) where

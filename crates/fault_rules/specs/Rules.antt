@@ -1,11 +1,15 @@
 -- Document 01, fault engine (`install_spec`, `remove`): the rule table, the list of rules that it holds, and what the calls make of each.
-use Rattle.std.specs.Prelude.{ℕ, zero, suc, ◌+◌, ◌*◌, ◌%◌, ◌^◌, ◌<◌, ◌≤◌, cond, ◌&&◌, List, [], ◌∷◌, ◌++◌, length, ◌==◌, nat_lt, slice_index, slice_set}
+use Rattle.std.specs.Prelude.{Option, Some, None, Result, Ok, Err, ℕ, zero, suc, ◌+◌, ◌*◌, ◌%◌, ◌^◌, ◌<◌, ◌≤◌, cond, ◌&&◌, List, [], ◌∷◌, ◌++◌, length, ◌==◌, nat_lt, slice_index, slice_set, refl}
+use Rattle.std.proofs.Common.{arith}
+use Rattle.table_shift.proofs.Blocks.{cells_eq}
+use Rattle.table_rows.specs.Table.{Form, Exact}
 use Rattle.table_shift.specs.Shift.{put_words, closed}
 use Rattle.table_rows.specs.Rows.{rows}
 use Rattle.fault_rule.specs.declared.DropSpec.{DropSpec}
-use Rattle.fault_card.specs.Card.{exact, fields_of}
+use Rattle.fault_card.specs.Card as card
 use Rattle.fault_rules.specs.declared.FaultRule.{FaultRule}
-use Rattle.fault_rules.specs.declared.Reading.{Reading}
+use Rattle.fault_rules.specs.declared.InstallError.{InstallError}
+use Rattle.fault_rules.specs.declared.InstallError.TheVariants.{Full, Card}
 use Rattle.fault_rules.specs.declared.Removed.{Removed}
 
 -- ---- the table
@@ -51,6 +55,13 @@ put_at ws b r = put_words ws b (words r)
 abbrev pub first_rule : List ℕ → FaultRule
 first_rule ws = rule_at ws 0
 
+abbrev pub form : Form FaultRule
+form = record { width = rule_width; read = first_rule; words = words }
+
+-- a rule and its words: each way undoes the other
+pub exact : Exact form
+exact = record { long = λ r. refl; back = λ r m. refl; whole = λ l h. cells_eq l 0 0 rule_width (omega arith) }
+
 -- the first n rules of a table, in install order
 abbrev pub rules_of : List ℕ → ℕ → List FaultRule
 rules_of ws n = rows rule_width first_rule ws n
@@ -69,14 +80,14 @@ unfoldable pub without : ℕ → List FaultRule → List FaultRule
 without id [] = []
 without id (r ∷ rs) = cond (r.id == id) rs (r ∷ without id rs)
 
--- whether there is a rule with this id, and how often it fired
-unfoldable pub reading_of : ℕ → List FaultRule → Reading
-reading_of id [] = record { found = 0; fired = 0 }
-reading_of id (r ∷ rs) = cond (r.id == id) (record { found = 1; fired = r.fired }) (reading_of id rs)
+-- how often the rule with this id fired, if there is one
+unfoldable pub reading_of : ℕ → List FaultRule → Option ℕ
+reading_of id [] = None
+reading_of id (r ∷ rs) = cond (r.id == id) (Some r.fired) (reading_of id rs)
 
 -- what a removal answers: a reading of the rule before it went, and how many rules are left
 abbrev pub removed_of : ℕ → List FaultRule → Removed
-removed_of id rs = record { found = (reading_of id rs).found; fired = (reading_of id rs).fired; left = length (without id rs) }
+removed_of id rs = record { fired = reading_of id rs; left = length (without id rs) }
 
 -- fired counts wrap at 2^64
 abbrev pub fired_more : FaultRule → FaultRule
@@ -95,12 +106,18 @@ Ascending low high (r ∷ rs) = (low ≤ r.id) × (r.id < high) × Ascending (r.
 
 -- ---- what a call answers, and what it leaves in the table
 
+-- the number of the question that refused, 0 where the rule was installed
+abbrev pub number_in : {T : Type 0} → Result T InstallError → ℕ
+number_in (Ok v) = 0
+number_in (Err Full) = 12
+number_in (Err Card) = 13
+
 -- question 12, a place is free and fewer than 4,294,967,295 rules were ever installed; then 13, the card is exact
 unfoldable pub install_number : ℕ → ℕ → List ℕ → ℕ
-install_number n ever bytes = cond (nat_lt n rule_slots && nat_lt ever most_rules) (cond (exact bytes) 0 13) 12
+install_number n ever bytes = cond (nat_lt n rule_slots && nat_lt ever most_rules) (cond (card.exact bytes) 0 13) 12
 
 unfoldable pub install_table : List ℕ → ℕ → ℕ → List ℕ → List ℕ
-install_table ws n ever bytes = cond (install_number n ever bytes == 0) (put_at ws (n * rule_width) (new_rule ever (fields_of bytes))) ws
+install_table ws n ever bytes = cond (install_number n ever bytes == 0) (put_at ws (n * rule_width) (new_rule ever (card.fields_of bytes))) ws
 
 -- the place of the rule with this id; with none, their number
 unfoldable pub index_of : ℕ → List FaultRule → ℕ

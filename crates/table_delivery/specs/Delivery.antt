@@ -1,6 +1,8 @@
 -- Document 01, network: the fields of `DeliveryRecord`, as a row of eight words.
-use Rattle.std.specs.Prelude.{List, [], ◌∷◌, ℕ, get_or}
-use Rattle.table_rows.specs.Table.{Form}
+use Rattle.std.specs.Prelude.{List, [], ◌∷◌, ℕ, get_or, refl}
+use Rattle.std.proofs.Common.{arith}
+use Rattle.table_shift.proofs.Blocks.{cells_eq}
+use Rattle.table_rows.specs.Table.{Form, Exact}
 use Rattle.table_delivery.specs.declared.Delivery.{Delivery}
 
 abbrev pub width : ℕ
@@ -15,3 +17,7 @@ words d = d.from ∷ d.to ∷ d.kind ∷ d.class ∷ d.sent ∷ d.time ∷ d.sco
 
 abbrev pub form : Form Delivery
 form = record { width = width; read = read; words = words }
+
+-- a delivery and its words: each way undoes the other
+pub exact : Exact form
+exact = record { long = λ d. refl; back = λ d m. refl; whole = λ l h. cells_eq l 0 0 width (omega arith) }

@@ -1,9 +1,10 @@
-// A delivery, `DeliveryRecord` of the Rust, as a row of eight words: read from a table, and stored there.
+// A delivery, `DeliveryRecord` of the Rust, as a row of eight words.
 #![tactic(auto)]
 
-ghost use Rattle.std.specs.Prelude.{◌≡◌, ◌+◌, ◌≤◌, length, drop};
-ghost use Rattle.table_shift.specs.Shift.{put_words};
-ghost use Rattle.table_delivery.specs.Delivery.{width, read, words};
+ghost use Rattle.std.specs.Prelude.{refl};
+ghost use Rattle.table_delivery.specs.Delivery.{width, form, exact};
+
+use table_rows::Row;
 
 // How many words a delivery has.
 pub const WIDTH: usize = 8;
@@ -21,34 +22,38 @@ pub struct Delivery {
     pub wire: u64,
 }
 
-// The delivery whose words start at b.
-pub fn get(ws: &[u64], b: usize) -> Delivery
-    requires { b + width ≤ length ws.now }
-    ensures { result ≡ read (drop b ws.now) }
-{
-    Delivery {
-        from: ws[b],
-        to: ws[b + 1],
-        kind: ws[b + 2],
-        class: ws[b + 3],
-        sent: ws[b + 4],
-        time: ws[b + 5],
-        scope: ws[b + 6],
-        wire: ws[b + 7],
-    }
-}
+impl Row for Delivery {
+    ghost form = { form };
 
-// The delivery's words, stored from b.
-pub fn put(ws: &mut [u64], b: usize, d: Delivery)
-    requires { b + width ≤ length ws.old }
-    ensures { ws.new ≡ put_words ws.old b (words d) }
-{
-    ws[b] = d.from;
-    ws[b + 1] = d.to;
-    ws[b + 2] = d.kind;
-    ws[b + 3] = d.class;
-    ws[b + 4] = d.sent;
-    ws[b + 5] = d.time;
-    ws[b + 6] = d.scope;
-    ws[b + 7] = d.wire;
+    ghost WIDTH = { width };
+
+    const WIDTH: usize = WIDTH;
+
+    fn get(ws: &[u64], b: usize) -> Delivery {
+        Delivery {
+            from: ws[b],
+            to: ws[b + 1],
+            kind: ws[b + 2],
+            class: ws[b + 3],
+            sent: ws[b + 4],
+            time: ws[b + 5],
+            scope: ws[b + 6],
+            wire: ws[b + 7],
+        }
+    }
+
+    fn put(self, ws: &mut [u64], b: usize) {
+        ws[b] = self.from;
+        ws[b + 1] = self.to;
+        ws[b + 2] = self.kind;
+        ws[b + 3] = self.class;
+        ws[b + 4] = self.sent;
+        ws[b + 5] = self.time;
+        ws[b + 6] = self.scope;
+        ws[b + 7] = self.wire;
+    }
+
+    ghost exact = { exact };
+
+    ghost wide = { refl };
 }

@@ -11,8 +11,8 @@ use Rattle.table_ring.proofs.Table.{sound_true, sound_same, length_written, writ
 use Rattle.table_delivery.specs.declared.Delivery.{Delivery}
 use Rattle.table_delivery.specs.Delivery as delivery
 use Rattle.table_delivery.proofs.Laws as delivery-laws
-use Rattle.table_log.specs.Log.{wrap, no_tally, tallied, logged, classes, tally_width, forced_at, tallies_at, records_at, size_of, tally_form, records_of, tallies_of, log_of, SoundLog, tally_at, tallied_at, noted_at, pushed}
-use Rattle.table_log.proofs.Writing.{tally_exact, tallied_length, tallied_head, tallied_records, tallied_tallies, noted_length, noted_head, noted_rest, noted_forced}
+use Rattle.table_log.specs.Log.{tally_exact, wrap, no_tally, tallied, logged, classes, tally_width, forced_at, tallies_at, records_at, size_of, tally_form, records_of, tallies_of, log_of, SoundLog, tally_at, tallied_at, noted_at, pushed}
+use Rattle.table_log.proofs.Writing.{tallied_length, tallied_head, tallied_records, tallied_tallies, noted_length, noted_head, noted_rest, noted_forced}
 
 -- a cell, read from a part that holds it
 cell : (ws ws' : List ℕ) (t : ℕ) → take 1 (drop t ws') ≡ take 1 (drop t ws) → get_or ws' (t + 0) 0 ≡ get_or ws (t + 0) 0

@@ -1,22 +1,19 @@
 -- The steps of a push: the tally, the forced count, and what they leave alone. Assumes nothing.
-use Rattle.std.proofs.Common.{◌≡◌, ℕ, ◌+◌, ◌*◌, ◌<◌, ◌≤◌, Bool, true, false, cond, eqb, ltb, List, [], ◌∷◌, length, get_or, take, drop, set, sym, refl, ap, ◌∙◌, add-zero, arith, length-drop, length-set, get_or-drop, get_or-set_same, drop-set-lt, ltb-false, ltb-true, le-ltb, lt-ltb, eq-eqb, ne_eqb, eqb-true}
+use Rattle.std.proofs.Common.{◌≡◌, ℕ, ◌+◌, ◌*◌, ◌<◌, ◌≤◌, Bool, true, false, cond, eqb, ltb, List, length, get_or, take, drop, set, sym, refl, ap, ◌∙◌, arith, length-drop, length-set, get_or-set_same, drop-set-lt, ltb-false, ltb-true, le-ltb, lt-ltb, eq-eqb, ne_eqb, eqb-true}
 use lib.ListN.{get_or-eq_default}
-use lib.Seq.{take-set-le, set_out}
+use lib.Seq.{drop-drop, take-set-le, set_out}
 use borrow.Author.Tests.{eqb-false}
 use Rattle.table_shift.specs.Shift.{put_words}
-use Rattle.table_shift.proofs.Laws.{length_put, stored}
-use Rattle.table_shift.proofs.Blocks.{cells_eq}
+use Rattle.table_shift.proofs.Laws.{length_put}
 use Rattle.table_shift.proofs.Parts.{put_before, put_behind, drop_put}
-use Rattle.table_rows.specs.Table.{Exact, rows_of}
+use Rattle.table_rows.specs.Table.{rows_of}
 use Rattle.table_rows.proofs.Rows.{length_rows}
 use Rattle.table_rows.proofs.Table.{rows_set, row_at}
 use Rattle.table_ring.specs.Ring.{count_at, sound_at}
 use Rattle.table_ring.proofs.Table.{true_sound, sound_true}
+pub use Rattle.table_log.specs.Log.{tally_exact}
 use Rattle.table_log.specs.declared.Tally.{Tally}
 use Rattle.table_log.specs.Log.{wrap, no_tally, tallied, classes, tally_width, forced_at, tallies_at, records_at, tally_form, tallies_of, sound_log, SoundLog, tally_at, tallied_at, noted_at}
-
-pub tally_exact : Exact tally_form
-tally_exact = record { long = λ t. refl; back = λ t m. refl; whole = λ l h. cells_eq l 0 0 tally_width (omega arith) }
 
 -- THE HEAD: the test and the facts
 pub sound_log_lem : (m : ℕ) (log : List ℕ) → sound_log m log ≡ true → SoundLog m log
@@ -45,31 +42,21 @@ module _ (log : List ℕ) (class : ℕ) where
   unfolding tally_at
   tally_none h = sym (get_or-eq_default (tallies_of log) no_tally {n = class} (let l = length_rows tally_width tally_form.read classes (drop tallies_at log) in omega arith))
 
-  pub tally_some : class < classes → record { deliveries = get_or log (tallies_at + class * tally_width) 0; bytes = get_or log (tallies_at + class * tally_width + 1) 0 } ≡ tally_at log class
+  pub tally_row : class < classes → tally_form.read (drop (tallies_at + class * tally_width) log) ≡ tally_at log class
   unfolding tally_at
-  tally_some h =
-      let b : ℕ = class * tally_width in
-      let cell : (i : ℕ) → get_or log (tallies_at + b + i) 0 ≡ get_or (drop b (drop tallies_at log)) i 0 = λ i. (let e : tallies_at + b + i ≡ tallies_at + (b + i) = omega arith in ap (λ (k : ℕ). get_or log k 0) e ∙ sym (get_or-drop b (drop tallies_at log) i 0 ∙ get_or-drop tallies_at log (b + i) 0)) in
-      let one : get_or log (tallies_at + b) 0 ≡ get_or (drop b (drop tallies_at log)) 0 0 = ap (λ (k : ℕ). get_or log k 0) (sym (add-zero (tallies_at + b))) ∙ cell 0 in
-      (λ j. record { deliveries = one j; bytes = cell 1 j })
-      ∙ sym (row_at tally_form (drop tallies_at log) classes class no_tally h)
+  tally_row h = ap tally_form.read (sym (drop-drop (class * tally_width) tallies_at log)) ∙ sym (row_at tally_form (drop tallies_at log) classes class no_tally h)
 
   -- what `add_tally` leaves
   pub tally_out : (wire : ℕ) → classes ≤ class → log ≡ tallied_at log class wire
   unfolding tallied_at
   tally_out wire h = sym (rw (le-ltb class classes h))
 
-  pub tally_made : (wire d b : ℕ) → class < classes → records_at ≤ length log
-      → d ≡ wrap (get_or log (tallies_at + class * tally_width) 0 + 1) → b ≡ wrap (get_or log (tallies_at + class * tally_width + 1) 0 + wire)
-      → set (set log (tallies_at + class * tally_width) d) (tallies_at + class * tally_width + 1) b ≡ tallied_at log class wire
+  pub tally_made : (wire : ℕ) (t : Tally) → class < classes → t ≡ tally_form.read (drop (tallies_at + class * tally_width) log)
+      → put_words log (tallies_at + class * tally_width) (tally_form.words (tallied t wire)) ≡ tallied_at log class wire
   unfolding tallied_at
-  tally_made wire d b h room p q =
+  tally_made wire t h is =
       let at : ℕ = tallies_at + class * tally_width in
-      let t = tally_some h in
-      let pd : d ≡ wrap ((tally_at log class).deliveries + 1) = p ∙ ap (λ (k : Tally). wrap (k.deliveries + 1)) t in
-      let pb : b ≡ wrap ((tally_at log class).bytes + wire) = q ∙ ap (λ (k : Tally). wrap (k.bytes + wire)) t in
-      stored log at d (b ∷ []) (omega arith)
-      ∙ (λ j. put_words log at (pd j ∷ pb j ∷ []))
+      ap (λ (k : Tally). put_words log at (tally_form.words (tallied k wire))) (is ∙ tally_row h)
       ∙ sym (ap (λ (x : Bool). cond x (put_words log at (tally_form.words (tallied (tally_at log class) wire))) log) (lt-ltb class classes h))
 
 -- what the tally leaves alone, and what it changes

@@ -1,7 +1,9 @@
 -- Document 01, network: the delivery log, in one table, count and first slot of its ring at 0 and 1, records forced out, tallies of each class, then the records.
-use Rattle.std.specs.Prelude.{ℕ, ◌+◌, ◌*◌, ◌%◌, ◌^◌, ◌<◌, ◌≤◌, Bool, cond, List, [], ◌∷◌, ◌++◌, length, drop, replicate, ◌==◌, nat_lt, slice_index, slice_index_or, slice_set}
+use Rattle.std.specs.Prelude.{ℕ, ◌+◌, ◌*◌, ◌%◌, ◌^◌, ◌<◌, ◌≤◌, Bool, cond, List, [], ◌∷◌, ◌++◌, length, drop, replicate, ◌==◌, nat_lt, slice_index, slice_index_or, slice_set, refl}
+use Rattle.std.proofs.Common.{arith}
+use Rattle.table_shift.proofs.Blocks.{cells_eq}
 use Rattle.table_shift.specs.Shift.{put_words}
-use Rattle.table_rows.specs.Table.{Form, rows_of}
+use Rattle.table_rows.specs.Table.{Form, Exact, rows_of}
 use Rattle.table_ring.specs.Ring.{push, count_at, first_at, sound_at, slot_of, slot_at, ring_at, written_at}
 use Rattle.table_delivery.specs.declared.Delivery.{Delivery}
 use Rattle.table_delivery.specs.Delivery as delivery
@@ -57,6 +59,10 @@ size_of capacity = records_at + capacity * delivery.width
 
 abbrev pub tally_form : Form Tally
 tally_form = record { width = tally_width; read = λ l. record { deliveries = slice_index l 0; bytes = slice_index l 1 }; words = λ t. t.deliveries ∷ t.bytes ∷ [] }
+
+-- a tally and its words: each way undoes the other
+pub tally_exact : Exact tally_form
+tally_exact = record { long = λ t. refl; back = λ t m. refl; whole = λ l h. cells_eq l 0 0 tally_width (omega arith) }
 
 abbrev pub records_of : ℕ → List ℕ → List Delivery
 records_of capacity log = ring_at delivery.form capacity 0 records_at log

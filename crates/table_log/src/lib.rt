@@ -1,20 +1,21 @@
 // The delivery log in one table: count and first slot of its ring, records forced out, tallies of each class, then the records.
 #![tactic(auto)]
 
-ghost use Rattle.std.specs.Prelude.{◌≡◌, ◌+◌, ◌*◌, ◌<◌, ◌≤◌, length, if◌then◌else◌, slice_index};
+ghost use Rattle.std.specs.Prelude.{◌≡◌, ◌+◌, ◌*◌, ◌<◌, ◌≤◌, length, if◌then◌else◌, slice_index, refl};
 ghost use Rattle.table_delivery.specs.Delivery as delivery;
 ghost use Rattle.table_rows.specs.Table.{over};
 ghost use Rattle.table_ring.specs.Ring.{most, count_at};
-ghost use Rattle.table_log.specs.Log.{records_at, forced_at, size_of, SoundLog, sound_log, records_of, record_at, tally_at, tallied_at, noted_at, pushed, cleared_at};
+ghost use Rattle.table_log.specs.Log.{records_at, forced_at, size_of, tally_form, tally_exact, SoundLog, sound_log, records_of, record_at, tally_at, tallied_at, noted_at, pushed, cleared_at};
 
 use table_delivery::Delivery;
+use table_rows::Row;
 
 // Where the forced count, the tallies and the records stand; how many classes have tallies.
 const FORCED: usize = 2;
 
 const TALLIES: usize = 3;
 
-pub const RECORDS: usize = TALLIES + 8 * 2;
+pub const RECORDS: usize = TALLIES + CLASSES as usize * 2;
 
 const CLASSES: u64 = 8;
 
@@ -22,10 +23,34 @@ const CLASSES: u64 = 8;
 pub const MOST: usize = 4096;
 
 // Deliveries and bytes of a class.
-#[derive(Clone, Copy)]
+#[derive(Clone, Copy, Default)]
 pub struct Tally {
     pub deliveries: u64,
     pub bytes: u64,
+}
+
+impl Row for Tally {
+    ghost form = { tally_form };
+
+    ghost WIDTH = { 2 };
+
+    const WIDTH: usize = 2;
+
+    fn get(ws: &[u64], b: usize) -> Tally {
+        Tally {
+            deliveries: ws[b],
+            bytes: ws[b + 1],
+        }
+    }
+
+    fn put(self, ws: &mut [u64], b: usize) {
+        ws[b] = self.deliveries;
+        ws[b + 1] = self.bytes;
+    }
+
+    ghost exact = { tally_exact };
+
+    ghost wide = { refl };
 }
 
 // How many records the log holds.
@@ -50,16 +75,9 @@ pub fn class_tally(log: &[u64], class: u64) -> Tally
     ensures { result ≡ tally_at log.now class }
 {
     if CLASSES <= class {
-        return Tally {
-            deliveries: 0,
-            bytes: 0,
-        };
+        return Tally::default();
     }
-    let b = TALLIES + class as usize * 2;
-    Tally {
-        deliveries: log[b],
-        bytes: log[b + 1],
-    }
+    Tally::get(log, TALLIES + class as usize * Tally::WIDTH)
 }
 
 // Are the count and the first slot within the capacity?
@@ -81,11 +99,13 @@ fn add_tally(log: &mut [u64], class: u64, wire: u64)
     if CLASSES <= class {
         return;
     }
-    let b = TALLIES + class as usize * 2;
-    let deliveries = std::num::wrapping_add_u64(log[b], 1);
-    let bytes = std::num::wrapping_add_u64(log[b + 1], wire);
-    log[b] = deliveries;
-    log[b + 1] = bytes;
+    let b = TALLIES + class as usize * Tally::WIDTH;
+    let t = Tally::get(log, b);
+    let more = Tally {
+        deliveries: t.deliveries.wrapping_add(1),
+        bytes: t.bytes.wrapping_add(wire),
+    };
+    more.put(log, b);
 }
 
 // One record more is forced out where all slots are taken.
@@ -97,8 +117,7 @@ fn note_forced(log: &mut [u64], capacity: usize)
     if count < capacity {
         return;
     }
-    let more = std::num::wrapping_add_u64(log[FORCED], 1);
-    log[FORCED] = more;
+    log[FORCED] = log[FORCED].wrapping_add(1);
 }
 
 // A delivery logged. In a log of capacity 0 no slot is in range: it keeps neither records nor tallies.
@@ -112,7 +131,7 @@ pub fn push(log: &mut [u64], capacity: usize, d: Delivery)
     add_tally(log, d.class, d.wire);
     note_forced(log, capacity);
     let p = table_ring::next(log, 0, capacity);
-    table_delivery::put(log, RECORDS + p.slot * table_delivery::WIDTH, d);
+    d.put(log, RECORDS + p.slot * table_delivery::WIDTH);
     table_ring::set_head(log, 0, p.count as u64, p.first as u64);
 }
 
@@ -121,11 +140,7 @@ fn clear(log: &mut [u64])
     requires { records_at ≤ length log.old }
     ensures { log.new ≡ cleared_at log.old }
 {
-    let mut i: usize = 0;
-    while i < RECORDS {
-        log[i] = 0;
-        i += 1;
-    }
+    log[..RECORDS].fill(0);
 }
 
 // The k-th oldest record.
@@ -135,7 +150,7 @@ pub fn oldest(log: &[u64], capacity: usize, k: usize) -> Delivery
 {
     let first = log[1] as usize;
     let s = table_ring::slot(capacity, first, k);
-    table_delivery::get(log, RECORDS + s * table_delivery::WIDTH)
+    Delivery::get(log, RECORDS + s * table_delivery::WIDTH)
 }
 
 // The records, oldest first, to the front of out.
@@ -144,11 +159,9 @@ fn copy_out(log: &[u64], capacity: usize, out: &mut [u64])
     ensures { out.new ≡ over delivery.form (records_of capacity log.now) out.old }
 {
     let count = log[0] as usize;
-    let mut i: usize = 0;
-    while i < count {
+    for i in 0..count {
         let d = oldest(log, capacity, i);
-        table_delivery::put(out, i * table_delivery::WIDTH, d);
-        i += 1;
+        d.put(out, i * table_delivery::WIDTH);
     }
 }
 

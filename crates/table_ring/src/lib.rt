@@ -53,12 +53,7 @@ pub fn is_sound(ws: &[u64], h: usize, capacity: usize) -> bool
     requires { h + 2 ≤ length ws.now }
     ensures { result ≡ sound_at capacity h ws.now }
 {
-    let count = ws[h] as usize;
-    let first = ws[h + 1] as usize;
-    if count <= capacity {
-        return first < capacity;
-    }
-    false
+    ws[h] as usize <= capacity && (ws[h + 1] as usize) < capacity
 }
 
 // Where one entry more of the ring at h goes.

@@ -3,28 +3,18 @@ use mathlib.Core.Path.{◌≡◌, refl, sym, ap, ◌∙◌}
 use mathlib.Core.List.{List, [], ◌∷◌}
 use mathlib.Core.Bool.{Bool, true, false, cond}
 use Prim.Native.Nat.{ℕ, ◌+◌, ◌*◌, ◌≤◌, ◌<◌}
-use native.Mathlib.Nat.{add-zero}
 use native.Mathlib.Omega.{arith}
 use lib.Dec.{ltb}
 use lib.ListN.{length, get_or, set, take, drop}
-use lib.Seq.{get_or-drop}
 use borrow.Author.Tests.{ltb-true, ltb-false, lt-ltb, le-ltb}
 use Rattle.table_shift.specs.Shift.{put_words}
-use Rattle.table_shift.proofs.Blocks.{cells_eq}
-use Rattle.table_rows.specs.Table.{Exact}
 use Rattle.table_rows.proofs.Lists.{up_to_set}
 use Rattle.table_ring.specs.declared.Push.{Push}
 use Rattle.table_ring.specs.Ring.{push, first_at, sound_at, slot_of, entry_at, next_at, written_at, pushed_at}
 use Rattle.table_ring.proofs.Table.{entry_oldest, sound_same, pushed_is, length_written, written_sound, ring_written, ring_elsewhere, before_head, before_slots, behind_slots}
 use Rattle.table_rings.specs.declared.Entry.{Entry}
 use Rattle.table_rings.specs.Rings.{slots, width, head_width, span, read, words, form, none, Fits, head_of, base_of, count_of, SoundRing, entries, all_rings, entry_of, pushed}
-
-pub exact : Exact form
-exact = record { long = λ e. refl; back = λ e m. refl; whole = λ l h. cells_eq l 0 0 width (omega arith) }
-
--- what `read_entry` reads
-pub read_at_lem : (ws : List ℕ) (b : ℕ) → record { class = get_or ws b 0; wire = get_or ws (b + 1) 0; tag = get_or ws (b + 2) 0 } ≡ read (drop b ws)
-read_at_lem ws b = sym (rw (get_or-drop b ws 0 0, get_or-drop b ws 1 0, get_or-drop b ws 2 0, add-zero b))
+pub use Rattle.table_rings.specs.Rings.{exact}
 
 -- the ways out of `get`
 module _ (rings : ℕ) (ws : List ℕ) (r k : ℕ) where

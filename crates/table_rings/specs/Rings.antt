@@ -1,7 +1,9 @@
 -- Document 01, network (a ring of 64 for type and shard or global): the rings of carried messages: one for each type and scope. In one table stand the heads of all rings, then their entries.
-use Rattle.std.specs.Prelude.{List, [], ◌∷◌, ℕ, ◌+◌, ◌*◌, ◌≤◌, ◌<◌, length, get_or}
+use Rattle.std.specs.Prelude.{List, [], ◌∷◌, ℕ, ◌+◌, ◌*◌, ◌≤◌, ◌<◌, length, get_or, refl}
+use Rattle.std.proofs.Common.{arith}
+use Rattle.table_shift.proofs.Blocks.{cells_eq}
 use Rattle.table_rows.specs.Lists.{up_to}
-use Rattle.table_rows.specs.Table.{Form}
+use Rattle.table_rows.specs.Table.{Form, Exact}
 use Rattle.table_ring.specs.Ring.{count_at, Sound, ring_at, entry_at, pushed_at}
 use Rattle.table_rings.specs.declared.Entry.{Entry}
 
@@ -37,6 +39,10 @@ words e = e.class ∷ e.wire ∷ e.tag ∷ []
 
 abbrev pub form : Form Entry
 form = record { width = width; read = read; words = words }
+
+-- an entry and its words: each way undoes the other
+pub exact : Exact form
+exact = record { long = λ e. refl; back = λ e m. refl; whole = λ l h. cells_eq l 0 0 width (omega arith) }
 
 abbrev pub none : Entry
 none = record { class = 0; wire = 0; tag = 0 }

@@ -2,10 +2,11 @@
 // In one table stand the heads (count, first slot) of all rings, then their entries.
 #![tactic(auto)]
 
-ghost use Rattle.std.specs.Prelude.{◌≡◌, ◌+◌, ◌*◌, ◌≤◌, ◌<◌, length, get_or, drop};
-ghost use Rattle.table_shift.specs.Shift.{put_words};
+ghost use Rattle.std.specs.Prelude.{◌≡◌, ◌+◌, ◌*◌, ◌≤◌, ◌<◌, refl};
 ghost use Rattle.table_ring.specs.Ring.{sound_at};
-ghost use Rattle.table_rings.specs.Rings.{slots, head_of, width, read, words, none, kinds, scopes, number_of, Fits, count_of, entry_of, pushed};
+ghost use Rattle.table_rings.specs.Rings.{slots, head_of, width, form, exact, none, kinds, scopes, number_of, Fits, count_of, entry_of, pushed};
+
+use table_rows::Row;
 
 // How many entries a ring keeps.
 pub const SLOTS: usize = 64;
@@ -50,26 +51,30 @@ fn no_entry() -> Entry
     }
 }
 
-// The entry whose words start at b.
-fn read_entry(ws: &[u64], b: usize) -> Entry
-    requires { b + width ≤ length ws.now }
-    ensures { result ≡ read (drop b ws.now) }
-{
-    Entry {
-        class: ws[b],
-        wire: ws[b + 1],
-        tag: ws[b + 2],
-    }
-}
+impl Row for Entry {
+    ghost form = { form };
 
-// The entry's words, stored from b.
-fn put(ws: &mut [u64], b: usize, e: Entry)
-    requires { b + width ≤ length ws.old }
-    ensures { ws.new ≡ put_words ws.old b (words e) }
-{
-    ws[b] = e.class;
-    ws[b + 1] = e.wire;
-    ws[b + 2] = e.tag;
+    ghost WIDTH = { width };
+
+    const WIDTH: usize = WIDTH;
+
+    fn get(ws: &[u64], b: usize) -> Entry {
+        Entry {
+            class: ws[b],
+            wire: ws[b + 1],
+            tag: ws[b + 2],
+        }
+    }
+
+    fn put(self, ws: &mut [u64], b: usize) {
+        ws[b] = self.class;
+        ws[b + 1] = self.wire;
+        ws[b + 2] = self.tag;
+    }
+
+    ghost exact = { exact };
+
+    ghost wide = { refl };
 }
 
 // How many entries ring r has.
@@ -103,7 +108,7 @@ pub fn get(ws: &[u64], rings: usize, r: usize, k: usize) -> Entry
         return no_entry();
     }
     let s = table_ring::slot(SLOTS, first, k);
-    read_entry(ws, rings * HEAD + r * SPAN + s * WIDTH)
+    Entry::get(ws, rings * HEAD + r * SPAN + s * WIDTH)
 }
 
 // One entry more for ring r, behind the others; where 64 stand there, the oldest goes.
@@ -116,6 +121,6 @@ pub fn push(ws: &mut [u64], rings: usize, r: usize, e: Entry)
         return;
     }
     let p = table_ring::next(ws, h, SLOTS);
-    put(ws, rings * HEAD + r * SPAN + p.slot * WIDTH, e);
+    e.put(ws, rings * HEAD + r * SPAN + p.slot * WIDTH);
     table_ring::set_head(ws, h, p.count as u64, p.first as u64);
 }

@@ -13,6 +13,7 @@ ghost use Rattle.table_scan.specs.Scan.{near, near_entry, copies_near, log_near,
 
 use table_delivery::Delivery;
 use table_rings::Entry;
+use table_waiting::Copy;
 
 // The opening's numbers: tills, types, classes; the longest wire.
 #[derive(Clone, Copy)]
@@ -23,46 +24,31 @@ pub struct Limits {
     pub wire: u64,
 }
 
-// Are a delivery's hosts, type and class in range?
-fn is_near(l: Limits, d: Delivery) -> bool
-    ensures { result ≡ near l d }
-{
-    if d.from >= l.hosts {
-        return false;
+impl Limits {
+    // Are a delivery's hosts, type and class in range?
+    #[tactic(auto, unfolding(crate::specs::Scan::near))]
+    fn admits(self, d: Delivery) -> bool
+        ensures { result ≡ near self d }
+    {
+        d.from < self.hosts && d.to < self.hosts && d.kind < self.kinds && d.class < self.classes
     }
-    if d.to >= l.hosts {
-        return false;
-    }
-    if d.kind >= l.kinds {
-        return false;
-    }
-    d.class < l.classes
-}
 
-// Are a carried message's class and wire length?
-fn is_near_entry(l: Limits, e: Entry) -> bool
-    ensures { result ≡ near_entry l e }
-{
-    if e.class >= l.classes {
-        return false;
+    // Are a carried message's class and wire length?
+    #[tactic(auto, unfolding(crate::specs::Scan::near_entry))]
+    fn admits_entry(self, e: Entry) -> bool
+        ensures { result ≡ near_entry self e }
+    {
+        e.class < self.classes && e.wire <= self.wire
     }
-    e.wire <= l.wire
 }
 
 // Are the first n waiting copies in range?
+#[tactic(auto, unfolding(crate::specs::Scan::copies_near))]
 pub fn copies_near(ws: &[u64], n: usize, l: Limits) -> bool
     requires { n * width ≤ length ws.now }
     ensures { result ≡ copies_near l ws.now n }
 {
-    let mut i: usize = 0;
-    while i < n {
-        let d = table_delivery::get(ws, i * table_waiting::WIDTH);
-        if !is_near(l, d) {
-            return false;
-        }
-        i += 1;
-    }
-    true
+    table_rows::all(ws, n, |c: Copy| l.admits(c.delivery))
 }
 
 // Are the n deliveries from word `at` on in range?
@@ -70,15 +56,7 @@ fn run_near(ws: &[u64], at: usize, n: usize, l: Limits) -> bool
     requires { at + n * delivery.width ≤ length ws.now }
     ensures { result ≡ all_of (near l) (rows_of delivery.form (drop at ws.now) n) }
 {
-    let mut i: usize = 0;
-    while i < n {
-        let d = table_delivery::get(ws, at + i * table_delivery::WIDTH);
-        if !is_near(l, d) {
-            return false;
-        }
-        i += 1;
-    }
-    true
+    table_rows::all(&ws[at..], n, |d: Delivery| l.admits(d))
 }
 
 // Are the records of a log in range? They stand in one run, or in two: from the first slot to the last, then from slot 0 on.
@@ -96,10 +74,7 @@ fn records_near(ws: &[u64], capacity: usize, l: Limits) -> bool
     if count <= ahead {
         return run_near(ws, start, count, l);
     }
-    if !run_near(ws, start, ahead, l) {
-        return false;
-    }
-    run_near(ws, table_log::RECORDS, count - ahead, l)
+    run_near(ws, start, ahead, l) && run_near(ws, table_log::RECORDS, count - ahead, l)
 }
 
 // Are a log's count, first slot and records in range?
@@ -107,10 +82,7 @@ pub fn log_near(ws: &[u64], capacity: usize, l: Limits) -> bool
     requires { (capacity ≤ most) × (size_of capacity ≤ length ws.now) }
     ensures { result ≡ log_near l capacity ws.now }
 {
-    if !table_log::is_sound(ws, capacity) {
-        return false;
-    }
-    records_near(ws, capacity, l)
+    table_log::is_sound(ws, capacity) && records_near(ws, capacity, l)
 }
 
 // Are ring r's entries in range?
@@ -119,13 +91,11 @@ fn entries_near(ws: &[u64], rings: usize, r: usize, l: Limits) -> bool
     ensures { result ≡ all_of (near_entry l) (entries rings ws.now r) }
 {
     let count = table_rings::count(ws, rings, r) as usize;
-    let mut k: usize = 0;
-    while k < count {
+    for k in 0..count {
         let e = table_rings::get(ws, rings, r, k);
-        if !is_near_entry(l, e) {
+        if !l.admits_entry(e) {
             return false;
         }
-        k += 1;
     }
     true
 }
@@ -135,10 +105,7 @@ fn ring_near(ws: &[u64], rings: usize, r: usize, l: Limits) -> bool
     requires { Fits rings r ws.now }
     ensures { result ≡ ring_near l rings ws.now r }
 {
-    if !table_rings::is_sound(ws, rings, r) {
-        return false;
-    }
-    entries_near(ws, rings, r, l)
+    table_rings::is_sound(ws, rings, r) && entries_near(ws, rings, r, l)
 }
 
 // Are all rings?
@@ -146,12 +113,10 @@ pub fn rings_near(ws: &[u64], rings: usize, l: Limits) -> bool
     requires { rings * (head_width + span) ≤ length ws.now }
     ensures { result ≡ rings_near l rings ws.now }
 {
-    let mut r: usize = 0;
-    while r < rings {
+    for r in 0..rings {
         if !ring_near(ws, rings, r, l) {
             return false;
         }
-        r += 1;
     }
     true
 }
@@ -161,14 +126,10 @@ pub fn column_within(ws: &[u64], start: usize, stride: usize, n: usize, limit: u
     requires { (1 ≤ stride) × (start + n * stride ≤ length ws.now) }
     ensures { result ≡ column_within ws.now start stride n limit }
 {
-    let mut i: usize = 0;
-    let mut at = start;
-    while i < n {
-        if ws[at] > limit {
+    for i in 0..n {
+        if ws[start + i * stride] > limit {
             return false;
         }
-        at += stride;
-        i += 1;
     }
     true
 }

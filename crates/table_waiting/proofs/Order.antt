@@ -15,7 +15,7 @@ use Rattle.table_rows.proofs.Rows.{length_rows}
 use Rattle.table_rows.proofs.Table.{rows_over}
 use Rattle.table_waiting.specs.declared.Copy.{Copy}
 use Rattle.table_waiting.specs.Waiting.{width, read, form, copies, before, ordered, passes, insert_copy, on_time, Sorted}
-use Rattle.table_waiting.proofs.Reading.{exact}
+use Rattle.table_waiting.specs.Waiting.{exact}
 
 -- the order as facts on numbers
 pub data Earlier (a b : Copy) : Type 0 where

@@ -1,7 +1,10 @@
 -- Document 01, network (flush runs by time, then sequence): waiting copies, rows of a delivery and four words more, in the order of time, then sequence.
-use Rattle.std.specs.Prelude.{List, [], ◌∷◌, ◌++◌, Bool, false, cond, not, ◌&&◌, ◌||◌, ◌≡◌, ℕ, zero, suc, ◌+◌, ltb, leb, eqb, get_or}
-use Rattle.table_rows.specs.Lists.{Each}
-use Rattle.table_rows.specs.Table.{Form, rows_of}
+use Rattle.std.specs.Prelude.{List, [], ◌∷◌, ◌++◌, Bool, false, cond, not, ◌&&◌, ◌||◌, ◌≡◌, ℕ, ◌+◌, ◌≤◌, ltb, leb, eqb, get_or, length, take, refl}
+use Rattle.std.proofs.Common.{ap, sym, ◌∙◌, arith}
+use lib.Seq.{take-add}
+use Rattle.table_shift.proofs.Blocks.{cells, cells_eq}
+use Rattle.table_rows.specs.Lists.{Each, through_last}
+use Rattle.table_rows.specs.Table.{Form, Exact, rows_of}
 use Rattle.table_delivery.specs.Delivery as delivery
 use Rattle.table_waiting.specs.declared.Copy.{Copy}
 
@@ -17,6 +20,16 @@ words c = delivery.words c.delivery ++ (c.sequence ∷ c.original ∷ c.id ∷ c
 
 abbrev pub form : Form Copy
 form = record { width = width; read = read; words = words }
+
+whole : (l : List ℕ) → width ≤ length l → words (read l) ≡ take width l
+whole l h =
+    ap (λ (w : List ℕ). w ++ cells l 0 delivery.width 4) ((delivery.exact).whole l (omega arith))
+    ∙ ap (λ (w : List ℕ). take delivery.width l ++ w) (cells_eq l 0 delivery.width 4 (omega arith))
+    ∙ sym (take-add delivery.width 4 l)
+
+-- a copy and its words: each way undoes the other
+pub exact : Exact form
+exact = record { long = λ c. refl; back = λ c m. refl; whole = whole }
 
 -- the first n rows of a table
 abbrev pub copies : List ℕ → ℕ → List Copy
@@ -41,15 +54,9 @@ abbrev pub insert_copy : Copy → List Copy → List Copy
 insert_copy c [] = c ∷ []
 insert_copy c (r ∷ rs) = cond (passes c (r ∷ rs)) (r ∷ insert_copy c rs) (c ∷ r ∷ rs)
 
--- one copy more in front: whether c is not before it, and c's place among the others
-abbrev pub past : Bool → ℕ → ℕ
-past b zero = cond b 1 0
-past b (suc p) = suc (suc p)
-
 -- how many copies c goes behind
 abbrev pub place_of : Copy → List Copy → ℕ
-place_of c [] = 0
-place_of c (r ∷ rs) = past (not (before c r)) (place_of c rs)
+place_of c rs = through_last (λ (r : Copy). not (before c r)) rs
 
 abbrev pub on_time : ℕ → Copy → Bool
 on_time until c = leb c.delivery.time until

@@ -1,13 +1,14 @@
 // Waiting copies: rows in the order of time, then sequence. A copy goes in at its place, found from the back; the due ones are a front part.
 #![tactic(auto)]
 
-ghost use Rattle.std.specs.Prelude.{◌≡◌, ◌+◌, ◌*◌, ◌≤◌, length, drop};
-ghost use Rattle.table_shift.specs.Shift.{put_words, opened};
+ghost use Rattle.std.specs.Prelude.{◌≡◌, ◌+◌, ◌*◌, ◌≤◌, length, drop, refl};
+ghost use Rattle.table_shift.specs.Shift.{opened};
 ghost use Rattle.table_rows.specs.Lists.{front};
 ghost use Rattle.table_rows.specs.Table.{over};
-ghost use Rattle.table_waiting.specs.Waiting.{width, read, words, form, copies, before, place_of, insert_copy, on_time};
+ghost use Rattle.table_waiting.specs.Waiting.{width, form, exact, copies, before, place_of, insert_copy, on_time};
 
 use table_delivery::Delivery;
+use table_rows::Row;
 
 // How many words a waiting copy has.
 pub const WIDTH: usize = table_delivery::WIDTH + 4;
@@ -22,49 +23,53 @@ pub struct Copy {
     pub tag: u64,
 }
 
-// The copy whose words start at b.
-pub fn get(ws: &[u64], b: usize) -> Copy
-    requires { b + width ≤ length ws.now }
-    ensures { result ≡ read (drop b ws.now) }
-{
-    let d = table_delivery::get(ws, b);
-    Copy {
-        delivery: d,
-        sequence: ws[b + 8],
-        original: ws[b + 9],
-        id: ws[b + 10],
-        tag: ws[b + 11],
+impl Row for Copy {
+    ghost form = { form };
+
+    ghost WIDTH = { width };
+
+    const WIDTH: usize = WIDTH;
+
+    fn get(ws: &[u64], b: usize) -> Copy {
+        Copy {
+            delivery: Delivery::get(ws, b),
+            sequence: ws[b + 8],
+            original: ws[b + 9],
+            id: ws[b + 10],
+            tag: ws[b + 11],
+        }
     }
+
+    fn put(self, ws: &mut [u64], b: usize) {
+        self.delivery.put(ws, b);
+        ws[b + 8] = self.sequence;
+        ws[b + 9] = self.original;
+        ws[b + 10] = self.id;
+        ws[b + 11] = self.tag;
+    }
+
+    ghost exact = { exact };
+
+    ghost wide = { refl };
 }
 
-// The copy's words, stored from b.
-pub fn put(ws: &mut [u64], b: usize, c: Copy)
-    requires { b + width ≤ length ws.old }
-    ensures { ws.new ≡ put_words ws.old b (words c) }
-{
-    let d = c.delivery;
-    table_delivery::put(ws, b, d);
-    ws[b + 8] = c.sequence;
-    ws[b + 9] = c.original;
-    ws[b + 10] = c.id;
-    ws[b + 11] = c.tag;
-}
-
-// Is a before b, by time, then by sequence?
-fn is_before(a: Copy, b: Copy) -> bool
-    ensures { result ≡ before a b }
-{
-    let early = a.delivery.time;
-    let late = b.delivery.time;
-    let low = a.sequence;
-    let high = b.sequence;
-    if early < late {
-        return true;
+impl Copy {
+    // Is it before another, by time, then by sequence?
+    #[tactic(auto, unfolding(crate::specs::Waiting::before))]
+    fn is_before(self, other: Copy) -> bool
+        ensures { result ≡ before self other }
+    {
+        let early = self.delivery.time;
+        let late = other.delivery.time;
+        if early < late {
+            return true;
+        }
+        // Two branches: with `&&`, or as tuples, LLVM reads both words of each row, and filling a queue of 4,096 takes 1.5 times as long.
+        if early == late {
+            return self.sequence < other.sequence;
+        }
+        false
     }
-    if early == late {
-        return low < high;
-    }
-    false
 }
 
 // The place of c among n rows, found from the back: behind the last row that it is not before.
@@ -73,10 +78,11 @@ fn place(ws: &[u64], n: usize, c: Copy) -> usize
     ensures is { result ≡ place_of c (copies ws.now n) }
     ensures within { result ≤ n }
 {
+    // By hand, in the shape that LLVM makes a tight loop of: the search from the back is most of an insertion.
     let mut i = n;
     while 0 < i {
-        let r = get(ws, (i - 1) * WIDTH);
-        if !is_before(c, r) {
+        let r = Copy::get(ws, (i - 1) * WIDTH);
+        if !c.is_before(r) {
             return i;
         }
         i -= 1;
@@ -111,7 +117,7 @@ pub fn insert(ws: &mut [u64], n: usize, c: Copy)
 {
     let p = place(ws, n, c);
     raise(ws, p * WIDTH, n * WIDTH);
-    put(ws, p * WIDTH, c);
+    c.put(ws, p * WIDTH);
 }
 
 // How many rows at the front have a time at or before `until`.
@@ -119,17 +125,7 @@ pub fn due(ws: &[u64], n: usize, until: u64) -> usize
     requires { n * width ≤ length ws.now }
     ensures { result ≡ length (front (on_time until) (copies ws.now n)) }
 {
-    let mut i: usize = 0;
-    while i < n {
-        let c = get(ws, i * WIDTH);
-        let time = c.delivery.time;
-        if time <= until {
-            i += 1;
-        } else {
-            return i;
-        }
-    }
-    i
+    table_rows::passing(ws, n, |c: Copy| c.delivery.time <= until)
 }
 
 // The first k of n rows go, the others move down in one shift.

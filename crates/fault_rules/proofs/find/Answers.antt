@@ -3,13 +3,13 @@ use Rattle.fault_rules.proofs.Laws.{index_first, index_more, index_here, index_e
 use Rattle.fault_rules.proofs.find.Goals as goal
 
 pub loop-i-init : goal.loop-i-init
-loop-i-init c = (omega arith, index_first c.args.id c.args.ws.now c.args.n)
-
-pub returns-then-ws-i : goal.returns-then-ws-i
-returns-then-ws-i c = (omega (arith, c.loop-i.invariant.1, index_here c.args.id c.args.ws.now c.args.n c.loop-i.i c.loop-i-test.true c.if-ws-i.true), omega arith)
+loop-i-init c = index_first c.args.id c.args.ws.now c.args.n
 
 pub loop-i-preserved : goal.loop-i-preserved
-loop-i-preserved c = (omega arith, c.loop-i.invariant.1 ∙ index_more c.args.id c.args.ws.now c.args.n c.loop-i.i c.loop-i-test.true c.if-ws-i.false)
+loop-i-preserved c = c.loop-i.invariant ∙ index_more c.args.id c.args.ws.now c.args.n c.loop-i.i (omega arith) c.if-ws-i.false
+
+pub returns-then-ws-i : goal.returns-then-ws-i
+returns-then-ws-i c = (omega (arith, c.loop-i.invariant, index_here c.args.id c.args.ws.now c.args.n c.loop-i.i (omega arith) c.if-ws-i.true), omega arith)
 
 pub returns : goal.returns
-returns c = (omega (arith, c.loop-i.invariant.1, index_end c.args.id c.args.ws.now c.args.n c.loop-i.i c.loop-i-test.false), omega arith)
+returns c = omega (arith, c.loop-i.invariant, index_end c.args.id c.args.ws.now c.args.n c.loop-i.i (omega arith))

@@ -3,7 +3,7 @@ use Rattle.std.proofs.Common.{refl}
 use Rattle.fault_rules.proofs.fire.Goals as goal
 
 pub returns-then-p-ws : goal.returns-then-p-ws
-returns-then-p-ws c = fire_there c.args.ws.now c.args.p _ _ refl c.wrapping_add_u64.ensures.value
+returns-then-p-ws c = fire_there c.args.ws.now c.args.p _ _ refl refl
 
 pub returns-else-p-ws : goal.returns-else-p-ws
 returns-else-p-ws c = fire_past c.args.ws.now c.args.p c.if-p-ws.false

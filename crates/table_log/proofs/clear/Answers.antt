@@ -1,16 +1,10 @@
-use Rattle.std.proofs.Common.{refl, arith, length-set}
-use Rattle.table_log.proofs.Draining.{cleared_more, cleared_all}
+use Rattle.std.proofs.Common.{◌++◌, drop, replicate, ap, ◌∙◌}
+use lib.Seq.{length-take-le}
+use Rattle.table_log.specs.Log.{cleared_at, records_at}
 use Rattle.table_log.proofs.clear.Goals as goal
 
-pub loop-i-init : goal.loop-i-init
-loop-i-init c = (omega arith, refl, refl)
-
-pub loop-i-preserved : goal.loop-i-preserved
-loop-i-preserved c = let a = c.args in
-    let at = c.loop-i in
-    (omega arith, simp length-set at.invariant.1, cleared_more a.log.now at.log at.i (omega arith) at.invariant.2)
-
 pub returns : goal.returns
-returns c = let a = c.args in
-    let at = c.loop-i in
-    cleared_all a.log.now at.log at.i (omega arith) at.invariant.2
+unfolding cleared_at
+returns c =
+    let w = c.args.log.now in
+    ap (λ x. x ++ drop records_at w) (c.fill.ensures.after (λ y e. e) ∙ ap (λ k. replicate k 0) (length-take-le records_at w c.requires))

@@ -20,5 +20,5 @@ slot-s-requires c = let a = c.args in
 
 pub returns : goal.returns
 returns c = let a = c.args in
-    got a.rings a.ws.now a.r a.k c.read_entry.result c.slot-s.result
-    (sym c.is_sound.ensures ∙ c.if-not-is_sound.false) (omega arith) c.slot-s.ensures.is c.read_entry.ensures
+    got a.rings a.ws.now a.r a.k c.get.result c.slot-s.result
+    (sym c.is_sound.ensures ∙ c.if-not-is_sound.false) (omega arith) c.slot-s.ensures.is c.get.ensures

@@ -8,7 +8,4 @@ use Rattle.table_scan.specs.Scan.{column}
 use Rattle.table_scan.proofs.column_within.Given as goal
 
 abbrev pub invariant-loop-i : goal.invariant-loop-i
-invariant-loop-i l = (l.i ≤ l.n) × (l.at ≡ l.start + l.i * l.stride) × (all_of (λ (c : ℕ). leb c l.limit) (take l.i (column l.ws l.start l.stride l.n)) ≡ true)
-
-abbrev pub decreases-loop-i : goal.decreases-loop-i
-decreases-loop-i l = l.n - l.i
+invariant-loop-i l = (l.i ≤ l.n) × (all_of (λ (c : ℕ). leb c l.limit) (take l.i (column l.ws l.start l.stride l.n)) ≡ true)

@@ -15,12 +15,12 @@ loop-k-init c = (c.count-count.ensures, omega arith, refl)
 pub get-e-requires : goal.get-e-requires
 get-e-requires c = c.requires.0
 
-pub returns-then-not-is_near_entry : goal.returns-then-not-is_near_entry
-returns-then-not-is_near_entry c = let a = c.args in
+pub returns-then-not-admits_entry : goal.returns-then-not-admits_entry
+returns-then-not-admits_entry c = let a = c.args in
     let w = a.ws.now in
     stops (near_entry a.l) (entries a.rings w a.r) (count_of w a.r) (entries_long a.rings w a.r) c.loop-k.k c.get-e.result
-    c.is_near_entry.result (omega arith) (entry_row a.rings w a.r c.loop-k.k c.get-e.result c.requires.1
-    (omega arith) c.get-e.ensures) c.is_near_entry.ensures c.if-not-is_near_entry.true
+    c.admits_entry.result (omega arith) (entry_row a.rings w a.r c.loop-k.k c.get-e.result c.requires.1
+    (omega arith) c.get-e.ensures) c.admits_entry.ensures c.if-not-admits_entry.true
 
 pub loop-k-preserved : goal.loop-k-preserved
 loop-k-preserved c = let a = c.args in
@@ -28,9 +28,9 @@ loop-k-preserved c = let a = c.args in
       c.loop-k.invariant.0,
       omega arith,
       goes_on (near_entry a.l) (entries a.rings w a.r) (count_of w a.r) (entries_long a.rings w a.r) c.loop-k.k
-          c.get-e.result c.is_near_entry.result (omega arith)
+          c.get-e.result c.admits_entry.result (omega arith)
           (entry_row a.rings w a.r c.loop-k.k c.get-e.result c.requires.1 (omega arith) c.get-e.ensures)
-          c.is_near_entry.ensures c.if-not-is_near_entry.false c.loop-k.invariant.2,
+          c.admits_entry.ensures c.if-not-admits_entry.false c.loop-k.invariant.2,
     )
 
 pub returns : goal.returns

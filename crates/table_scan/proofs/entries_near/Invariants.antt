@@ -9,6 +9,3 @@ use Rattle.table_scan.proofs.entries_near.Given as goal
 
 abbrev pub invariant-loop-k : goal.invariant-loop-k
 invariant-loop-k l = (l.count ≡ count_of l.ws l.r) × (l.k ≤ l.count) × (all_of (near_entry l.l) (take l.k (entries l.rings l.ws l.r)) ≡ true)
-
-abbrev pub decreases-loop-k : goal.decreases-loop-k
-decreases-loop-k l = l.count - l.k

@@ -1,6 +1,6 @@
 use native.Mathlib.Omega.{arith}
 use Prim.Native.Nat.{◌-◌}
-use mathlib.Core.Path.{refl}
+use mathlib.Core.Path.{refl, ◌∙◌}
 use Rattle.table_ring.specs.Ring.{first_at}
 use Rattle.table_scan.specs.Scan.{near}
 use Rattle.table_scan.proofs.Runs.{none_there, in_one, not_ahead, ahead_then}
@@ -25,8 +25,8 @@ returns-then-count-ahead c = let a = c.args in
 pub run_near-requires-2 : goal.run_near-requires-2
 run_near-requires-2 c = omega (arith, c.requires.2.begun (omega arith))
 
-pub returns-then-not-run_near : goal.returns-then-not-run_near
-returns-then-not-run_near c = not_ahead (near c.args.l) c.args.capacity c.args.ws.now (c.args.capacity - first_at 0 c.args.ws.now) (c.requires.2.begun (omega arith)) refl (omega arith) c.run_near-2.result c.run_near-2.ensures c.if-not-run_near.true
+pub returns-else-run_near : goal.returns-else-run_near
+returns-else-run_near c = c.if-run_near.false ∙ not_ahead (near c.args.l) c.args.capacity c.args.ws.now (c.args.capacity - first_at 0 c.args.ws.now) (c.requires.2.begun (omega arith)) refl (omega arith) c.run_near-2.result c.run_near-2.ensures c.if-run_near.false
 
-pub returns : goal.returns
-returns c = ahead_then (near c.args.l) c.args.capacity c.args.ws.now (c.args.capacity - first_at 0 c.args.ws.now) (c.requires.2.begun (omega arith)) refl (omega arith) c.run_near-2.result c.run_near-3.result c.run_near-2.ensures c.if-not-run_near.false c.run_near-3.ensures
+pub returns-then-run_near : goal.returns-then-run_near
+returns-then-run_near c = ahead_then (near c.args.l) c.args.capacity c.args.ws.now (c.args.capacity - first_at 0 c.args.ws.now) (c.requires.2.begun (omega arith)) refl (omega arith) c.run_near-2.result c.run_near-then-run_near.result c.run_near-2.ensures c.if-run_near.true c.run_near-then-run_near.ensures

@@ -9,6 +9,3 @@ use Rattle.table_scan.proofs.rings_near.Given as goal
 
 abbrev pub invariant-loop-r : goal.invariant-loop-r
 invariant-loop-r l = (l.r ≤ l.rings) × (all_of (ring_near l.l l.rings l.ws) (take l.r (up_to l.rings (λ (k : ℕ). k))) ≡ true)
-
-abbrev pub decreases-loop-r : goal.decreases-loop-r
-decreases-loop-r l = l.rings - l.r

@@ -1,6 +1,6 @@
 use mathlib.Core.Path.{◌∙◌}
 use Rattle.table_waiting.specs.Waiting.{form}
-use Rattle.table_waiting.proofs.Reading.{exact}
+use Rattle.table_waiting.specs.Waiting.{exact}
 use Rattle.table_rows.proofs.Table.{over_closed}
 use Rattle.table_waiting.proofs.drop_front.Goals as goal
 
