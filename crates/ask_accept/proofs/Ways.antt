@@ -6,7 +6,8 @@ use mathlib.Core.List.{List}
 use native.Mathlib.Omega.{arith}
 use lib.Dec.{ltb}
 use lib.ListN.{length}
-use borrow.Author.Tests.{eq-eqb, ne_eqb, le-ltb, lt-ltb, le-leb, lt-leb}
+use mir.Val.{bool_byte}
+use borrow.Author.Tests.{le-ltb, lt-ltb, le-leb, lt-leb}
 use Rattle.table_rows.specs.Rows.{all_of}
 use Rattle.spec_network.specs.Opening.{global, longest_wire, latest_now, most_words, last_number}
 use Rattle.spec_network.specs.Tables.{cell, sizes_at, sequence_at, waiting_at, fault_words_at}
@@ -17,12 +18,6 @@ use Rattle.call_recipients.proofs.Stepping.{rest_on, rest_off, rest_end}
 use Rattle.ask_accept.specs.Asking.{scope_exists, argument_number, fresh_at, free_at, tail_number}
 
 -- ---- 5
-
-pub scope_global : (setup : List ℕ) (scope : ℕ) → scope ≡ global → true ≡ scope_exists setup scope
-scope_global setup scope e = ap (λ (b : Bool). b || ltb scope (sizes_at setup).shards) (sym (eq-eqb scope global e))
-
-pub scope_shard : (setup : List ℕ) (scope : ℕ) → (scope ≡ global → ⊥) → ltb scope (sizes_at setup).shards ≡ scope_exists setup scope
-scope_shard setup scope e = ap (λ (b : Bool). b || ltb scope (sizes_at setup).shards) (sym (ne_eqb scope global e))
 
 first_off : (a b c : Bool) → a ≡ false → (a && b && c) ≡ false
 first_off true b c e = absurd (false≢true (sym e))
@@ -126,19 +121,20 @@ module _ (q p : ℕ → Bool) (n : ℕ) where
   pub scan_end : (to : ℕ) → n ≤ to → true ≡ all_of p (rest q n to)
   scan_end to h = sym (ap (all_of p) (rest_end q n to h))
 
-  pub count_on : (to k : ℕ) (b : Bool) → to < n → b ≡ q to → k ≡ cond b 1 0 → length (rest q n to) ≡ k + length (rest q n (to + 1))
+  pub count_on : (to k : ℕ) (b : Bool) → to < n → b ≡ q to → k ≡ bool_byte b → length (rest q n to) ≡ k + length (rest q n (to + 1))
   count_on to k b h e f = go b (sym e) f
     where
-      go : (b : Bool) → q to ≡ b → k ≡ cond b 1 0 → length (rest q n to) ≡ k + length (rest q n (to + 1))
+      go : (b : Bool) → q to ≡ b → k ≡ bool_byte b → length (rest q n to) ≡ k + length (rest q n (to + 1))
       go true g f = omega (arith, ap length (rest_on q n to h g))
       go false g f = omega (arith, ap length (rest_off q n to h g))
 
   pub count_end : (to : ℕ) → n ≤ to → length (rest q n to) ≡ 0
   count_end to h = ap length (rest_end q n to h)
 
-pub one_small : (k : ℕ) (b : Bool) → k ≡ cond b 1 0 → k ≤ 1
-one_small k true e = omega arith
-one_small k false e = omega arith
+-- a test as a number
+pub byte_small : (b : Bool) → bool_byte b ≤ 1
+byte_small true = omega arith
+byte_small false = omega arith
 
 -- ---- 8 to 11
 

@@ -1,7 +1,8 @@
 // Accept's questions, in order: 1, 4 to 7; then, for a payload that opens, 8 to 11. All tables stay as they are.
 #![tactic(auto)]
 
-ghost use Rattle.std.specs.Prelude.{◌≡◌, true, cond, ◌+◌, ◌*◌, ◌<◌, ◌≤◌, length};
+ghost use Rattle.std.specs.Prelude.{◌≡◌, true, cond, ◌<◌, ◌≤◌, length};
+ghost use Rattle.ask_refusal.specs.Refusals.{asked};
 ghost use Rattle.table_rows.specs.Rows.{all_of};
 ghost use Rattle.spec_network.specs.Opening.{links, most_tills};
 ghost use Rattle.spec_network.specs.Tables.{sizes_at, setup_width, net_width};
@@ -10,59 +11,39 @@ ghost use Rattle.call_offer.specs.Offering.{selects_at};
 ghost use Rattle.call_recipients.specs.Turning.{remaining};
 ghost use Rattle.ask_accept.specs.Asking.{accept_lent, scope_exists, argument_number, fresh_at, free_at, tail_number, Asked};
 
+use ask_refusal::Refusal;
 use call_offer::Outgoing;
+use call_recipients::FixedTables;
 
 // Question 1, of every table but the log.
+#[tactic(auto, unfolding(crate::specs::Asking::accept_lent))]
 pub fn lent(
-    setup: &[u64],
+    fixed: FixedTables,
     net: &[u64],
     names: &[u8],
-    tills: &[u64],
     words: &[u64],
-    keys: &[u32],
-    prices: &[u64],
     seen: &[u64],
     waiting: &[u64],
     rings: &[u64],
     rules: &[u64],
-    blocks: &[u64],
 ) -> bool
-    ensures { result ≡ accept_lent setup.now net.now names.now tills.now words.now keys.now prices.now seen.now waiting.now rings.now rules.now blocks.now }
+    ensures { result ≡ accept_lent
+        fixed.entry.setup.now net.now names.now fixed.entry.tills.now words.now fixed.entry.keys.now fixed.entry.prices.now
+        seen.now waiting.now rings.now rules.now fixed.entry.blocks.now }
 {
-    if !ask_tables::setup_held(setup) {
-        return false;
-    }
-    if !ask_tables::net_held(setup, net) {
-        return false;
-    }
-    if !ask_rows::names_held(setup, names) {
-        return false;
-    }
-    if !ask_tables::tills_held(setup, tills) {
-        return false;
-    }
-    if !ask_tables::words_held(words) {
-        return false;
-    }
-    if !ask_tables::keys_held(setup, keys) {
-        return false;
-    }
-    if !ask_rows::prices_held(setup, prices) {
-        return false;
-    }
-    if !ask_tables::seen_held(setup, seen) {
-        return false;
-    }
-    if !ask_rows::waiting_held(setup, net, waiting) {
-        return false;
-    }
-    if !ask_rows::rings_held(setup, rings) {
-        return false;
-    }
-    if !ask_tables::rules_held(rules) {
-        return false;
-    }
-    ask_tables::blocks_held(setup, net, blocks)
+    let setup = fixed.setup;
+    ask_tables::setup_held(setup)
+        && ask_tables::net_held(setup, net)
+        && ask_rows::names_held(setup, names)
+        && ask_tables::tills_held(setup, fixed.tills)
+        && ask_tables::words_held(words)
+        && ask_tables::keys_held(setup, fixed.keys)
+        && ask_rows::prices_held(setup, fixed.prices)
+        && ask_tables::seen_held(setup, seen)
+        && ask_rows::waiting_held(setup, net, waiting)
+        && ask_rows::rings_held(setup, rings)
+        && ask_tables::rules_held(rules)
+        && ask_tables::blocks_held(setup, net, fixed.blocks)
 }
 
 // Question 5, of a scope: global, or a shard that exists.
@@ -70,10 +51,7 @@ fn scope_exists(setup: &[u64], scope: u64) -> bool
     requires { length setup.now ≡ setup_width }
     ensures { result ≡ scope_exists setup.now scope }
 {
-    if scope == ask_tables::GLOBAL {
-        return true;
-    }
-    scope < setup[ask_tables::SHARDS]
+    scope == ask_tables::GLOBAL || scope < setup[ask_tables::SHARDS]
 }
 
 // Questions 4, 5, 6 and 7.
@@ -85,29 +63,29 @@ pub fn arguments(
     scope: u64,
     wire: u64,
     at: u64,
-) -> u64
+) -> Result<(), Refusal>
     requires { length setup.now ≡ setup_width }
-    ensures { result ≡ argument_number setup.now «from» kind «class» scope wire at 0 }
+    ensures { asked result ≡ argument_number setup.now «from» kind «class» scope wire at 0 }
 {
     if setup[ask_tables::TILLS] <= from {
-        return 4;
+        return Err(Refusal::Till);
     }
     if setup[ask_tables::TYPES] <= kind {
-        return 5;
+        return Err(Refusal::Range);
     }
     if setup[ask_tables::CLASSES] <= class {
-        return 5;
+        return Err(Refusal::Range);
     }
     if !scope_exists(setup, scope) {
-        return 5;
+        return Err(Refusal::Range);
     }
     if ask_tables::LONGEST_WIRE < wire {
-        return 6;
+        return Err(Refusal::Length);
     }
     if ask_tables::LATEST < at {
-        return 7;
+        return Err(Refusal::Time);
     }
-    0
+    Ok(())
 }
 
 // Question 8: has the link to the till, where it is selected, given fewer than 2^40 words?
@@ -115,23 +93,20 @@ fn link_fresh(setup: &[u64], tills: &[u64], words: &[u64], m: Outgoing, to: usiz
     requires { Asked setup.now tills.now m × (length words.now ≡ links) × (to < (sizes_at setup.now).tills) }
     ensures { result ≡ cond (selects_at tills.now m.scope m.from to) (fresh_at words.now m to) true }
 {
-    if !call_offer::selects(tills, m.scope, m.from, to) {
-        return true;
-    }
-    words[m.from as usize * ask_tables::LINK_ROW + to] < ask_tables::MOST_WORDS
+    !call_offer::selects(tills, m.scope, m.from, to)
+        || words[m.from as usize * ask_tables::LINK_ROW + to] < ask_tables::MOST_WORDS
 }
 
+// And of every till.
 fn links_fresh(setup: &[u64], tills: &[u64], words: &[u64], m: Outgoing) -> bool
     requires { Asked setup.now tills.now m × (length words.now ≡ links) }
     ensures { result ≡ all_of (fresh_at words.now m) (remaining setup.now tills.now m 0) }
 {
     let n = setup[ask_tables::TILLS] as usize;
-    let mut to: usize = 0;
-    while to < n {
+    for to in 0..n {
         if !link_fresh(setup, tills, words, m, to) {
             return false;
         }
-        to += 1;
     }
     true
 }
@@ -150,28 +125,18 @@ fn slot_free(setup: &[u64], tills: &[u64], seen: &[u64], m: Outgoing, to: usize)
     call_offer::marked(setup, seen, to, m.id)
 }
 
+// And of every till.
 fn slots_free(setup: &[u64], tills: &[u64], seen: &[u64], m: Outgoing) -> bool
     requires { Asked setup.now tills.now m × SeenHeld (sizes_at setup.now) seen.now }
     ensures { result ≡ all_of (free_at setup.now seen.now m) (remaining setup.now tills.now m 0) }
 {
     let n = setup[ask_tables::TILLS] as usize;
-    let mut to: usize = 0;
-    while to < n {
+    for to in 0..n {
         if !slot_free(setup, tills, seen, m, to) {
             return false;
         }
-        to += 1;
     }
     true
-}
-
-fn one(b: bool) -> u64
-    ensures { result ≡ cond b 1 0 }
-{
-    if b {
-        return 1;
-    }
-    0
 }
 
 // How many tills are selected.
@@ -182,11 +147,8 @@ fn selected(setup: &[u64], tills: &[u64], m: Outgoing) -> u64
 {
     let n = setup[ask_tables::TILLS] as usize;
     let mut c: u64 = 0;
-    let mut to: usize = 0;
-    while to < n {
-        let b = call_offer::selects(tills, m.scope, m.from, to);
-        c += one(b);
-        to += 1;
+    for to in 0..n {
+        c += u64::from(call_offer::selects(tills, m.scope, m.from, to));
     }
     c
 }
@@ -199,28 +161,28 @@ pub fn tail(
     words: &[u64],
     seen: &[u64],
     m: Outgoing,
-) -> u64
+) -> Result<(), Refusal>
     requires { Asked setup.now tills.now m × (length words.now ≡ links) × SeenHeld (sizes_at setup.now) seen.now × (length net.now ≡ net_width) }
-    ensures { result ≡ tail_number setup.now net.now tills.now words.now seen.now m }
+    ensures { asked result ≡ tail_number setup.now net.now tills.now words.now seen.now m }
 {
     if ask_tables::MOST_WORDS <= net[ask_tables::FAULT_WORDS] {
-        return 8;
+        return Err(Refusal::Words);
     }
     if !links_fresh(setup, tills, words, m) {
-        return 8;
+        return Err(Refusal::Words);
     }
     let more = 3 * selected(setup, tills, m);
     if ask_tables::LAST_SEQUENCE - more < net[ask_tables::SEQUENCE] {
-        return 9;
+        return Err(Refusal::Sequences);
     }
     if !slots_free(setup, tills, seen, m) {
-        return 10;
+        return Err(Refusal::SeenSlots);
     }
     if setup[ask_tables::WAIT_SLOTS] < more {
-        return 11;
+        return Err(Refusal::WaitingSlots);
     }
     if setup[ask_tables::WAIT_SLOTS] - more < net[ask_tables::WAITING] {
-        return 11;
+        return Err(Refusal::WaitingSlots);
     }
-    0
+    Ok(())
 }

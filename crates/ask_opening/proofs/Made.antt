@@ -38,9 +38,9 @@ module _ (p : RegionPlan) (tills : ℕ) where
       ∙ sym (ap (λ (b : Bool). cond b 0 (link_width * (at_least_one p.regions * at_least_one p.regions) + tills)) (ne_eqb p.planned 0 h))
 
 module _ (z : NetworkSizes) (p : RegionPlan) where
-  pub refused : (r : TableSizes) → r ≡ no_sizes → every (size_tests (sized z p)) ≡ false → r ≡ table_sizes (sized z p)
+  pub refused : every (size_tests (sized z p)) ≡ false → no_sizes ≡ table_sizes (sized z p)
   unfolding table_sizes
-  refused r e h = e ∙ sym (ap (λ (b : Bool). cond b (as_sizes (lengths_of (sized z p))) no_sizes) h)
+  refused h = sym (ap (λ (b : Bool). cond b (as_sizes (lengths_of (sized z p))) no_sizes) h)
 
   abbrev worked : ℕ → ℕ → TableSizes
   worked prices rings = record {

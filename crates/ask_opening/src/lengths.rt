@@ -34,80 +34,43 @@ fn prices_fit(n: u64, plan: RegionPlan, tills: u64) -> bool
 }
 
 // The lengths of the tables from `setup` to `prices`.
+#[tactic(auto, unfolding(crate::specs::Asked::fits_prices))]
 fn front_fit(sizes: NetworkSizes, plan: RegionPlan, n: TableLengths) -> bool
     ensures { result ≡ every (front_tests (lengths_of (sized sizes plan)) n) }
 {
-    if n.setup != ask_tables::SETUP_WIDTH as u64 {
-        return false;
-    }
-    if n.net != ask_tables::NET_WIDTH as u64 {
-        return false;
-    }
-    if n.names != ask_rows::NAMES_WIDTH as u64 {
-        return false;
-    }
-    if !is_sum(n.tills, 0, ask_tables::TILL_WIDTH as u64, sizes.tills, 1) {
-        return false;
-    }
-    if n.words != ask_tables::LINKS as u64 {
-        return false;
-    }
-    if !is_sum(
-        n.keys,
-        0,
-        ask_tables::LINK_KEY_WIDTH,
-        sizes.tills,
-        sizes.tills,
-    ) {
-        return false;
-    }
-    prices_fit(n.prices, plan, sizes.tills)
+    let tills = sizes.tills;
+    n.setup == ask_tables::SETUP_WIDTH as u64
+        && n.net == ask_tables::NET_WIDTH as u64
+        && n.names == ask_rows::NAMES_WIDTH as u64
+        && is_sum(n.tills, 0, ask_tables::TILL_WIDTH as u64, tills, 1)
+        && n.words == ask_tables::LINKS as u64
+        && is_sum(n.keys, 0, ask_tables::LINK_KEY_WIDTH, tills, tills)
+        && prices_fit(n.prices, plan, tills)
 }
 
 // And from `seen` to `log`.
 fn back_fit(sizes: NetworkSizes, plan: RegionPlan, n: TableLengths) -> bool
     ensures { result ≡ every (back_tests (lengths_of (sized sizes plan)) n) }
 {
-    if !is_sum(n.seen, sizes.tills, 1, sizes.tills, sizes.seen) {
-        return false;
-    }
-    if !is_sum(n.waiting, 0, table_waiting::WIDTH as u64, sizes.waiting, 1) {
-        return false;
-    }
-    if !is_sum(n.rings, 0, RINGS, sizes.types, 1) {
-        return false;
-    }
-    if n.rules != (fault_rules::SLOTS * fault_rules::WIDTH) as u64 {
-        return false;
-    }
-    if n.blocks != (fault_blocks::SLOTS * fault_blocks::WIDTH) as u64 {
-        return false;
-    }
-    is_sum(
-        n.log,
-        table_log::RECORDS as u64,
-        table_delivery::WIDTH as u64,
-        sizes.log,
-        1,
-    )
+    let record = table_delivery::WIDTH as u64;
+    is_sum(n.seen, sizes.tills, 1, sizes.tills, sizes.seen)
+        && is_sum(n.waiting, 0, table_waiting::WIDTH as u64, sizes.waiting, 1)
+        && is_sum(n.rings, 0, RINGS, sizes.types, 1)
+        && n.rules == (fault_rules::SLOTS * fault_rules::WIDTH) as u64
+        && n.blocks == (fault_blocks::SLOTS * fault_blocks::WIDTH) as u64
+        && is_sum(n.log, table_log::RECORDS as u64, record, sizes.log, 1)
 }
 
 // The tables' lengths.
 pub fn tables_fit(sizes: NetworkSizes, plan: RegionPlan, n: TableLengths) -> bool
     ensures { result ≡ every (table_tests (lengths_of (sized sizes plan)) n) }
 {
-    if !front_fit(sizes, plan, n) {
-        return false;
-    }
-    back_fit(sizes, plan, n)
+    front_fit(sizes, plan, n) && back_fit(sizes, plan, n)
 }
 
 // The fault stream's key, and a mask for each till.
 pub fn given_fit(sizes: NetworkSizes, key: &[u8], masks: &[u64]) -> bool
     ensures { result ≡ every (given_tests sizes.tills (key_words key.now) masks.now) }
 {
-    if key.len() != KEY {
-        return false;
-    }
-    masks.len() as u64 == sizes.tills
+    key.len() == KEY && masks.len() as u64 == sizes.tills
 }

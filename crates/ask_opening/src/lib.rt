@@ -2,12 +2,14 @@
 #![tactic(auto)]
 
 ghost use Rattle.std.specs.Prelude.{◌≡◌, length};
+ghost use Rattle.ask_refusal.specs.Refusals.{asked};
 ghost use Rattle.link_latency.specs.Admitted.{latency_admitted, fraction_admitted, rate_admitted};
 ghost use Rattle.spec_network.specs.Lists.{every};
 ghost use Rattle.spec_network.specs.Limits.{rate_of, range_tests};
 ghost use Rattle.ask_opening.specs.Given.{bits_of, config_of, settings_of};
 ghost use Rattle.ask_opening.specs.Asked.{number_of};
 
+use ask_refusal::Refusal;
 use math_time::Time;
 
 mod lengths;
@@ -68,7 +70,7 @@ pub struct TableLengths {
     pub log: u64,
 }
 
-// The number of the question that refused the sizes, or 0; how many elements each table has that an opening wants lent.
+// The lengths as C gets them: the number of the question that refused the sizes, or 0; how many elements each table has that an opening wants lent.
 #[repr(C)]
 #[derive(Clone, Copy)]
 pub struct TableSizes {
@@ -113,25 +115,15 @@ fn rate_in_range(rate: f64) -> bool
 pub fn config_admitted(config: NetworkConfig) -> bool
     ensures { result ≡ every (range_tests (config_of config)) }
 {
-    if !latency_in_range(config.latency) {
-        return false;
-    }
-    if !fraction_in_range(config.jitter) {
-        return false;
-    }
-    if !rate_in_range(config.loss) {
-        return false;
-    }
-    if !rate_in_range(config.duplicate) {
-        return false;
-    }
-    if !rate_in_range(config.replay) {
-        return false;
-    }
-    rate_in_range(config.spike)
+    latency_in_range(config.latency)
+        && fraction_in_range(config.jitter)
+        && rate_in_range(config.loss)
+        && rate_in_range(config.duplicate)
+        && rate_in_range(config.replay)
+        && rate_in_range(config.spike)
 }
 
-// The number of the first question whose answer is "no", or 0. `lengths` is what the lent tables have.
+// The first question whose answer is "no" refuses. `lengths` is what the lent tables have.
 pub fn refusal(
     config: NetworkConfig,
     sizes: NetworkSizes,
@@ -140,27 +132,27 @@ pub fn refusal(
     key: &[u8],
     masks: &[u64],
     names: &[u8],
-) -> u64
+) -> Result<(), Refusal>
     requires { lengths.names ≡ length names.now }
-    ensures { result ≡ number_of (settings_of config sizes plan 0 key.now) lengths masks.now names.now }
+    ensures { asked result ≡ number_of (settings_of config sizes plan 0 key.now) lengths masks.now names.now }
 {
     if !lengths::tables_fit(sizes, plan, lengths) {
-        return 1;
+        return Err(Refusal::Tables);
     }
     if !lengths::given_fit(sizes, key, masks) {
-        return 1;
+        return Err(Refusal::Tables);
     }
     if !limits::sizes_admitted(sizes, plan) {
-        return 2;
+        return Err(Refusal::Sizes);
     }
     if !ask_opening_parts::names_admitted(names, sizes.types, sizes.shards) {
-        return 2;
+        return Err(Refusal::Sizes);
     }
     if !config_admitted(config) {
-        return 3;
+        return Err(Refusal::Rates);
     }
     if !ask_opening_parts::masks_admitted(masks, sizes.shards) {
-        return 5;
+        return Err(Refusal::Range);
     }
-    0
+    Ok(())
 }

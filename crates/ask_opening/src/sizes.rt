@@ -4,9 +4,10 @@ ghost use Rattle.link_geography.specs.Geography.{most_regions};
 ghost use Rattle.spec_network.specs.Opening.{most_tills};
 ghost use Rattle.spec_network.specs.Real.{prices_width};
 ghost use Rattle.ask_opening.specs.Given.{sized, plan_of};
-ghost use Rattle.ask_opening.specs.Sizes.{table_sizes, no_sizes};
+ghost use Rattle.ask_opening.specs.Sizes.{table_sizes, sizes_reply};
 
-use crate::{NetworkSizes, RegionPlan, TableSizes, lengths, limits};
+use crate::{NetworkSizes, RegionPlan, TableLengths, TableSizes, lengths, limits};
+use ask_refusal::Refusal;
 
 // The prices: for each pair of regions a base and a rate, for each till its region. Without a plan there are none.
 fn prices_length(plan: RegionPlan, tills: u64) -> u64
@@ -22,38 +23,57 @@ fn prices_length(plan: RegionPlan, tills: u64) -> u64
     ask_rows::LINK_WIDTH as u64 * (plan.regions * plan.regions) + tills
 }
 
-// Sizes beyond the limits: number 2, and no table has an element.
-fn beyond() -> TableSizes
-    ensures { result ≡ no_sizes }
-{
-    TableSizes {
-        number: 2,
-        setup: 0,
-        net: 0,
-        names: 0,
-        tills: 0,
-        words: 0,
-        keys: 0,
-        prices: 0,
-        seen: 0,
-        waiting: 0,
-        rings: 0,
-        rules: 0,
-        blocks: 0,
-        log: 0,
+impl From<Result<TableLengths, Refusal>> for TableSizes {
+    ghost from_gives = { λ r s. s ≡ sizes_reply r };
+
+    // Sizes that are refused answer the number, and no table has an element.
+    fn from(outcome: Result<TableLengths, Refusal>) -> TableSizes {
+        match outcome {
+            Ok(n) => TableSizes {
+                number: 0,
+                setup: n.setup,
+                net: n.net,
+                names: n.names,
+                tills: n.tills,
+                words: n.words,
+                keys: n.keys,
+                prices: n.prices,
+                seen: n.seen,
+                waiting: n.waiting,
+                rings: n.rings,
+                rules: n.rules,
+                blocks: n.blocks,
+                log: n.log,
+            },
+            Err(refusal) => TableSizes {
+                number: refusal.number(),
+                setup: 0,
+                net: 0,
+                names: 0,
+                tills: 0,
+                words: 0,
+                keys: 0,
+                prices: 0,
+                seen: 0,
+                waiting: 0,
+                rings: 0,
+                rules: 0,
+                blocks: 0,
+                log: 0,
+            },
+        }
     }
 }
 
 // How long the tables of an opening are.
-pub fn table_sizes(sizes: NetworkSizes, plan: RegionPlan) -> TableSizes
-    ensures { result ≡ table_sizes (sized sizes plan) }
+pub fn table_sizes(sizes: NetworkSizes, plan: RegionPlan) -> Result<TableLengths, Refusal>
+    ensures { sizes_reply result ≡ table_sizes (sized sizes plan) }
 {
     if !limits::sizes_admitted(sizes, plan) {
-        return beyond();
+        return Err(Refusal::Sizes);
     }
     let tills = sizes.tills;
-    TableSizes {
-        number: 0,
+    Ok(TableLengths {
         setup: ask_tables::SETUP_WIDTH as u64,
         net: ask_tables::NET_WIDTH as u64,
         names: ask_rows::NAMES_WIDTH as u64,
@@ -67,5 +87,5 @@ pub fn table_sizes(sizes: NetworkSizes, plan: RegionPlan) -> TableSizes
         rules: (fault_rules::SLOTS * fault_rules::WIDTH) as u64,
         blocks: (fault_blocks::SLOTS * fault_blocks::WIDTH) as u64,
         log: table_log::RECORDS as u64 + sizes.log * table_delivery::WIDTH as u64,
-    }
+    })
 }

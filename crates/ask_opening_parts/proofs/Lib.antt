@@ -1,4 +1,3 @@
 pub mod Scans
 pub mod Names
-pub mod Masks
 pub mod Division

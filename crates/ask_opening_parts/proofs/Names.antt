@@ -7,8 +7,7 @@ use native.Mathlib.Omega.{arith}
 use lib.Dec.{leb}
 use borrow.Author.Tests.{leb-true}
 use mathlib.Core.Bool.{Bool, true, false, ◌&&◌}
-use lib.ListN.{length, get_or, drop, length-take, length-drop}
-use lib.Seq.{get_or-take, get_or-drop}
+use lib.ListN.{length, get_or, take, drop}
 use Rattle.table_rows.specs.Rows.{all_of}
 use Rattle.table_rows.specs.Lists.{up_to}
 use Rattle.table_rows.proofs.Lists.{length_up_to, get_d_up_to}
@@ -17,17 +16,11 @@ use Rattle.spec_network.specs.Opening.{longest_name, longest_key}
 use Rattle.spec_network.specs.Lists.{every, below, same, some_of, unlike}
 use Rattle.spec_network.specs.Tables.{cell, text_at, shard_at}
 use Rattle.spec_network.specs.Limits.{text_tests, unlike_tests}
-use Rattle.ask_opening_parts.proofs.Scans.{same_next, same_stop, same_end}
 use Rattle.ask_opening_parts.specs.Texts.{texts_from, Laid, Short, Inside, counted}
 
-module _ (names : List ℕ) (i : ℕ) (h : Inside names i) where
-  pub text_length : length (text_at names i) ≡ cell names i
-  text_length = length-take (cell names i) (drop (suc i) names) ∙ omega (arith, length-drop (suc i) names, h.inside)
-
-  pub text_byte : (k : ℕ) → k < cell names i → get_or (text_at names i) k 0 ≡ cell names (i + 1 + k)
-  text_byte k q =
-      let e : suc i + k ≡ i + 1 + k = omega arith in
-      get_or-take (cell names i) (drop (suc i) names) k 0 q ∙ get_or-drop (suc i) names k 0 ∙ ap (λ (j : ℕ). cell names j) e
+-- the text at i, as it is read
+pub text_read : (names : List ℕ) (i : ℕ) {t : List ℕ} → t ≡ take (cell names i) (drop (i + 1) names) → t ≡ text_at names i
+text_read names i e = let n : i + 1 ≡ suc i = omega arith in e ∙ ap (λ (k : ℕ). take (cell names i) (drop k names)) n
 
 module _ (names : List ℕ) (start stride n : ℕ) where
   -- place k lies within the table
@@ -52,23 +45,6 @@ module _ (names : List ℕ) (start stride n : ℕ) where
   pub text_met : (k : ℕ) (r b : Bool) → k < n → r ≡ some_of (same (text_at names (start + k * stride))) (drop (k + 1) (texts_from names start stride n)) → r ≡ b
       → some_of (same (get_or (texts_from names start stride n) k [])) (drop (k + 1) (texts_from names start stride n)) ≡ b
   text_met k r b h e w = ap (λ (t : List ℕ). some_of (same t) (drop (k + 1) (texts_from names start stride n))) (text_at_lem k h) ∙ sym e ∙ w
-
--- two texts, compared from the front
-module _ (names : List ℕ) (i j : ℕ) (p : Inside names i) (q : Inside names j) (k : ℕ) where
-  abbrev a : List ℕ
-  a = text_at names i
-
-  abbrev b : List ℕ
-  b = text_at names j
-
-  pub text_next : k < cell names i → k < cell names j → cell names (i + 1 + k) ≡ cell names (j + 1 + k) → same a b ≡ same (drop k a) (drop k b) → same a b ≡ same (drop (k + 1) a) (drop (k + 1) b)
-  text_next f g e w = same_next a b k (omega (arith, text_length names i p)) (omega (arith, text_length names j q)) (text_byte names i p k f ∙ e ∙ sym (text_byte names j q k g)) w
-
-  pub text_stop : k < cell names i → k < cell names j → (cell names (i + 1 + k) ≡ cell names (j + 1 + k) → ⊥) → same a b ≡ same (drop k a) (drop k b) → false ≡ same a b
-  text_stop f g e w = same_stop a b k (omega (arith, text_length names i p)) (omega (arith, text_length names j q)) (λ h. e (sym (text_byte names i p k f) ∙ h ∙ text_byte names j q k g)) w
-
-  pub text_end : cell names i ≤ k → cell names j ≤ k → same a b ≡ same (drop k a) (drop k b) → true ≡ same a b
-  text_end f g w = same_end a b k (omega (arith, text_length names i p)) (omega (arith, text_length names j q)) w
 
 -- texts whose lengths passed fit their places
 pub short_ones : (names : List ℕ) (start stride n most : ℕ) → most < stride → all_of (λ k. leb (cell names (start + k * stride)) most) (below n) ≡ true → Short names start stride n

@@ -6,11 +6,7 @@ ghost use Rattle.spec_network.specs.Tables.{cell, text_at};
 ghost use Rattle.spec_network.specs.Limits.{text_tests, unlike_tests};
 ghost use Rattle.ask_opening_parts.specs.Texts.{Laid, Short, NamesHeld, texts_from, Inside, counted};
 
-fn wide(x: u8) -> usize
-    ensures { (result ≡ x) × (result < 256) }
-{
-    x as usize
-}
+use math_parts::text;
 
 // Are the lengths of n texts at most `most`?
 fn lengths_fit(names: &[u8], start: usize, stride: usize, n: usize, most: u8) -> bool
@@ -25,18 +21,7 @@ fn same_text(names: &[u8], i: usize, j: usize) -> bool
     requires { Inside names.now i × Inside names.now j }
     ensures { result ≡ same (text_at names.now i) (text_at names.now j) }
 {
-    let n = wide(names[i]);
-    if wide(names[j]) != n {
-        return false;
-    }
-    let mut k: usize = 0;
-    while k < n {
-        if names[i + 1 + k] != names[j + 1 + k] {
-            return false;
-        }
-        k += 1;
-    }
-    true
+    text(names, i) == text(names, j)
 }
 
 // Is text k of n met again behind it?
@@ -44,12 +29,10 @@ fn repeated(names: &[u8], start: usize, stride: usize, n: usize, k: usize) -> bo
     requires { Laid names.now start stride n × Short names.now start stride n × (k < n) }
     ensures { result ≡ some_of (same (text_at names.now (start + k * stride))) (drop (k + 1) (texts_from names.now start stride n)) }
 {
-    let mut j = k + 1;
-    while j < n {
+    for j in k + 1..n {
         if same_text(names, start + k * stride, start + j * stride) {
             return true;
         }
-        j += 1;
     }
     false
 }
@@ -59,12 +42,10 @@ fn all_unlike(names: &[u8], start: usize, stride: usize, n: usize) -> bool
     requires { Laid names.now start stride n × Short names.now start stride n }
     ensures { result ≡ unlike (texts_from names.now start stride n) }
 {
-    let mut k: usize = 0;
-    while k < n {
+    for k in 0..n {
         if repeated(names, start, stride, n, k) {
             return false;
         }
-        k += 1;
     }
     true
 }

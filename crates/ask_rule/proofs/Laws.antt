@@ -10,8 +10,7 @@ use Rattle.fault_rule.specs.declared.MessageContext.{MessageContext}
 use Rattle.fault_rule.specs.declared.DropSpec.{DropSpec}
 use Rattle.fault_rule.specs.Rule.{forward, window_in}
 use Rattle.fault_card.specs.Card.{exact, fields_of, card_of}
-use Rattle.fault_card.specs.declared.Card.{Card}
-use Rattle.fault_card.specs.declared.Card.TheVariants.{Exact, Inexact}
+use Rattle.std.specs.Prelude.{Option, Some, None}
 use Rattle.fault_card.proofs.Laws.{exact_card, inexact_card}
 use Rattle.fault_rules.specs.Rules.{rule_width, rule_slots, most_rules}
 use Rattle.spec_network.specs.Opening.{latest_now, most_words}
@@ -19,7 +18,8 @@ use Rattle.spec_network.specs.Tables.{cell, sizes_at, setup_width, net_width, ru
 use Rattle.ask_tables.proofs.Ladder.{yes, no, under, on, off, both, only}
 use Rattle.ask_tables.proofs.Passed.{PassedSetup, PassedNet, setup_says_lem, net_says_lem}
 use Rattle.ask_tables.proofs.PassedRows.{rules_say}
-use Rattle.ask_rule.specs.Questions.{rules_lent, place_number, exact_number, first_of, card_number, decide_number}
+use native.Mathlib.Omega.{arith}
+use Rattle.ask_rule.specs.Questions.{rules_lent, lent_number, place_number, exact_number, first_of, card_number, decide_number}
 
 -- ---- What passed questions say
 
@@ -70,12 +70,12 @@ module _ (n : List ℕ) where
     unfolding place_number
     free h = yes _ _ _ _ (sym (on _ _ _ (lt-ltb _ _ room) (sym (lt-ltb _ _ h)))) refl
 
-pub inexact : (card : List ℕ) (c : Card) → c ≡ card_of card → c ≡ Inexact → 13 ≡ exact_number card
+pub inexact : (card : List ℕ) (c : Option DropSpec) → c ≡ card_of card → c ≡ None → 13 ≡ exact_number card
 unfolding exact_number
 inexact card c e h = no _ _ _ _ (inexact_card card (sym e ∙ h)) refl
 
 -- an exact card: what 18 answers of the fields that were read
-module _ (card : List ℕ) (c : Card) (d : DropSpec) (e : c ≡ card_of card) (h : c ≡ Exact d) (b : Bool) (f : b ≡ forward (window_in d)) where
+module _ (card : List ℕ) (c : Option DropSpec) (d : DropSpec) (e : c ≡ card_of card) (h : c ≡ Some d) (b : Bool) (f : b ≡ forward (window_in d)) where
   read : (exact card ≡ true) × (d ≡ fields_of card)
   read = exact_card card d (sym e ∙ h)
 
@@ -90,21 +90,33 @@ module _ (card : List ℕ) (c : Card) (d : DropSpec) (e : c ≡ card_of card) (h
   unfolding exact_number
   is_exact k = yes _ _ _ _ read.0 (yes _ _ _ _ (window_is ∙ k) refl)
 
-pub first_passes : (a b : ℕ) → a ≡ 0 → b ≡ first_of a b
+-- what question 1 refuses, and what is asked after it
+module _ (s n r : List ℕ) (rest : ℕ) where
+  pub lent_refuses : (k : ℕ) → k ≡ lent_number s n r 0 → (k ≡ 0 → ⊥) → k ≡ lent_number s n r rest
+  lent_refuses k e h = go (rules_lent s n r) e
+    where
+      go : (b : Bool) → k ≡ cond b 0 1 → k ≡ cond b rest 1
+      go true e = absurd (h e)
+      go false e = e
+
+  pub lent_passes : 0 ≡ lent_number s n r 0 → (k : ℕ) → k ≡ rest → k ≡ lent_number s n r rest
+  lent_passes e k h = go (rules_lent s n r) e
+    where
+      go : (b : Bool) → ◌≡◌ {A = ℕ} 0 (cond b 0 1) → k ≡ cond b rest 1
+      go true e = h
+      go false e = absurd (omega arith)
+
+pub is_lent : (s n r : List ℕ) → 0 ≡ lent_number s n r 0 → rules_lent s n r ≡ true
+is_lent s n r e = (under (rules_lent s n r) 0 0 (sym e)).0
+
+-- the place is asked first, then the card
+pub place_refuses : (a b k : ℕ) → k ≡ a → (k ≡ 0 → ⊥) → k ≡ first_of a b
 unfolding first_of
-first_passes a b h = yes _ _ _ _ (eq-eqb _ _ h) refl
+place_refuses a b k e h = no _ _ _ _ (ne_eqb _ _ (λ z. h (e ∙ z))) e
 
-pub first_refuses : (a b : ℕ) → (a ≡ 0 → ⊥) → a ≡ first_of a b
+pub place_passes : (a b k : ℕ) → 0 ≡ a → k ≡ b → k ≡ first_of a b
 unfolding first_of
-first_refuses a b h = no _ _ _ _ (ne_eqb _ _ h) refl
-
-pub no_card : (s n r card : List ℕ) → rules_lent s n r ≡ false → 1 ≡ card_number s n r card
-unfolding card_number
-no_card s n r card h = no _ _ _ _ h refl
-
-pub asks_card : (s n r card : List ℕ) (a b N : ℕ) → rules_lent s n r ≡ true → a ≡ place_number n → b ≡ exact_number card → N ≡ first_of a b → N ≡ card_number s n r card
-unfolding card_number
-asks_card s n r card a b N h p q e = yes _ _ _ _ h (e ∙ (rw (p, q)))
+place_passes a b k e h = yes _ _ _ _ (eq-eqb _ _ (sym e)) h
 
 -- 12 comes before the questions of the card
 pub in_order : (n card : List ℕ) → first_of (place_number n) (exact_number card) ≡ cond (ltb (cell n rules_at) rule_slots && ltb (cell n installed_at) most_rules) (exact_number card) 12

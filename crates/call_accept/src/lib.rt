@@ -2,14 +2,15 @@
 #![tactic(auto)]
 
 ghost use Rattle.std.specs.Prelude.{◌≡◌};
-ghost use Rattle.spec_network.specs.Accept.{no_counts};
-ghost use Rattle.call_schedule.specs.Writing.{counts_of};
-ghost use Rattle.call_accept.specs.Accepting.{call_of, counted_as, DoesAccept};
+ghost use Rattle.spec_network.specs.Calls.{accept as accept_call};
+ghost use Rattle.call_accept.specs.Accepting.{entry_in, accepted_reply, DoesAccept};
 
+use ask_refusal::Refusal;
 use call_offer::Outgoing;
+pub use call_recipients::FixedTables;
 use call_schedule::Counts;
 
-// The number of the question that refused the call, or 0, and how many recipients went under each of the five.
+// An accept as C gets it: the number of the question that refused the call, or 0, and how many recipients went under each of the five.
 #[repr(C)]
 #[derive(Clone, Copy)]
 pub struct Accepted {
@@ -21,73 +22,79 @@ pub struct Accepted {
     pub fault: u64,
 }
 
-fn refused(n: u64) -> Accepted
-    ensures { result ≡ counted_as n no_counts }
-{
-    Accepted {
-        number: n,
-        sent: 0,
-        deduplicated: 0,
-        partition: 0,
-        loss: 0,
-        fault: 0,
+impl From<Result<Counts, Refusal>> for Accepted {
+    ghost from_gives = { λ r a. a ≡ accepted_reply r };
+
+    // A refusal answers its number, and zeros.
+    fn from(outcome: Result<Counts, Refusal>) -> Accepted {
+        match outcome {
+            Ok(counts) => Accepted {
+                number: 0,
+                sent: counts.sent,
+                deduplicated: counts.deduplicated,
+                partition: counts.partition,
+                loss: counts.loss,
+                fault: counts.fault,
+            },
+            Err(refusal) => Accepted {
+                number: refusal.number(),
+                sent: 0,
+                deduplicated: 0,
+                partition: 0,
+                loss: 0,
+                fault: 0,
+            },
+        }
     }
 }
 
-fn answered(c: Counts) -> Accepted
-    ensures { result ≡ counted_as 0 (counts_of c) }
-{
-    Accepted {
-        number: 0,
-        sent: c.sent,
-        deduplicated: c.deduplicated,
-        partition: c.partition,
-        loss: c.loss,
-        fault: c.fault,
-    }
+// An entry of a till's outbox: what it says, from which till and when.
+#[derive(Clone, Copy)]
+pub struct Entry<'a> {
+    pub wire: &'a [u8],
+    pub from: u64,
+    pub at: u64,
+    pub kind: u64,
+    pub class: u64,
+    pub scope: u64,
+    pub tag: u64,
 }
 
-// A message goes out to its recipients. A payload that does not open changes nothing; `opens` is then 0.
+// A message goes out to its recipients. A payload that does not open changes nothing.
 pub fn accept(
-    setup: &[u64],
+    fixed: FixedTables,
     net: &mut [u64],
     names: &[u8],
-    tills: &[u64],
     words: &mut [u64],
-    keys: &[u32],
-    prices: &[u64],
     seen: &mut [u64],
     waiting: &mut [u64],
     rings: &mut [u64],
     rules: &mut [u64],
-    blocks: &[u64],
-    wire: &[u8],
-    from: u64,
-    at: u64,
-    kind: u64,
-    class: u64,
-    scope: u64,
-    tag: u64,
-    opens: u64,
-) -> Accepted
+    given: Entry,
+    opens: bool,
+) -> Result<Counts, Refusal>
     ensures { DoesAccept
-        setup.now net.old names.now tills.now words.old keys.now
-        prices.now seen.old waiting.old rings.old rules.old blocks.now
+        fixed.entry.setup.now net.old names.now fixed.entry.tills.now words.old fixed.entry.keys.now
+        fixed.entry.prices.now seen.old waiting.old rings.old rules.old fixed.entry.blocks.now
         net.new words.new seen.new waiting.new rings.new rules.new
-        (call_of wire.now «from» at kind «class» scope tag opens) result }
+        (accept_call (entry_in given.entry) opens) (accepted_reply result) }
 {
-    if !ask_accept::lent(
-        setup, net, names, tills, words, keys, prices, seen, waiting, rings, rules, blocks,
-    ) {
-        return refused(1);
+    if !ask_accept::lent(fixed, net, names, words, seen, waiting, rings, rules) {
+        return Err(Refusal::Tables);
     }
+    let Entry {
+        wire,
+        from,
+        at,
+        kind,
+        class,
+        scope,
+        tag,
+    } = given;
     let length = wire.len() as u64;
-    let number = ask_accept::arguments(setup, from, kind, class, scope, length, at);
-    if number != 0 {
-        return refused(number);
-    }
-    if opens == 0 {
-        return refused(0);
+    ask_accept::arguments(fixed.setup, from, kind, class, scope, length, at)?;
+    if !opens {
+        return Ok(call_recipients::NONE);
     }
     let id = call_message::id_of(names, kind as usize, scope as usize, wire);
     let m = Outgoing {
@@ -100,11 +107,6 @@ pub fn accept(
         id,
         tag,
     };
-    let full = ask_accept::tail(setup, net, tills, words, seen, m);
-    if full != 0 {
-        return refused(full);
-    }
-    answered(call_recipients::serve(
-        setup, net, tills, words, keys, prices, seen, waiting, rings, rules, blocks, m,
-    ))
+    ask_accept::tail(fixed.setup, net, fixed.tills, words, seen, m)?;
+    Ok(call_recipients::serve(fixed, net, words, seen, waiting, rings, rules, m))
 }

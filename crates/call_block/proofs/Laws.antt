@@ -1,14 +1,17 @@
 -- The ways through the block calls: the numbers of their questions, and the two ways of each call.
 use mathlib.Core.Path.{◌≡◌, refl, sym, ap, ◌∙◌}
 use mathlib.Core.Bool.{Bool, cond}
+use Rattle.std.specs.Prelude.{Result, Ok, Err, IsOk}
+use native.Mathlib.Omega.{arith}
 use mathlib.Core.List.{List}
 use Prim.Native.Nat.{ℕ, suc, ◌+◌}
 use native.Mathlib.Numerals.{add-one}
 use lib.Dec.{ltb}
 use lib.ListN.{length, set}
 use Rattle.table_rows.proofs.Rows.{length_rows}
-use Rattle.fault_blocks.specs.Blocks.{block_width, block_slots, first_block, blocks_of, blocked, always, during, block_number, block_table, open_count, unblock_table}
+use Rattle.fault_blocks.specs.Blocks.{block_width, block_slots, first_block, blocks_of, blocked, always, during, number_in, block_number, block_table, open_count, unblock_table}
 use Rattle.fault_blocks.specs.declared.BlockWindow.{BlockWindow}
+use Rattle.fault_blocks.specs.declared.Full.{Full}
 use Rattle.spec_network.specs.Lists.{bit}
 use Rattle.spec_network.specs.Calls.{Call, block, block_during, unblock, reading, is_blocked, number}
 use Rattle.spec_network.specs.Tables.{Tables, cell, blocks_at}
@@ -16,6 +19,7 @@ use Rattle.spec_network.specs.Real.{opening_at}
 use Rattle.spec_network.specs.Lending.{lend_blocks}
 use Rattle.spec_network.specs.Writes.{call_reply, step_t}
 use Rattle.ask_tables.specs.Held.{setup_held, net_held, blocks_held}
+use Rattle.ask_tables.proofs.Ladder.{yes, under}
 use Rattle.call_reply.specs.declared.Value.{Value}
 use Rattle.call_reply.specs.Reply.{refused_by, answered_by}
 use Rattle.call_reply.proofs.Laws as reply
@@ -45,6 +49,15 @@ module _ (T : Tables) (s n b : List ℕ) (from to : ℕ) where
   ask_number : (at : ℕ) → pair_number s n b from to (now_number at) ≡ (call_reply (lend_blocks T s n b) (reading (is_blocked from to at))).number
   unfolding pair_number now_number blocks_lent setup_held net_held blocks_held
   ask_number at = refl
+
+-- a window that the questions let through stands
+pub stands : {T : Type 0} (r : Result T Full) → (n : List ℕ) → number_in r ≡ block_number (cell n blocks_at) → free_number n ≡ 0 → IsOk r
+stands (Ok v) n e h = refl
+stands (Err f) n e h = absurd (omega (arith, e, h))
+
+pub during_free : (n : List ℕ) (start end : ℕ) → during_number n start end ≡ 0 → free_number n ≡ 0
+unfolding during_number block_number
+during_free n start end h = sym (yes _ _ _ _ (under (ltb (cell n blocks_at) block_slots) (window_number start end) 11 h).0 refl)
 
 -- ---- The ways through a call that writes
 

@@ -25,13 +25,16 @@ use Rattle.spec_network.specs.Tables.{Tables, cell, live, sizes_at, setup_width,
 use Rattle.spec_network.specs.Lending.{lend_flush}
 use Rattle.spec_network.specs.Writes.{Reply, row_width, row_words, output_of, call_reply}
 use Rattle.ask_tables.specs.Held.{setup_held, net_held, tills_held, seen_held, waiting_held, blocks_held, log_held}
-use Rattle.ask_tables.proofs.Ladder.{yes, no, on, off, last, both, only}
+use Rattle.ask_tables.proofs.Ladder.{yes, no, both, only}
 use Rattle.ask_tables.proofs.Passed.{PassedSetup, PassedNet, setup_says_lem, net_says_lem}
 use Rattle.ask_tables.proofs.PassedRows.{PassedTills, PassedBlocks, PassedSeen, tills_say_lem, blocks_say_lem, seen_says_lem}
 use Rattle.ask_rows.specs.HeldRows.{limits_of}
 use Rattle.ask_rows.proofs.Passed.{PassedWaiting, PassedLog, waiting_says_lem, log_says}
 use Rattle.table_scan.proofs.Laws as scan
 use Rattle.call_reply.proofs.Laws as reply
+use Rattle.ask_refusal.specs.declared.Refusal.{Refusal}
+use Rattle.ask_refusal.specs.Refusals.{number_of}
+use Rattle.ask_refusal.proofs.Laws.{number_not_0}
 use Rattle.call_flush_pass.specs.declared.Extents.{Extents}
 use Rattle.call_flush_pass.specs.declared.Moved.{Moved}
 use Rattle.call_flush_pass.specs.Pass.{flush_view, cleared_one, cleared_by, cleared, recorded, written, moved_of, Near}
@@ -122,40 +125,7 @@ module _ (s n t e w b l : List ℕ) where
 
 -- ---- The ladder
 
-module _ (s n w b l : List ℕ) where
-  pub no_waiting : waiting_held s n w ≡ false → false ≡ rows_lent s n w b l
-  unfolding rows_lent
-  no_waiting h = off _ _ h
-
-  pub no_blocks : waiting_held s n w ≡ true → blocks_held s n b ≡ false → false ≡ rows_lent s n w b l
-  unfolding rows_lent
-  no_blocks h1 h2 = on _ _ _ h1 (off _ _ h2)
-
-  pub last_log : (r : Bool) → waiting_held s n w ≡ true → blocks_held s n b ≡ true → r ≡ log_held s l → r ≡ rows_lent s n w b l
-  unfolding rows_lent
-  last_log r h1 h2 h3 = on _ _ _ h1 (on _ _ _ h2 (last _ _ h3))
-
 module _ (s n t e w b l : List ℕ) where
-  pub no_setup : setup_held s ≡ false → false ≡ flush_lent s n t e w b l
-  unfolding flush_lent
-  no_setup h = off _ _ h
-
-  pub no_net : setup_held s ≡ true → net_held s n ≡ false → false ≡ flush_lent s n t e w b l
-  unfolding flush_lent
-  no_net h1 h2 = on _ _ _ h1 (off _ _ h2)
-
-  pub no_tills : setup_held s ≡ true → net_held s n ≡ true → tills_held s t ≡ false → false ≡ flush_lent s n t e w b l
-  unfolding flush_lent
-  no_tills h1 h2 h3 = on _ _ _ h1 (on _ _ _ h2 (off _ _ h3))
-
-  pub no_seen : setup_held s ≡ true → net_held s n ≡ true → tills_held s t ≡ true → seen_held s e ≡ false → false ≡ flush_lent s n t e w b l
-  unfolding flush_lent
-  no_seen h1 h2 h3 h4 = on _ _ _ h1 (on _ _ _ h2 (on _ _ _ h3 (off _ _ h4)))
-
-  pub rest_lent : (r : Bool) → setup_held s ≡ true → net_held s n ≡ true → tills_held s t ≡ true → seen_held s e ≡ true → r ≡ rows_lent s n w b l → r ≡ flush_lent s n t e w b l
-  unfolding flush_lent
-  rest_lent r h1 h2 h3 h4 h5 = on _ _ _ h1 (on _ _ _ h2 (on _ _ _ h3 (on _ _ _ h4 h5)))
-
   module _ (now rest : ℕ) where
     pub not_lent : flush_lent s n t e w b l ≡ false → 1 ≡ flush_number s n t e w b l now rest
     unfolding flush_number
@@ -298,10 +268,6 @@ module _ (s n t e w b l n' e' w' l' out out' : List ℕ) (now k : ℕ) (ek : k �
 
 -- ---- The small functions
 
-pub answered_made : (m : Moved) → record { number = 0; rows = m.rows; delivered = m.delivered; dropped = m.dropped } ≡ flushed_by m
-unfolding flushed_by
-answered_made m = refl
-
 pub extents_made : (s n : List ℕ) → record { tills = cell s 0; slots = cell s 4; log = cell s 6; windows = cell n blocks_at } ≡ extents_at s n
 unfolding extents_at
 extents_made s n = refl
@@ -309,14 +275,15 @@ extents_made s n = refl
 -- ---- The ways through `flush`
 
 module _ (s n t e w b l : List ℕ) where
-  pub refused_by_lem : (out : List ℕ) (now r : ℕ) (v : Flushed) → r ≡ flush_number s n t e w b l now 0 → (r ≡ 0 → ⊥) → v ≡ refused_by r → DoesFlush s n t e w b l n e w l now v out out
-  refused_by_lem out now r v q h p =
-      subst (λ (x : Flushed). DoesFlush s n t e w b l n e w l now x out out) (sym p)
-      (refused s n t e w b l out now r (refused_first s n t e w b l now (room_number (due_count n w now) (length out / row_width)) r q h) h)
+  pub refused_by_lem : (out : List ℕ) (now : ℕ) (f : Refusal) → number_of f ≡ flush_number s n t e w b l now 0 → DoesFlush s n t e w b l n e w l now (refused_by (number_of f)) out out
+  refused_by_lem out now f q =
+      refused s n t e w b l out now (number_of f)
+      (refused_first s n t e w b l now (room_number (due_count n w now) (length out / row_width)) (number_of f) q (number_not_0 f))
+      (number_not_0 f)
 
-  module _ (now r : ℕ) (q : r ≡ flush_number s n t e w b l now 0) (h : r ≡ 0) where
+  module _ (now : ℕ) (q : 0 ≡ flush_number s n t e w b l now 0) where
     held : Held s n t e w b l
-    held = holds s n t e w b l (passed s n t e w b l now 0 r q h).0
+    held = holds s n t e w b l (passed s n t e w b l now 0 0 q refl).0
 
     pub net_long : length n ≡ net_width
     net_long = held.net.size
@@ -333,12 +300,10 @@ module _ (s n t e w b l : List ℕ) where
       is_due_count = ek
 
       asks_room : (m : ℕ) → m ≡ room_number k (length out / row_width) → m ≡ asks s n t e w b l out now
-      asks_room m p = p ∙ ap (λ (i : ℕ). room_number i (length out / row_width)) is_due_count ∙ (passed s n t e w b l now (room_number (due_count n w now) (length out / row_width)) r q h).1
+      asks_room m p = p ∙ ap (λ (i : ℕ). room_number i (length out / row_width)) is_due_count ∙ (passed s n t e w b l now (room_number (due_count n w now) (length out / row_width)) 0 q refl).1
 
-      pub refused_room : length out / row_width < k → (v : Flushed) → v ≡ refused_by 14 → DoesFlush s n t e w b l n e w l now v out out
-      refused_room f v p =
-          subst (λ (x : Flushed). DoesFlush s n t e w b l n e w l now x out out) (sym p)
-          (refused s n t e w b l out now 14 (asks_room 14 (no_room k (length out / row_width) f)) (λ z. omega arith))
+      pub refused_room : length out / row_width < k → DoesFlush s n t e w b l n e w l now (refused_by 14) out out
+      refused_room f = refused s n t e w b l out now 14 (asks_room 14 (no_room k (length out / row_width) f)) (λ z. omega arith)
 
       module _ (f : k ≤ length out / row_width) (z : Extents) (ez : z ≡ extents_at s n) where
         pub ready_by : Ready z k n t e w b l out

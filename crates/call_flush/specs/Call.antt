@@ -1,6 +1,8 @@
 -- Document 01, 'The book', Flush, with questions 1, 7 and 14: THE CONTRACT of flush. Of the tables `setup`, `net`, `tills`, `seen`, `waiting`, `blocks` and `log` are
 -- lent; the others hold whatever they hold, and stay.
-use Rattle.std.specs.Prelude.{◌≡◌, Bool, cond, ◌&&◌, true, List, ℕ, ◌*◌, ◌-◌, ◌/◌, ◌≤◌, leb, length, set, drop}
+use Rattle.std.specs.Prelude.{◌≡◌, Bool, cond, ◌&&◌, true, List, ℕ, ◌*◌, ◌-◌, ◌/◌, ◌≤◌, leb, length, set, drop, Result, Ok, Err}
+use Rattle.ask_refusal.specs.declared.Refusal.{Refusal}
+use Rattle.ask_refusal.specs.Refusals.{number_of}
 use Rattle.table_rows.specs.Lists.{front}
 use Rattle.table_rows.specs.Table.{over}
 use Rattle.table_waiting.specs.Waiting as waiting
@@ -61,6 +63,11 @@ refused_by n = record { number = n; rows = 0; delivered = 0; dropped = 0 }
 
 unfoldable pub flushed_by : Moved → Flushed
 flushed_by m = record { number = 0; rows = m.rows; delivered = m.delivered; dropped = m.dropped }
+
+-- what C is answered, by a call's result
+abbrev pub flushed_reply : Result Moved Refusal → Flushed
+flushed_reply (Ok m) = flushed_by m
+flushed_reply (Err e) = refused_by (number_of e)
 
 -- what a passed question 1 and 14 give
 pub record Ready (z : Extents) (k : ℕ) (ns ts es ws bs ls os : List ℕ) : Type 0 where

@@ -1,14 +1,15 @@
 // The flush on the network's tables: questions 1, 7 and 14, then one pass over the due copies.
 #![tactic(auto)]
 
-ghost use Rattle.std.specs.Prelude.{◌≡◌, true, length};
+ghost use Rattle.std.specs.Prelude.{◌≡◌, length};
+ghost use Rattle.ask_refusal.specs.Refusals.{asked};
 ghost use Rattle.spec_network.specs.Tables.{setup_width, net_width};
-ghost use Rattle.ask_tables.specs.Held.{setup_held, net_held};
-ghost use Rattle.call_flush.specs.Call.{DoesFlush, rows_lent, flush_lent, flush_number, extents_at, refused_by, flushed_by, Ready, Worked};
+ghost use Rattle.call_flush.specs.Call.{DoesFlush, flush_lent, flush_number, extents_at, flushed_by, flushed_reply, Ready, Worked};
 
+use ask_refusal::Refusal;
 use call_flush_pass::{Extents, Moved};
 
-// The number of the question that refused the flush, or 0; rows, those of them with a handler, and drops.
+// A flush as C gets it: the number of the question that refused it, or 0; rows, those of them with a handler, and drops.
 #[repr(C)]
 #[derive(Clone, Copy)]
 pub struct Flushed {
@@ -18,43 +19,31 @@ pub struct Flushed {
     pub dropped: u64,
 }
 
-fn refused(number: u64) -> Flushed
-    ensures { result ≡ refused_by number }
-{
-    Flushed {
-        number,
-        rows: 0,
-        delivered: 0,
-        dropped: 0,
-    }
-}
+#[tactic(auto, unfolding(crate::specs::Call::flushed_by))]
+impl From<Result<Moved, Refusal>> for Flushed {
+    ghost from_gives = { λ r f. f ≡ flushed_reply r };
 
-fn answered(m: Moved) -> Flushed
-    ensures { result ≡ flushed_by m }
-{
-    Flushed {
-        number: 0,
-        rows: m.rows as u64,
-        delivered: m.delivered as u64,
-        dropped: m.dropped as u64,
+    // A refusal answers its number, and zeros.
+    fn from(outcome: Result<Moved, Refusal>) -> Flushed {
+        match outcome {
+            Ok(moved) => Flushed {
+                number: 0,
+                rows: moved.rows as u64,
+                delivered: moved.delivered as u64,
+                dropped: moved.dropped as u64,
+            },
+            Err(refusal) => Flushed {
+                number: refusal.number(),
+                rows: 0,
+                delivered: 0,
+                dropped: 0,
+            },
+        }
     }
-}
-
-// Question 1 of the tables that hold rows.
-fn rows_lent(setup: &[u64], net: &[u64], waiting: &[u64], blocks: &[u64], log: &[u64]) -> bool
-    requires { (setup_held setup.now ≡ true) × (net_held setup.now net.now ≡ true) }
-    ensures { result ≡ rows_lent setup.now net.now waiting.now blocks.now log.now }
-{
-    if !ask_rows::waiting_held(setup, net, waiting) {
-        return false;
-    }
-    if !ask_tables::blocks_held(setup, net, blocks) {
-        return false;
-    }
-    ask_rows::log_held(setup, log)
 }
 
 // Question 1.
+#[tactic(auto, unfolding(crate::specs::Call::flush_lent, crate::specs::Call::rows_lent))]
 fn lent(
     setup: &[u64],
     net: &[u64],
@@ -67,19 +56,13 @@ fn lent(
     ensures { result ≡ flush_lent
         setup.now net.now tills.now seen.now waiting.now blocks.now log.now }
 {
-    if !ask_tables::setup_held(setup) {
-        return false;
-    }
-    if !ask_tables::net_held(setup, net) {
-        return false;
-    }
-    if !ask_tables::tills_held(setup, tills) {
-        return false;
-    }
-    if !ask_tables::seen_held(setup, seen) {
-        return false;
-    }
-    rows_lent(setup, net, waiting, blocks, log)
+    ask_tables::setup_held(setup)
+        && ask_tables::net_held(setup, net)
+        && ask_tables::tills_held(setup, tills)
+        && ask_tables::seen_held(setup, seen)
+        && ask_rows::waiting_held(setup, net, waiting)
+        && ask_tables::blocks_held(setup, net, blocks)
+        && ask_rows::log_held(setup, log)
 }
 
 // Questions 1 and 7.
@@ -92,18 +75,18 @@ fn refusal(
     blocks: &[u64],
     log: &[u64],
     at: u64,
-) -> u64
-    ensures { result ≡ flush_number
+) -> Result<(), Refusal>
+    ensures { asked result ≡ flush_number
         setup.now net.now tills.now seen.now waiting.now blocks.now log.now
         at 0 }
 {
     if !lent(setup, net, tills, seen, waiting, blocks, log) {
-        return 1;
+        return Err(Refusal::Tables);
     }
     if ask_tables::LATEST < at {
-        return 7;
+        return Err(Refusal::Time);
     }
-    0
+    Ok(())
 }
 
 // The first k waiting copies land or are dropped; then they are gone from waiting.
@@ -117,19 +100,19 @@ fn work(
     out: &mut [u64],
     z: Extents,
     k: usize,
-) -> Flushed
+) -> Moved
     requires { Ready z k net.old tills.now seen.old waiting.old blocks.now log.old out.old }
     ensures { Worked z k
         net.old tills.now seen.old waiting.old blocks.now log.old
         net.new seen.new waiting.new log.new
-        result
+        (flushed_by result)
         out.old out.new }
 {
     let m = call_flush_pass::pass(tills, blocks, waiting, seen, log, out, z, k);
     let n = net[ask_tables::WAITING] as usize;
     table_waiting::drop_front(waiting, n, k);
     net[ask_tables::WAITING] = (n - k) as u64;
-    answered(m)
+    m
 }
 
 fn extents(setup: &[u64], net: &[u64]) -> Extents
@@ -155,21 +138,18 @@ pub fn flush(
     log: &mut [u64],
     out: &mut [u64],
     at: u64,
-) -> Flushed
+) -> Result<Moved, Refusal>
     ensures { DoesFlush
         setup.now net.old tills.now seen.old waiting.old blocks.now log.old
         net.new seen.new waiting.new log.new
-        at result
+        at (flushed_reply result)
         out.old out.new }
 {
-    let number = refusal(setup, net, tills, seen, waiting, blocks, log, at);
-    if number != 0 {
-        return refused(number);
-    }
+    refusal(setup, net, tills, seen, waiting, blocks, log, at)?;
     let k = table_waiting::due(waiting, net[ask_tables::WAITING] as usize, at);
     if out.len() / call_flush_pass::ROW < k {
-        return refused(14);
+        return Err(Refusal::Rows);
     }
     let z = extents(setup, net);
-    work(net, tills, seen, waiting, blocks, log, out, z, k)
+    Ok(work(net, tills, seen, waiting, blocks, log, out, z, k))
 }

@@ -1,11 +1,12 @@
 -- The small functions of the pass: tills, stops, handlers, a row's words, the counts of one copy. Assumes nothing.
 use mathlib.Core.Path.{◌≡◌, refl, sym, ap, ◌∙◌}
-use mathlib.Core.Bool.{Bool, not, ◌&&◌, ◌||◌}
+use mathlib.Core.Bool.{Bool, true, false, not, ◌&&◌, ◌||◌}
 use mathlib.Core.List.{List, [], ◌∷◌}
 use Prim.Native.Nat.{ℕ, ◌+◌, ◌*◌, ◌≤◌, ◌<◌}
 use native.Mathlib.Nat.{add-zero}
 use native.Mathlib.Omega.{arith}
 use lib.Dec.{eqb}
+use mir.Val.{bool_byte}
 use lib.ListN.{length, get_or, set, drop}
 use lib.Seq.{get_or-drop}
 use borrow.Author.Tests.{eq-eqb, ne_eqb}
@@ -62,44 +63,37 @@ module _ (z : Extents) (tills blocks : List ℕ) (c : Copy) where
 
 -- ---- Handlers
 
-module _ (n : ℕ) (tills : List ℕ) (c : Copy) (h : c.delivery.to < n) (g : ℕ) (eg : g ≡ bit (has (get_or tills (c.delivery.to * till_form.width + 1) 0) c.delivery.kind)) where
+module _ (n : ℕ) (tills : List ℕ) (c : Copy) (h : c.delivery.to < n) (g : Bool) (eg : g ≡ has (get_or tills (c.delivery.to * till_form.width + 1) 0) c.delivery.kind) where
   gossip : g ≡ (taken_by n tills c).gossip
   unfolding taken_by has
-  gossip = eg ∙ ap (λ (m : ℕ). bit (has m c.delivery.kind)) (gossip_at n tills c.delivery.to h)
+  gossip = eg ∙ ap (λ (m : ℕ). has m c.delivery.kind) (gossip_at n tills c.delivery.to h)
 
-  pub shard_taken : (c.delivery.scope ≡ global → ⊥) → record { gossip = g; host = 0 } ≡ taken_by n tills c
+  pub shard_taken : (c.delivery.scope ≡ global → ⊥) → record { gossip = g; host = false } ≡ taken_by n tills c
   unfolding taken_by has
-  shard_taken p = λ j. record { gossip = gossip j; host = bit (sym (ne_eqb c.delivery.scope global p) j && has (till_in n tills c.delivery.to).host c.delivery.kind) }
+  shard_taken p = λ j. record { gossip = gossip j; host = sym (ne_eqb c.delivery.scope global p) j && has (till_in n tills c.delivery.to).host c.delivery.kind }
 
-  pub global_taken : (k : ℕ) → c.delivery.scope ≡ global → k ≡ bit (has (get_or tills (c.delivery.to * till_form.width + 2) 0) c.delivery.kind) → record { gossip = g; host = k } ≡ taken_by n tills c
+  pub global_taken : (k : Bool) → c.delivery.scope ≡ global → k ≡ has (get_or tills (c.delivery.to * till_form.width + 2) 0) c.delivery.kind → record { gossip = g; host = k } ≡ taken_by n tills c
   unfolding taken_by has
   global_taken k p ek =
-      let e : k ≡ bit (has (till_in n tills c.delivery.to).host c.delivery.kind) = ek ∙ ap (λ (m : ℕ). bit (has m c.delivery.kind)) (host_at n tills c.delivery.to h) in
+      let e : k ≡ has (till_in n tills c.delivery.to).host c.delivery.kind = ek ∙ ap (λ (m : ℕ). has m c.delivery.kind) (host_at n tills c.delivery.to h) in
       (λ j. record { gossip = gossip j; host = e j })
-      ∙ (λ j. record { gossip = (taken_by n tills c).gossip; host = bit (sym (eq-eqb c.delivery.scope global p) j && has (till_in n tills c.delivery.to).host c.delivery.kind) })
-
-module _ (k : Taken) where
-  pub handled_some : (k.gossip + k.host ≡ 0 → ⊥) → 1 ≡ handled_by k
-  unfolding handled_by
-  handled_some h = sym (ap (λ (b : Bool). bit (not b)) (ne_eqb (k.gossip + k.host) 0 h))
-
-  pub handled_none : k.gossip + k.host ≡ 0 → 0 ≡ handled_by k
-  unfolding handled_by
-  handled_none h = sym (ap (λ (b : Bool). bit (not b)) (eq-eqb (k.gossip + k.host) 0 h))
+      ∙ (λ j. record { gossip = (taken_by n tills c).gossip; host = sym (eq-eqb c.delivery.scope global p) j && has (till_in n tills c.delivery.to).host c.delivery.kind })
 
 -- ---- A row's words
 
-pub row_made : (out l : List ℕ) (b : ℕ) (c : Copy) (k : Taken) → b + row_width ≤ length out → l ≡ put_words out b (waiting.words c)
-    → set (set l (b + waiting.width) k.gossip) (b + (waiting.width + 1)) k.host ≡ put_words out b (row_words (row_as c k))
-row_made out l b c k h e =
-    let two : List ℕ = k.gossip ∷ k.host ∷ [] in
-    ap (λ (x : List ℕ). stores x b waiting.width two) e ∙ put_stores out b waiting.width (waiting.words c) two refl (omega arith)
+-- a test as a number
+pub byte_bit : (b : Bool) → bool_byte b ≡ bit b
+byte_bit true = refl
+byte_bit false = refl
+
+pub row_made : (out l : List ℕ) (b : ℕ) (c : Copy) (k : Taken) (g h : ℕ) → g ≡ bool_byte k.gossip → h ≡ bool_byte k.host → b + row_width ≤ length out
+    → l ≡ put_words out b (waiting.words c) → set (set l (b + waiting.width) g) (b + (waiting.width + 1)) h ≡ put_words out b (row_words (row_as c k))
+row_made out l b c k g h eg eh room e =
+    let two : List ℕ = bit k.gossip ∷ bit k.host ∷ [] in
+    (λ j. set (set l (b + waiting.width) ((eg ∙ byte_bit k.gossip) j)) (b + (waiting.width + 1)) ((eh ∙ byte_bit k.host) j))
+    ∙ ap (λ (x : List ℕ). stores x b waiting.width two) e ∙ put_stores out b waiting.width (waiting.words c) two refl (omega arith)
 
 -- ---- The counts
-
-pub dropped_made : (m : Moved) → record { rows = m.rows; delivered = m.delivered; dropped = m.dropped + 1 } ≡ dropped_more m
-unfolding dropped_more
-dropped_made m = refl
 
 pub landed_made : (m : Moved) (h g : ℕ) → h ≡ g → record { rows = m.rows + 1; delivered = m.delivered + h; dropped = m.dropped } ≡ landed_more g m
 unfolding landed_more

@@ -39,16 +39,16 @@ flush_view z tills blocks = record {
 
 unfoldable pub taken_by : ℕ → List ℕ → Copy → Taken
 taken_by n tills c = record {
-  gossip = bit (bit_at (till_in n tills c.delivery.to).gossip c.delivery.kind);
-  host = bit (eqb c.delivery.scope global && bit_at (till_in n tills c.delivery.to).host c.delivery.kind);
+  gossip = bit_at (till_in n tills c.delivery.to).gossip c.delivery.kind;
+  host = eqb c.delivery.scope global && bit_at (till_in n tills c.delivery.to).host c.delivery.kind;
 }
 
 -- the row of a landed copy
 abbrev pub row_as : Copy → Taken → Row
-row_as c k = record { copy = c; gossip = k.gossip; host = k.host }
+row_as c k = record { copy = c; gossip = bit k.gossip; host = bit k.host }
 
 unfoldable pub handled_by : Taken → ℕ
-handled_by k = bit (not (eqb (k.gossip + k.host) 0))
+handled_by k = bit (not (eqb (bit k.gossip + bit k.host) 0))
 
 -- ---- One copy
 

@@ -5,12 +5,13 @@ ghost use Rattle.std.specs.Prelude.{◌≡◌, ◌+◌, ◌*◌, ◌≤◌, ◌<
 ghost use Rattle.table_shift.specs.Shift.{put_words};
 ghost use Rattle.table_waiting.specs.Waiting.{copies};
 ghost use Rattle.table_ring.specs.Ring.{most};
-ghost use Rattle.spec_network.specs.Lists as lists;
+ghost use Rattle.spec_network.specs.Lists.{bit};
 ghost use Rattle.spec_network.specs.Tables.{till_form};
 ghost use Rattle.spec_network.specs.Flush.{stops, row_of};
 ghost use Rattle.spec_network.specs.Writes.{row_width, row_words};
 ghost use Rattle.call_flush_pass.specs.Pass.{flush_view, taken_by, unmarked, cleared_one, dropped_more, handled_by, row_as, Room, Near, SeenRoom, LogRoom, Due, Turned, Landed, Passed};
 
+use table_rows::Row;
 use table_waiting::Copy;
 
 // How many words a row of the output has.
@@ -30,11 +31,11 @@ pub struct Extents {
     pub windows: usize,
 }
 
-// Whether a gossip and a host handler take a row: 1 or 0.
+// Whether a gossip and a host handler take a row.
 #[derive(Clone, Copy)]
 pub struct Taken {
-    pub gossip: u64,
-    pub host: u64,
+    pub gossip: bool,
+    pub host: bool,
 }
 
 // Rows, those of them with a handler, and drops.
@@ -61,15 +62,6 @@ fn is_stopped(tills: &[u64], blocks: &[u64], z: Extents, c: Copy) -> bool
     )
 }
 
-fn bit(stands: bool) -> u64
-    ensures { result ≡ lists.bit stands }
-{
-    if stands {
-        return 1;
-    }
-    0
-}
-
 // A host handler takes global entries only.
 fn handlers_of(tills: &[u64], n: usize, c: Copy) -> Taken
     requires { (c.delivery.to < n) × (n * till_form.width ≤ length tills.now) × (c.delivery.kind < 64) }
@@ -77,11 +69,14 @@ fn handlers_of(tills: &[u64], n: usize, c: Copy) -> Taken
 {
     let d = c.delivery;
     let b = d.to as usize * ask_tables::TILL_WIDTH;
-    let gossip = bit(fault_rule::has(tills[b + 1], d.kind));
+    let gossip = fault_rule::has(tills[b + 1], d.kind);
     if d.scope != ask_tables::GLOBAL {
-        return Taken { gossip, host: 0 };
+        return Taken {
+            gossip,
+            host: false,
+        };
     }
-    let host = bit(fault_rule::has(tills[b + 2], d.kind));
+    let host = fault_rule::has(tills[b + 2], d.kind);
     Taken { gossip, host }
 }
 
@@ -90,9 +85,9 @@ fn put_row(out: &mut [u64], b: usize, c: Copy, k: Taken)
     requires { b + row_width ≤ length out.old }
     ensures { out.new ≡ put_words out.old b (row_words (row_as c k)) }
 {
-    table_waiting::put(out, b, c);
-    out[b + GOSSIP] = k.gossip;
-    out[b + HOST] = k.host;
+    c.put(out, b);
+    out[b + GOSSIP] = u64::from(k.gossip);
+    out[b + HOST] = u64::from(k.host);
 }
 
 // The mark (t, id) goes, and the till's count follows.
@@ -118,29 +113,23 @@ fn clear(seen: &mut [u64], z: Extents, c: Copy)
     unmark(seen, z, d.to, c.id);
 }
 
+#[tactic(auto, unfolding(crate::specs::Pass::dropped_more))]
 fn one_dropped(m: Moved) -> Moved
     requires { m.dropped < most }
     ensures { result ≡ dropped_more m }
 {
     Moved {
-        rows: m.rows,
-        delivered: m.delivered,
         dropped: m.dropped + 1,
+        ..m
     }
 }
 
-// Does a handler take it? 1 or 0.
-fn is_handled(k: Taken) -> usize
-    ensures is { result ≡ handled_by k }
-    ensures within { result ≤ 1 }
+// Does a handler take it?
+#[tactic(auto, unfolding(crate::specs::Pass::handled_by))]
+fn is_handled(k: Taken) -> bool
+    ensures { bit result ≡ handled_by k }
 {
-    if k.gossip != 0 {
-        return 1;
-    }
-    if k.host != 0 {
-        return 1;
-    }
-    0
+    k.gossip || k.host
 }
 
 // The copy's row behind the others, and its delivery into the log.
@@ -152,10 +141,9 @@ fn land(tills: &[u64], log: &mut [u64], out: &mut [u64], z: Extents, c: Copy, m:
     put_row(out, m.rows * ROW, c, k);
     let d = c.delivery;
     table_log::push(log, z.log, d);
-    let h = is_handled(k);
     Moved {
         rows: m.rows + 1,
-        delivered: m.delivered + h,
+        delivered: m.delivered + usize::from(is_handled(k)),
         dropped: m.dropped,
     }
 }
@@ -200,12 +188,9 @@ pub fn pass(
         delivered: 0,
         dropped: 0,
     };
-    let mut i: usize = 0;
-    while i < k {
-        let c = table_waiting::get(waiting, i * table_waiting::WIDTH);
-        let next = turn(tills, blocks, seen, log, out, z, c, m);
-        m = next;
-        i += 1;
+    for i in 0..k {
+        let c = Copy::get(waiting, i * table_waiting::WIDTH);
+        m = turn(tills, blocks, seen, log, out, z, c, m);
     }
     m
 }

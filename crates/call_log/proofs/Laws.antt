@@ -23,25 +23,18 @@ use Rattle.spec_network.specs.Tables.{Tables, sizes_at, setup_width}
 use Rattle.spec_network.specs.Lending.{lend_log}
 use Rattle.spec_network.specs.Writes.{Reply, output_of, call_reply}
 use Rattle.ask_tables.specs.Held.{setup_held, log_held}
-use Rattle.ask_tables.proofs.Ladder.{yes, no, on, off, last, both, only}
+use Rattle.ask_tables.proofs.Ladder.{yes, no, both, only}
 use Rattle.ask_tables.proofs.Passed.{PassedSetup, setup_says_lem}
 use Rattle.ask_rows.proofs.Passed.{PassedLog, log_says}
 use Rattle.call_reply.proofs.Laws as reply
-use Rattle.call_log.specs.declared.Drained.{Drained}
-use Rattle.call_log.specs.declared.Tallied.{Tallied}
+use Rattle.ask_refusal.specs.declared.Refusal.{Refusal}
+use Rattle.ask_refusal.specs.Refusals.{number_of}
+use Rattle.ask_refusal.proofs.Laws.{number_not_0}
 use Rattle.call_log.specs.Call.{drained_of, tallied_of, drain_call, DoesDrain, tally_call, DoesTally, log_lent, drain_number, tally_number, no_drain, no_tallies, tally_cells, no_cells}
 
 -- ---- The ladders
 
 module _ (s l : List ℕ) where
-  pub no_setup : setup_held s ≡ false → false ≡ log_lent s l
-  unfolding log_lent
-  no_setup h = off _ _ h
-
-  pub last_log : (r : Bool) → setup_held s ≡ true → r ≡ log_held s l → r ≡ log_lent s l
-  unfolding log_lent
-  last_log r h q = on _ _ _ h (last _ _ q)
-
   pub no_drain_lem : (rows : ℕ) → log_lent s l ≡ false → 1 ≡ drain_number s l rows
   unfolding drain_number
   no_drain_lem rows h = no _ _ _ _ h refl
@@ -107,76 +100,80 @@ module _ (s l out : List ℕ) where
   unfolding drain_number log_lent setup_held log_held
   drain_number_lem T = refl
 
-  module _ (r : ℕ) (q : r ≡ drain_number s l (length out / delivery.width)) where
-    pub drain_refused : (v : Drained) → v ≡ no_drain r → (r ≡ 0 → ⊥) → DoesDrain s l l v out out
-    unfolding DoesDrain tally_cells
-    drain_refused v e h = λ T.
+  pub drain_refused : (e : Refusal) → number_of e ≡ drain_number s l (length out / delivery.width) → DoesDrain s l l (no_drain (number_of e)) out out
+  unfolding DoesDrain tally_cells
+  drain_refused e q = λ T.
+      let same = q ∙ drain_number_lem T in
+      let still = reply.silenced (lend_log T s l) (drain_call out) (number_of e) same (number_not_0 e) in (
+        ap drained_of (sym still),
+        reply.stays (lend_log T s l) (drain_call out) (number_of e) same (number_not_0 e),
+        sym (ap (λ (a : Reply). output_of a.answer ++ drop (length (output_of a.answer)) out) still),
+      )
+
+  module _ (q : 0 ≡ drain_number s l (length out / delivery.width)) where
+    held : Held s l × ((sizes_at s).log_slots ≤ length out / delivery.width)
+    held = drain_held s l (length out / delivery.width) 0 q refl
+
+    pub head_room : records_at ≤ length l
+    head_room = omega (arith, held.0.log.size)
+
+    pub setup_long : length s ≡ setup_width
+    setup_long = held.0.setup.size
+
+    pub drain_room : ((sizes_at s).log_slots ≤ most) × (size_of (sizes_at s).log_slots ≤ length l) × ((sizes_at s).log_slots * delivery.width ≤ length out)
+    drain_room =
+        let o : (sizes_at s).log_slots * delivery.width ≤ length out / delivery.width * delivery.width = mul-le-mul_right delivery.width held.1 in
+        (held.0.setup.sizes.log_slots, omega (arith, held.0.log.size), omega (arith, o, div-mul-le_self (length out) delivery.width))
+
+    sound : sound_log (sizes_at s).log_slots l ≡ true
+    sound = log_sound (sizes_at s).log_slots l held.0.log.sound
+
+    copied : over delivery.form (records_of (sizes_at s).log_slots l) out
+        ≡ flat delivery.words (records_of (sizes_at s).log_slots l) ++ drop (length (flat delivery.words (records_of (sizes_at s).log_slots l))) out
+    unfolding over
+    copied = ap (λ (i : ℕ). flat delivery.words (records_of (sizes_at s).log_slots l) ++ drop i out) (sym (length_words delivery.form delivery-laws.exact (records_of (sizes_at s).log_slots l)))
+
+    many : length (records_of (sizes_at s).log_slots l) ≡ count_at 0 l
+    many = length_from (slot_at delivery.form (sizes_at s).log_slots 0 records_at l) (sizes_at s).log_slots (first_at 0 l) 0 (count_at 0 l)
+
+    pub drain_done : (k f : ℕ) (ts l' out' : List ℕ) → f ≡ get_or l forced_at 0 → ts ≡ tally_cells (tallies_of l) → k ≡ cond (sound_log (sizes_at s).log_slots l) (count_at 0 l) 0
+        → out' ≡ cond (sound_log (sizes_at s).log_slots l) (over delivery.form (records_of (sizes_at s).log_slots l) out) out → l' ≡ cond (sound_log (sizes_at s).log_slots l) (cleared_at l) l
+        → DoesDrain s l l' (record { number = 0; records = k; forced = f; tallies = ts }) out out'
+    unfolding DoesDrain
+    drain_done k f ts l' out' ef et ek eo el = λ T.
         let same = q ∙ drain_number_lem T in
-        let still = reply.silenced (lend_log T s l) (drain_call out) r same h in
-        (e ∙ ap drained_of (sym still), reply.stays (lend_log T s l) (drain_call out) r same h, sym (ap (λ (a : Reply). output_of a.answer ++ drop (length (output_of a.answer)) out) still))
-
-    module _ (h : r ≡ 0) where
-      held : Held s l × ((sizes_at s).log_slots ≤ length out / delivery.width)
-      held = drain_held s l (length out / delivery.width) r q h
-
-      pub head_room : records_at ≤ length l
-      head_room = omega (arith, held.0.log.size)
-
-      pub setup_long : length s ≡ setup_width
-      setup_long = held.0.setup.size
-
-      pub drain_room : ((sizes_at s).log_slots ≤ most) × (size_of (sizes_at s).log_slots ≤ length l) × ((sizes_at s).log_slots * delivery.width ≤ length out)
-      drain_room =
-          let o : (sizes_at s).log_slots * delivery.width ≤ length out / delivery.width * delivery.width = mul-le-mul_right delivery.width held.1 in
-          (held.0.setup.sizes.log_slots, omega (arith, held.0.log.size), omega (arith, o, div-mul-le_self (length out) delivery.width))
-
-      sound : sound_log (sizes_at s).log_slots l ≡ true
-      sound = log_sound (sizes_at s).log_slots l held.0.log.sound
-
-      copied : over delivery.form (records_of (sizes_at s).log_slots l) out
-          ≡ flat delivery.words (records_of (sizes_at s).log_slots l) ++ drop (length (flat delivery.words (records_of (sizes_at s).log_slots l))) out
-      unfolding over
-      copied = ap (λ (i : ℕ). flat delivery.words (records_of (sizes_at s).log_slots l) ++ drop i out) (sym (length_words delivery.form delivery-laws.exact (records_of (sizes_at s).log_slots l)))
-
-      many : length (records_of (sizes_at s).log_slots l) ≡ count_at 0 l
-      many = length_from (slot_at delivery.form (sizes_at s).log_slots 0 records_at l) (sizes_at s).log_slots (first_at 0 l) 0 (count_at 0 l)
-
-      pub drain_done : (k f : ℕ) (ts l' out' : List ℕ) → f ≡ get_or l forced_at 0 → ts ≡ tally_cells (tallies_of l) → k ≡ cond (sound_log (sizes_at s).log_slots l) (count_at 0 l) 0
-          → out' ≡ cond (sound_log (sizes_at s).log_slots l) (over delivery.form (records_of (sizes_at s).log_slots l) out) out → l' ≡ cond (sound_log (sizes_at s).log_slots l) (cleared_at l) l
-          → DoesDrain s l l' (record { number = 0; records = k; forced = f; tallies = ts }) out out'
-      unfolding DoesDrain
-      drain_done k f ts l' out' ef et ek eo el = λ T.
-          let same = sym h ∙ q ∙ drain_number_lem T in
-          let told = reply.answered (lend_log T s l) (drain_call out) 0 same refl in
-          let n : k ≡ length (records_of (sizes_at s).log_slots l) = ek ∙ ap (λ (b : Bool). cond b (count_at 0 l) 0) sound ∙ sym many in
-          let c : l' ≡ cleared_at l = el ∙ ap (λ (b : Bool). cond b (cleared_at l) l) sound in (
-            (λ j. record { number = 0; records = n j; forced = ef j; tallies = et j }) ∙ sym (ap drained_of told),
-            reply.steps (lend_log T s l) (drain_call out) 0 same refl ∙ ap (lend_log T s) (sym c),
-            eo ∙ ap (λ (b : Bool). cond b (over delivery.form (records_of (sizes_at s).log_slots l) out) out) sound ∙ copied
-                ∙ sym (ap (λ (a : Reply). output_of a.answer ++ drop (length (output_of a.answer)) out) told),
-          )
+        let told = reply.answered (lend_log T s l) (drain_call out) 0 same refl in
+        let n : k ≡ length (records_of (sizes_at s).log_slots l) = ek ∙ ap (λ (b : Bool). cond b (count_at 0 l) 0) sound ∙ sym many in
+        let c : l' ≡ cleared_at l = el ∙ ap (λ (b : Bool). cond b (cleared_at l) l) sound in (
+          (λ j. record { number = 0; records = n j; forced = ef j; tallies = et j }) ∙ sym (ap drained_of told),
+          reply.steps (lend_log T s l) (drain_call out) 0 same refl ∙ ap (lend_log T s) (sym c),
+          eo ∙ ap (λ (b : Bool). cond b (over delivery.form (records_of (sizes_at s).log_slots l) out) out) sound ∙ copied
+              ∙ sym (ap (λ (a : Reply). output_of a.answer ++ drop (length (output_of a.answer)) out) told),
+        )
 
 -- ---- The tally
 
-module _ (s l : List ℕ) (class r : ℕ) (q : r ≡ tally_number s l class) where
+module _ (s l : List ℕ) (class : ℕ) where
   tally_number_lem : (T : Tables) → tally_number s l class ≡ (call_reply (lend_log T s l) (tally_call class)).number
   unfolding tally_number log_lent setup_held log_held
   tally_number_lem T = refl
 
-  pub tally_refused : (v : Tallied) → v ≡ no_tallies r → (r ≡ 0 → ⊥) → DoesTally s l class v
+  pub tally_refused : (e : Refusal) → number_of e ≡ tally_number s l class → DoesTally s l class (no_tallies (number_of e))
   unfolding DoesTally
-  tally_refused v e h = λ T.
-      let same = q ∙ tally_number_lem T in
-      (e ∙ ap tallied_of (sym (reply.silenced (lend_log T s l) (tally_call class) r same h)), reply.stays (lend_log T s l) (tally_call class) r same h)
+  tally_refused e q = λ T.
+      let same = q ∙ tally_number_lem T in (
+        ap tallied_of (sym (reply.silenced (lend_log T s l) (tally_call class) (number_of e) same (number_not_0 e))),
+        reply.stays (lend_log T s l) (tally_call class) (number_of e) same (number_not_0 e),
+      )
 
-  module _ (h : r ≡ 0) where
+  module _ (q : 0 ≡ tally_number s l class) where
     pub tally_room : records_at ≤ length l
-    tally_room = omega (arith, (tally_held s l class r q h).log.size)
+    tally_room = omega (arith, (tally_held s l class 0 q refl).log.size)
 
     pub tally_done : (t : Tally) → t ≡ tally_at l class → DoesTally s l class (record { number = 0; deliveries = t.deliveries; bytes = t.bytes })
     unfolding DoesTally tally_at
     tally_done t e = λ T.
-        let same = sym h ∙ q ∙ tally_number_lem T in (
+        let same = q ∙ tally_number_lem T in (
           ap (λ (x : Tally). tallied_of (record { number = 0; answer = tallied x })) e ∙ sym (ap tallied_of (reply.answered (lend_log T s l) (tally_call class) 0 same refl)),
           reply.steps (lend_log T s l) (tally_call class) 0 same refl,
         )

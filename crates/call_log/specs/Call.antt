@@ -1,5 +1,7 @@
 -- Document 01, network (the delivery log), with questions 1 and 5: THE CONTRACTS of drain and tally_of. Of the tables `setup` and `log` are lent; the others hold whatever they hold, and stay.
-use Rattle.std.specs.Prelude.{Bool, true, cond, ◌&&◌, List, ℕ, ◌*◌, ◌/◌, leb, ltb, length, replicate}
+use Rattle.std.specs.Prelude.{Bool, true, cond, ◌&&◌, List, ℕ, ◌*◌, ◌/◌, leb, ltb, length, replicate, Result, Ok, Err}
+use Rattle.ask_refusal.specs.declared.Refusal.{Refusal}
+use Rattle.ask_refusal.specs.Refusals.{number_of}
 use Rattle.table_rows.specs.Rows.{flat}
 use Rattle.table_delivery.specs.Delivery as delivery
 use Rattle.table_log.specs.declared.Tally.{Tally}
@@ -11,6 +13,7 @@ use Rattle.spec_network.specs.Writes.{Reply}
 use Rattle.spec_network.specs.Contract.{Does, DoesOut}
 use Rattle.ask_tables.specs.Held.{setup_held, log_held}
 use Rattle.call_log.specs.declared.Drained.{Drained}
+use Rattle.call_log.specs.declared.Emptied.{Emptied}
 use Rattle.call_log.specs.declared.Tallied.{Tallied}
 
 -- ---- The replies
@@ -75,3 +78,13 @@ no_drain n = record { number = n; records = 0; forced = 0; tallies = no_cells }
 
 abbrev pub no_tallies : ℕ → Tallied
 no_tallies n = record { number = n; deliveries = 0; bytes = 0 }
+
+-- ---- What C is answered, by a call's result
+
+abbrev pub drained_reply : Result Emptied Refusal → Drained
+drained_reply (Ok e) = record { number = 0; records = e.records; forced = e.forced; tallies = e.tallies }
+drained_reply (Err e) = no_drain (number_of e)
+
+abbrev pub tallied_reply : Result Tally Refusal → Tallied
+tallied_reply (Ok t) = record { number = 0; deliveries = t.deliveries; bytes = t.bytes }
+tallied_reply (Err e) = no_tallies (number_of e)

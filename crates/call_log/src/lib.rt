@@ -2,8 +2,12 @@
 #![tactic(auto)]
 
 ghost use Rattle.std.specs.Prelude.{◌≡◌, ◌≤◌, length};
+ghost use Rattle.ask_refusal.specs.Refusals.{asked};
 ghost use Rattle.table_log.specs.Log.{records_at, tallies_of};
-ghost use Rattle.call_log.specs.Call.{DoesDrain, DoesTally, log_lent, drain_number, tally_number, no_drain, no_tallies, tally_cells};
+ghost use Rattle.call_log.specs.Call.{DoesDrain, DoesTally, log_lent, drain_number, tally_number, drained_reply, tallied_reply, tally_cells};
+
+use ask_refusal::Refusal;
+use table_log::Tally;
 
 // Deliveries and bytes of each of the eight classes.
 pub const TALLY_CELLS: usize = 16;
@@ -11,8 +15,15 @@ pub const TALLY_CELLS: usize = 16;
 // Where they stand in the log: before the records.
 const TALLIES: usize = table_log::RECORDS - TALLY_CELLS;
 
-// The number of the question that refused the call, or 0; how many records were copied out, how many the capacity had forced out, and
-// the tallies: deliveries and bytes of class 0, of class 1, and so on.
+// How many records were copied out, how many the capacity had forced out, and the tallies: deliveries and bytes of class 0, of class 1, and so on.
+#[derive(Clone, Copy)]
+pub struct Emptied {
+    pub records: u64,
+    pub forced: u64,
+    pub tallies: [u64; TALLY_CELLS],
+}
+
+// A drain as C gets it: first the number of the question that refused the call, or 0.
 #[repr(C)]
 #[derive(Clone, Copy)]
 pub struct Drained {
@@ -22,7 +33,7 @@ pub struct Drained {
     pub tallies: [u64; TALLY_CELLS],
 }
 
-// Deliveries and bytes of a class.
+// Deliveries and bytes of a class, as C gets them.
 #[repr(C)]
 #[derive(Clone, Copy)]
 pub struct Tallied {
@@ -31,52 +42,83 @@ pub struct Tallied {
     pub bytes: u64,
 }
 
+impl From<Result<Emptied, Refusal>> for Drained {
+    ghost from_gives = { λ r d. d ≡ drained_reply r };
+
+    // A refusal answers its number, and zeros.
+    fn from(outcome: Result<Emptied, Refusal>) -> Drained {
+        match outcome {
+            Ok(emptied) => {
+                let tallies = emptied.tallies;
+                Drained {
+                    number: 0,
+                    records: emptied.records,
+                    forced: emptied.forced,
+                    tallies,
+                }
+            }
+            Err(refusal) => Drained {
+                number: refusal.number(),
+                records: 0,
+                forced: 0,
+                tallies: [0; TALLY_CELLS],
+            },
+        }
+    }
+}
+
+impl From<Result<Tally, Refusal>> for Tallied {
+    ghost from_gives = { λ r t. t ≡ tallied_reply r };
+
+    // A refusal answers its number, and zeros.
+    fn from(outcome: Result<Tally, Refusal>) -> Tallied {
+        match outcome {
+            Ok(tally) => Tallied {
+                number: 0,
+                deliveries: tally.deliveries,
+                bytes: tally.bytes,
+            },
+            Err(refusal) => Tallied {
+                number: refusal.number(),
+                deliveries: 0,
+                bytes: 0,
+            },
+        }
+    }
+}
+
 // Question 1.
+#[tactic(auto, unfolding(crate::specs::Call::log_lent))]
 fn lent(setup: &[u64], log: &[u64]) -> bool
     ensures { result ≡ log_lent setup.now log.now }
 {
-    if !ask_tables::setup_held(setup) {
-        return false;
-    }
-    ask_rows::log_held(setup, log)
+    ask_tables::setup_held(setup) && ask_rows::log_held(setup, log)
 }
 
 // Question 1, also of an output that is shorter than the log's capacity.
-fn drain_refusal(setup: &[u64], log: &[u64], rows: usize) -> u64
-    ensures { result ≡ drain_number setup.now log.now rows }
+fn drain_refusal(setup: &[u64], log: &[u64], rows: usize) -> Result<(), Refusal>
+    ensures { asked result ≡ drain_number setup.now log.now rows }
 {
     if !lent(setup, log) {
-        return 1;
+        return Err(Refusal::Tables);
     }
     if (rows as u64) < ask_tables::cell(setup, ask_tables::LOG_SLOTS) {
-        return 1;
+        return Err(Refusal::Tables);
     }
-    0
+    Ok(())
 }
 
 // Questions 1 and 5.
-fn tally_refusal(setup: &[u64], log: &[u64], class: u64) -> u64
-    ensures { result ≡ tally_number setup.now log.now «class» }
+fn tally_refusal(setup: &[u64], log: &[u64], class: u64) -> Result<(), Refusal>
+    ensures { asked result ≡ tally_number setup.now log.now «class» }
 {
     if !lent(setup, log) {
-        return 1;
+        return Err(Refusal::Tables);
     }
     if ask_tables::cell(setup, ask_tables::CLASSES) <= class {
-        return 5;
+        return Err(Refusal::Range);
     }
-    0
-}
-
-// The reply of a drain that was refused.
-fn refused(number: u64) -> Drained
-    ensures { result ≡ no_drain number }
-{
-    Drained {
-        number,
-        records: 0,
-        forced: 0,
-        tallies: [0; TALLY_CELLS],
-    }
+    Ok(())
 }
 
 // Deliveries and bytes of each class, as the log holds them.
@@ -89,54 +131,31 @@ fn tallies(log: &[u64]) -> [u64; TALLY_CELLS]
     v
 }
 
-// The reply of a tally that was refused.
-fn untold(number: u64) -> Tallied
-    ensures { result ≡ no_tallies number }
-{
-    Tallied {
-        number,
-        deliveries: 0,
-        bytes: 0,
-    }
-}
-
 // The records, oldest first, to the front of out, and the tallies; then the log is empty.
-pub fn drain(setup: &[u64], log: &mut [u64], out: &mut [u64]) -> Drained
+pub fn drain(setup: &[u64], log: &mut [u64], out: &mut [u64]) -> Result<Emptied, Refusal>
     ensures { DoesDrain
         setup.now log.old
         log.new
-        result
+        (drained_reply result)
         out.old out.new }
 {
-    let number = drain_refusal(setup, log, out.len() / table_delivery::WIDTH);
-    if number != 0 {
-        return refused(number);
-    }
+    drain_refusal(setup, log, out.len() / table_delivery::WIDTH)?;
     let forced = table_log::forced(log);
     let tallies = tallies(log);
     let records = table_log::drain(log, setup[ask_tables::LOG_SLOTS] as usize, out);
-    Drained {
-        number: 0,
+    Ok(Emptied {
         records,
         forced,
         tallies,
-    }
+    })
 }
 
 // Deliveries and bytes of a class since the log was last drained.
-pub fn tally_of(setup: &[u64], log: &[u64], class: u64) -> Tallied
+pub fn tally_of(setup: &[u64], log: &[u64], class: u64) -> Result<Tally, Refusal>
     ensures { DoesTally
         setup.now log.now
-        «class» result }
+        «class» (tallied_reply result) }
 {
-    let number = tally_refusal(setup, log, class);
-    if number != 0 {
-        return untold(number);
-    }
-    let t = table_log::class_tally(log, class);
-    Tallied {
-        number: 0,
-        deliveries: t.deliveries,
-        bytes: t.bytes,
-    }
+    tally_refusal(setup, log, class)?;
+    Ok(table_log::class_tally(log, class))
 }

@@ -9,6 +9,9 @@ use native.Mathlib.Numerals.{add-one}
 use lib.Dec.{eqb}
 use lib.ListN.{length, get_or, take, drop, set, length-set, length-take}
 use lib.Seq.{paste, take-paste, take-length, take-suc-set}
+use Rattle.std.proofs.lemmas.Slice.{put_mid-paste}
+use Rattle.std.proofs.lemmas.List.Edits.{length-paste}
+use borrow.Rule.Slice.PartMut.{put_mid}
 use Rattle.hash_digest.specs.Blake3.{hash, longest}
 use Rattle.spec_network.specs.Opening.{global}
 use Rattle.spec_network.specs.Tables.{cell, name_at, shard_at, text_at}
@@ -19,8 +22,12 @@ use Rattle.call_message.specs.Message.{longest_head, id_in}
 pub text_short : (names : List ℕ) (i n : ℕ) → cell names i ≤ n → length (text_at names i) ≤ n
 text_short names i n h = omega (arith, length-take (cell names i) (drop (suc i) names))
 
-pub text_is : (names : List ℕ) (i n : ℕ) (b t : List ℕ) → n ≡ cell names i → b ≡ drop (i + 1) names → t ≡ take n b → t ≡ text_at names i
-text_is names i n b t p q r = r ∙ ap₂ take p (q ∙ ap (λ (k : ℕ). drop k names) (add-one i))
+pub text_is : (names : List ℕ) (i : ℕ) (t : List ℕ) → t ≡ take (cell names i) (drop (i + 1) names) → t ≡ text_at names i
+text_is names i t e = e ∙ ap (λ (k : ℕ). take (cell names i) (drop k names)) (add-one i)
+
+-- a copy to the front keeps the length
+pub length_put : (d s v : List ℕ) (k : ℕ) → v ≡ s → length s ≡ k → length s ≤ length d → length (put_mid 0 k d v) ≡ length d
+length_put d s v k e f h = ap length (put_mid-paste 0 k d v s (length s) e f refl) ∙ length-paste d 0 s (length s) (omega arith) (le_refl (length s))
 
 -- what is put after the bytes p stands after p
 pub step : (d p s : List ℕ) (at : ℕ) → take at d ≡ p → at + length s ≤ length d → take (at + length s) (paste d at s (length s)) ≡ p ++ s

@@ -2,13 +2,12 @@
 use Prim.Native.Nat.{ℕ}
 use mathlib.Core.Path.{◌≡◌, refl, sym, ap, ◌∙◌}
 use mathlib.Core.Bool.{Bool, true, false}
+use Rattle.std.specs.Prelude.{Option, Some, None}
 use mathlib.Core.List.{List}
 use Rattle.rand_streams.specs.declared.Cursor.{Cursor}
-use Rattle.rand_draw.specs.declared.Hit.{Hit}
-use Rattle.link_latency.specs.declared.Sample.{Sample}
 use Rattle.link_geography.specs.Geography.{Stands}
 use Rattle.fault_rules.specs.Rules.{rules_of}
-use Rattle.fault_decide.specs.Decide.{Decision, decide_of}
+use Rattle.fault_decide.specs.Decide.{Decision, decision, decide_of}
 use Rattle.link_draws.specs.Drawing.{Struck, Delayed, delay_draw}
 use Rattle.spec_network.specs.Opening.{Draw, Settings, link}
 use Rattle.spec_network.specs.Live.{Live, Carried, marked, stopped}
@@ -68,51 +67,51 @@ module _ (T : Tables) (m : accept.Message) (t : ℕ) where
   is_partition h k = class_by false true _ _ h k refl refl
 
   module _ (free : marked s t m.id ≡ false) (going : stopped s m.from t m.now ≡ false) (start : Cursor) (st : Stands key (cell T.words (link m.from t)) start)
-      (l : Hit) (hl : Struck x.config.loss start l) where
-    loss_value : d.loss.value ≡ l.hit
+      (hit : Bool) (c₁ : Cursor) (hl : Struck x.config.loss start hit c₁) where
+    loss_value : d.loss.value ≡ hit
     loss_value = ap (λ (q : Draw Bool). q.value) loss_is ∙ sym (hl.hits ∙ (λ j. (chance (st.key j) x.config.loss (st.count j)).value))
 
-    loss_words : d.loss.words ≡ l.next.count
+    loss_words : d.loss.words ≡ c₁.count
     loss_words = ap (λ (q : Draw Bool). q.words) loss_is ∙ sym (hl.words ∙ (λ j. (chance (st.key j) x.config.loss (st.count j)).words))
 
-    pub is_loss : l.hit ≡ true → Answers (opening_at T) m s t (Loss l.next.count)
+    pub is_loss : hit ≡ true → Answers (opening_at T) m s t (Loss c₁.count)
     unfolding Answers
     is_loss h = (class_by false false true _ free going (loss_value ∙ h) refl, loss_words)
 
-    module _ (past : l.hit ≡ false) (a : Sample) (ha : Delayed x T.prices m.from t m.wire l.next a)
-        (v : Ruling) (hv : decision_in v ≡ decide_of (fault_key_of x.fault_key) (context (opening_at T) m t) (rules_of T.rules (cell T.net rules_at)) (cell T.net fault_words_at)) where
-      same_key : l.next.key ≡ key
+    module _ (past : hit ≡ false) (latency : ℕ) (c₂ : Cursor) (ha : Delayed x T.prices m.from t m.wire c₁ latency c₂)
+        (v : Ruling) (hv : decision_in (cell T.net rules_at) v ≡ decide_of (fault_key_of x.fault_key) (context (opening_at T) m t) (rules_of T.rules (cell T.net rules_at)) (cell T.net fault_words_at)) where
+      same_key : c₁.key ≡ key
       same_key = hl.key ∙ st.key
 
-      latency_value : d.latency.value ≡ a.latency.ns
+      latency_value : d.latency.value ≡ latency
       latency_value = ap (λ (q : Draw ℕ). q.value) latency_is ∙ sym (ha.is ∙ (λ j. (delay_draw x T.prices m.from t m.wire (same_key j) (sym loss_words j)).value))
 
-      latency_words_fit : d.latency.words ≡ a.next.count
+      latency_words_fit : d.latency.words ≡ c₂.count
       latency_words_fit = ap (λ (q : Draw ℕ). q.words) latency_is ∙ sym (ha.words ∙ (λ j. (delay_draw x T.prices m.from t m.wire (same_key j) (sym loss_words j)).words))
 
-      verdict : d.verdict ≡ decision_in v
-      verdict = verdict_is ∙ sym hv
+      verdict : (p : Option ℕ) → v.place ≡ p → d.verdict ≡ decision p (cell T.net rules_at) v.words
+      verdict p e = verdict_is ∙ sym hv ∙ ap (λ (q : Option ℕ). decision q (cell T.net rules_at) v.words) e
 
-      pub is_fault : v.drops ≡ true → Answers (opening_at T) m s t (Fault (record { words = a.next.count; fault = v.words; place = v.place }))
+      pub is_fault : (place : ℕ) → v.place ≡ Some place → Answers (opening_at T) m s t (Fault (record { words = c₂.count; fault = v.words; place = place }))
       unfolding Answers
-      is_fault h = (
-        class_by false false false true free going (loss_value ∙ past) (ap (λ (q : Decision). q.drops) verdict ∙ h),
+      is_fault place h = (
+        class_by false false false true free going (loss_value ∙ past) (ap (λ (q : Decision). q.drops) (verdict _ h)),
         latency_words_fit,
-        verdict ∙ ap (λ (b : Bool). record { drops = b; place = v.place; words = v.words }) h,
+        verdict _ h,
       )
 
-      pub is_sent : v.drops ≡ false → (ring : List Carried) → ring_for s m ≡ ring → (e : Echoes) → Echoed m t (echoes_of (keyed x T.prices a.next.key) m t ring a.next.count) e
-          → Answers (opening_at T) m s t (Sent (record { latency = a.latency.ns; echoes = e; fault = v.words }))
+      pub is_sent : v.place ≡ None → (ring : List Carried) → ring_for s m ≡ ring → (e : Echoes) → Echoed m t (echoes_of (keyed x T.prices c₂.key) m t ring c₂.count) e
+          → Answers (opening_at T) m s t (Sent (record { latency = latency; echoes = e; fault = v.words }))
       unfolding Answers
       is_sent h ring rq e he =
-          let same : echoes_of (keyed x T.prices a.next.key) m t ring a.next.count ≡ d.echoes =
+          let same : echoes_of (keyed x T.prices c₂.key) m t ring c₂.count ≡ d.echoes =
           sym (echoes_are ∙ ap (λ (r : List Carried). echoes_of (opening_at T) m t r d.latency.words) rq ∙ echoes_by ring d.latency.words
           ∙ (λ j. echoes_of (keyed x T.prices (sym (ha.key ∙ same_key) j)) m t ring (latency_words_fit j))) in (
-            class_by false false false false free going (loss_value ∙ past) (ap (λ (q : Decision). q.drops) verdict ∙ h),
+            class_by false false false false free going (loss_value ∙ past) (ap (λ (q : Decision). q.drops) (verdict _ h)),
             record {
               latency = latency_value;
-              passed = ap (λ (q : Decision). q.drops) verdict ∙ h;
-              words = ap (λ (q : Decision). q.words) verdict;
+              passed = ap (λ (q : Decision). q.drops) (verdict _ h);
+              words = ap (λ (q : Decision). q.words) (verdict _ h);
               echoes = record {
                 all = ap (λ (q : accept.Echoes). q.all) (sym same) ∙ he.all;
                 words = ap (λ (q : accept.Echoes). q.words) (sym same) ∙ he.words;

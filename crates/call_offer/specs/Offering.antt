@@ -1,14 +1,11 @@
 -- Document 01, 'The book', Accept: what an offer says, the class of one recipient, and the draws that count for it, as `Accept` has them.
-use Rattle.std.specs.Prelude.{ℕ, ◌+◌, ◌*◌, ◌≤◌, ◌≡◌, Bool, true, false, cond, not, ◌&&◌, ◌||◌, List, [], ◌∷◌, ◌++◌, eqb}
+use Rattle.std.specs.Prelude.{ℕ, ◌+◌, ◌*◌, ◌≤◌, ◌≡◌, Bool, true, false, not, ◌&&◌, ◌||◌, List, [], ◌∷◌, ◌++◌, eqb, Option, Some, None, IfSome}
 use Rattle.std.specs.Float.Ieee.{lt}
 use Rattle.math_float.specs.Float.{zero64}
 use Rattle.rand_streams.specs.declared.Cursor.{Cursor}
-use Rattle.rand_streams.specs.Streams.{Holds}
 use Rattle.rand_draw.specs.Draw.{whole32_at, words32_at}
-use Rattle.link_latency.specs.declared.Sample.{Sample}
 use Rattle.link_latency.specs.Latency.{longest}
-use Rattle.fault_decide.specs.Decide.{Decision, decide_of}
-use Rattle.table_rings.specs.Rings.{none}
+use Rattle.fault_decide.specs.Decide.{Decision, decision, decide_of}
 use Rattle.link_draws.specs.Drawing.{delay_draw}
 use Rattle.call_stopped.specs.Stopped.{stopped_by}
 use Rattle.spec_network.specs.Lending.{lend_draws, lend_offer}
@@ -19,9 +16,9 @@ use Rattle.spec_network.specs.Limits.{rate_of}
 use Rattle.spec_network.specs.Tables.{cell, Tables, live, sizes_at, till_form, blocks_at}
 use Rattle.spec_network.specs.Real.{chance, fault_key_of, id_of, opening_at}
 use Rattle.spec_network.specs.Accept as accept
-use Rattle.spec_network.specs.Accept.{Drawn, drawn, Timed, duplicate_of, replay_of, carried_of, deduplicated, partition, loss, fault, sent, fate_of}
+use Rattle.spec_network.specs.Accept.{Drawn, drawn, duplicate_of, replay_of, deduplicated, partition, loss, fault, sent, fate_of}
 use Rattle.call_offer.specs.declared.Outgoing.{Outgoing}
-use Rattle.call_offer.specs.declared.Replay.{Replay}
+use Rattle.call_offer.specs.declared.Echo.{Echo}
 use Rattle.call_offer.specs.declared.Echoes.{Echoes}
 use Rattle.call_offer.specs.declared.Sending.{Sending}
 use Rattle.call_offer.specs.declared.Ruling.{Ruling}
@@ -60,47 +57,53 @@ keyed x prices key = record {
   };
 }
 
--- a latency that is drawn where there is an echo
-pub record DelayedIf (hit : Bool) (d : Draw ℕ) (c : Cursor) (r : Sample) : Type 0 where
-  pub is : r.latency.ns ≡ cond hit d.value 0
-  pub words : r.next.count ≡ cond hit d.words c.count
-  pub key : r.next.key ≡ c.key
-  pub holds : Holds r.next
-  pub few : r.next.count ≤ c.count + 6
-  pub below : r.latency.ns ≤ longest
+-- what is echoed of an entry that may not be there
+abbrev pub whats_in : (Carried → accept.Echoed) → Option Carried → List accept.Echoed
+whats_in what (Some e) = what e ∷ []
+whats_in what None = []
 
--- the replay draw, and what it echoes
-pub record Replays (d : Draw (List accept.Echoed)) (c : Cursor) (r : Replay) : Type 0 where
-  pub is : cond r.hit (replay_of r.old ∷ []) [] ≡ d.value
-  pub words : r.next.count ≡ d.words
-  pub key : r.next.key ≡ c.key
-  pub holds : Holds r.next
-  pub few : r.next.count ≤ c.count + 4
-  pub short : r.old.wire ≤ longest_wire
+-- an echo with a latency that its entry determines, and a word count that it determines, or the one before
+abbrev pub echo_by : Option Carried → (Carried → ℕ) → Option Echo
+echo_by (Some e) latency = Some (record { entry = e; latency = latency e })
+echo_by None latency = None
 
--- an echo of the message, and one of the ring's
-abbrev pub doubled : accept.Message → (latency : ℕ) → Timed
-doubled m latency = record { what = duplicate_of (carried_of m); latency = latency }
+abbrev pub words_by : Option Carried → (Carried → ℕ) → ℕ → ℕ
+words_by (Some e) words w = words e
+words_by None words w = w
 
-abbrev pub replayed_as : Carried → (latency : ℕ) → Timed
-replayed_as old latency = record { what = replay_of old; latency = latency }
+-- an echo's latency, drawn where there is an echo
+pub record Timed (x : Settings) (prices : List ℕ) (from to : ℕ) (entry : Option Carried) (c : Cursor) (r : Option Echo) (next : Cursor) : Type 0 where
+  pub is : r ≡ echo_by entry (λ e. (delay_draw x prices from to e.wire c.key c.count).value)
+  pub words : next.count ≡ words_by entry (λ e. (delay_draw x prices from to e.wire c.key c.count).words) c.count
+  pub key : next.key ≡ c.key
+  pub few : next.count ≤ c.count + 6
+  pub below : IfSome r (λ e. e.latency ≤ longest)
 
--- the echoes, duplicate first
-abbrev pub echoes_in : accept.Message → Echoes → List Timed
-echoes_in m e = cond e.duplicate.some (doubled m e.duplicate.latency ∷ []) [] ++ cond e.replay.some (replayed_as e.old e.replay.latency ∷ []) []
+-- the replay draw, and the entry that it echoes
+pub record Replays (d : Draw (List accept.Echoed)) (c : Cursor) (old : Option Carried) (next : Cursor) : Type 0 where
+  pub is : whats_in replay_of old ≡ d.value
+  pub words : next.count ≡ d.words
+  pub key : next.key ≡ c.key
+  pub few : next.count ≤ c.count + 4
+  pub short : IfSome old (λ e. e.wire ≤ longest_wire)
 
-abbrev pub no_echoes : ℕ → Echoes
-no_echoes words = record { duplicate = record { some = false; latency = 0 }; replay = record { some = false; latency = 0 }; old = none; words = words }
+-- an echo as `Accept` has it, and the echoes, duplicate first
+abbrev pub timed_as : (Carried → accept.Echoed) → Option Echo → List accept.Timed
+timed_as what (Some e) = record { what = what e.entry; latency = e.latency } ∷ []
+timed_as what None = []
+
+abbrev pub echoes_in : Echoes → List accept.Timed
+echoes_in e = timed_as duplicate_of e.duplicate ++ timed_as replay_of e.replay
 
 pub record Echoed (m : accept.Message) (t : ℕ) (d : accept.Echoes) (e : Echoes) : Type 0 where
-  pub all : d.all ≡ echoes_in m e
+  pub all : d.all ≡ echoes_in e
   pub words : d.words ≡ e.words
-  pub first : e.duplicate.latency ≤ longest
-  pub second : e.replay.latency ≤ longest
+  pub first : IfSome e.duplicate (λ q. q.latency ≤ longest)
+  pub second : IfSome e.replay (λ q. q.latency ≤ longest)
 
--- the decision of the rules
-abbrev pub decision_in : Ruling → Decision
-decision_in v = record { drops = v.drops; place = v.place; words = v.words }
+-- the decision of so many rules
+abbrev pub decision_in : ℕ → Ruling → Decision
+decision_in n v = decision v.place n v.words
 
 -- ---- The offer
 

@@ -1,12 +1,11 @@
 // What becomes of a message at one recipient: decided from the tables, which stay as they are.
 #![tactic(auto)]
 
-ghost use Rattle.std.specs.Prelude.{◌≡◌, false, List, ℕ, ◌+◌, ◌*◌, ◌^◌, ◌<◌, ◌≤◌, length};
-ghost use Rattle.rand_streams.specs.Streams.{Holds};
+ghost use Rattle.std.specs.Prelude.{◌≡◌, IfSome, List, ℕ, ◌+◌, ◌*◌, ◌^◌, ◌<◌, ◌≤◌, length};
 ghost use Rattle.table_marks.specs.Marks.{found, ids_of};
-ghost use Rattle.table_rings.specs.Rings.{entries, number_of, none};
+ghost use Rattle.table_rings.specs.Rings.{entries, number_of};
 ghost use Rattle.fault_blocks.specs.Blocks.{block_width};
-ghost use Rattle.link_draws.specs.Drawing.{Sent, delay_draw};
+ghost use Rattle.link_draws.specs.Drawing.{Sent};
 ghost use Rattle.spec_network.specs.Opening.{most_types, most_words, global, link};
 ghost use Rattle.spec_network.specs.Live.{rings_of};
 ghost use Rattle.spec_network.specs.Accept.{replayed, echoes_of};
@@ -15,10 +14,8 @@ ghost use Rattle.fault_decide.specs.Decide.{decide_of};
 ghost use Rattle.spec_network.specs.Real.{fault_key_of};
 ghost use Rattle.spec_network.specs.Tables.{cell, sizes_at, settings_at, till_form, ids_start, setup_width, blocks_at, net_width, rules_at, fault_words_at};
 ghost use Rattle.call_offer.specs.Needed.{Fixed, Ranged, RingsHeld, SeenHeld, State, Rulable, Drawable};
-ghost use Rattle.call_offer.specs.Offering.{as_message, selects_at, stopped_at, echoing_at, keyed, DelayedIf, Replays, no_echoes, Echoed, decision_in, Draws, Offers};
+ghost use Rattle.call_offer.specs.Offering.{as_message, selects_at, stopped_at, echoing_at, keyed, Timed, Replays, Echoed, decision_in, Draws, Offers};
 
-use link_latency::Sample;
-use math_time::Time;
 use rand_streams::Cursor;
 use table_rings::Entry;
 
@@ -36,27 +33,34 @@ pub struct Outgoing {
     pub tag: u64,
 }
 
-// A replay draw, and the entry that it picks from the ring.
-#[derive(Clone, Copy)]
-pub struct Replay {
-    pub hit: bool,
-    pub old: Entry,
-    pub next: Cursor,
+impl Outgoing {
+    ghost use Rattle.spec_network.specs.Accept.{carried_of};
+    ghost use Rattle.call_offer.specs.Offering.{as_message};
+
+    // What a copy of it carries, and what the ring keeps of it.
+    pub fn entry(self) -> Entry
+        ensures { result ≡ carried_of (as_message self) }
+    {
+        Entry {
+            class: self.class,
+            wire: self.wire,
+            tag: self.tag,
+        }
+    }
 }
 
-// Whether there is an echo, and its latency.
+// What is echoed, and the latency of its copy.
 #[derive(Clone, Copy)]
 pub struct Echo {
-    pub some: bool,
+    pub entry: Entry,
     pub latency: u64,
 }
 
 // The echoes of a copy that is sent, and the link's word count after them.
 #[derive(Clone, Copy)]
 pub struct Echoes {
-    pub duplicate: Echo,
-    pub replay: Echo,
-    pub old: Entry,
+    pub duplicate: Option<Echo>,
+    pub replay: Option<Echo>,
     pub words: u64,
 }
 
@@ -76,11 +80,10 @@ pub struct Sending {
     pub fault: u64,
 }
 
-// What the rules say: whether one drops the message, its place, and the fault stream's word count.
+// The place of the rule that drops the message, if one does, and the fault stream's word count.
 #[derive(Clone, Copy)]
 pub struct Ruling {
-    pub drops: bool,
-    pub place: usize,
+    pub place: Option<usize>,
     pub words: u64,
 }
 
@@ -143,88 +146,44 @@ pub fn echoing(setup: &[u64]) -> bool
     link_draws::rate(setup, ask_tables::REPLAY) > 0.0
 }
 
-fn no_replay(next: Cursor) -> Replay
-    ensures { (result.hit ≡ false) × (result.old ≡ none) × (result.next ≡ next) }
+// The replay draw, then the place in the ring, which is drawn only after a hit on a ring that isn't empty: the entry there.
+fn replayed(setup: &[u64], rings: &[u64], m: Outgoing, to: usize, c: &mut Cursor) -> Option<Entry>
+    requires { (length setup.now ≡ setup_width) × RingsHeld (sizes_at setup.now) rings.now × Ranged setup.now m × ((sizes_at setup.now).types ≤ most_types) × (c.old.count + 3 < 2 ^ 63) }
+    ensures { (prices : List ℕ) → Replays (replayed (keyed (settings_at setup.now) prices c.old.key) (as_message m) to (entries (rings_of (sizes_at setup.now)) rings.now (number_of m.kind m.scope)) c.old.count) c.old result c.new }
 {
-    let old = Entry {
-        class: 0,
-        wire: 0,
-        tag: 0,
-    };
-    Replay {
-        hit: false,
-        old,
-        next,
-    }
-}
-
-// The replay draw, then the place in the ring, which is drawn only after a hit on a ring that isn't empty.
-fn replayed(setup: &[u64], rings: &[u64], m: Outgoing, to: usize, c: Cursor) -> Replay
-    requires { (length setup.now ≡ setup_width) × RingsHeld (sizes_at setup.now) rings.now × Ranged setup.now m × ((sizes_at setup.now).types ≤ most_types) × (c.count + 3 < 2 ^ 63) × Holds c }
-    ensures { (prices : List ℕ) → Replays (replayed (keyed (settings_at setup.now) prices c.key) (as_message m) to (entries (rings_of (sizes_at setup.now)) rings.now (number_of m.kind m.scope)) c.count) c result }
-{
-    let h = link_draws::chance(setup, ask_tables::REPLAY, c);
-    let next = h.next;
-    if !h.hit {
-        return no_replay(next);
+    if !link_draws::chance(setup, ask_tables::REPLAY, c) {
+        return None;
     }
     let many = setup[ask_tables::TYPES] as usize * table_rings::SCOPES;
     let ring = table_rings::number(m.kind as usize, m.scope as usize);
     let n = table_rings::count(rings, many, ring);
     if n == 0 {
-        return no_replay(next);
+        return None;
     }
-    let d = link_draws::index(next, n as u32);
-    let old = table_rings::get(rings, many, ring, d.value as usize);
-    let after = d.next;
-    Replay {
-        hit: true,
-        old,
-        next: after,
-    }
+    let i = link_draws::index(c, n as u32);
+    Some(table_rings::get(rings, many, ring, i as usize))
 }
 
-// An echo's latency, drawn where there is one.
-fn delay_if(
-    hit: bool,
+// An echo, whose latency is drawn where there is one.
+fn timed(
+    entry: Option<Entry>,
     setup: &[u64],
     prices: &[u64],
     from: usize,
     to: usize,
-    bytes: u64,
-    c: Cursor,
-) -> Sample
-    requires { Sent setup.now prices.now «from» to bytes × (c.count + 5 < 2 ^ 63) × Holds c }
-    ensures { DelayedIf hit (delay_draw (settings_at setup.now) prices.now «from» to bytes c.key c.count) c result }
+    c: &mut Cursor,
+) -> Option<Echo>
+    requires { IfSome entry (λ e. Sent setup.now prices.now «from» to e.wire) × (c.old.count + 5 < 2 ^ 63) }
+    ensures { Timed (settings_at setup.now) prices.now «from» to entry c.old result c.new }
 {
-    if hit {
-        return link_draws::delay(setup, prices, from, to, bytes, c);
-    }
-    Sample {
-        latency: Time::ZERO,
-        next: c,
-    }
-}
-
-fn no_echoes(words: u64) -> Echoes
-    ensures { result ≡ no_echoes words }
-{
-    Echoes {
-        duplicate: Echo {
-            some: false,
-            latency: 0,
-        },
-        replay: Echo {
-            some: false,
-            latency: 0,
-        },
-        old: Entry {
-            class: 0,
-            wire: 0,
-            tag: 0,
-        },
-        words,
-    }
+    let Some(entry) = entry else {
+        return None;
+    };
+    let latency = link_draws::delay(setup, prices, from, to, entry.wire, c);
+    Some(Echo {
+        entry,
+        latency: latency.ns,
+    })
 }
 
 // Duplicate draw, replay draw, ring index, then the echoes' latencies, duplicate first.
@@ -234,61 +193,45 @@ fn draw_echoes(
     rings: &[u64],
     m: Outgoing,
     to: usize,
-    c: Cursor,
+    c: &mut Cursor,
 ) -> Echoes
-    requires { Sent setup.now prices.now m.from to m.wire × RingsHeld (sizes_at setup.now) rings.now × Ranged setup.now m × ((sizes_at setup.now).types ≤ most_types) × (c.count + 32 < 2 ^ 63) × Holds c }
-    ensures { Echoed (as_message m) to (echoes_of (keyed (settings_at setup.now) prices.now c.key) (as_message m) to (entries (rings_of (sizes_at setup.now)) rings.now (number_of m.kind m.scope)) c.count) result }
+    requires { Sent setup.now prices.now m.from to m.wire × RingsHeld (sizes_at setup.now) rings.now × Ranged setup.now m × ((sizes_at setup.now).types ≤ most_types) × (c.old.count + 32 < 2 ^ 63) }
+    ensures { Echoed (as_message m) to (echoes_of (keyed (settings_at setup.now) prices.now c.old.key) (as_message m) to (entries (rings_of (sizes_at setup.now)) rings.now (number_of m.kind m.scope)) c.old.count) result }
 {
     if !echoing(setup) {
-        return no_echoes(c.count);
+        return Echoes {
+            duplicate: None,
+            replay: None,
+            words: c.count,
+        };
     }
-    let d = link_draws::chance(setup, ask_tables::DUPLICATE, c);
-    let first = d.next;
-    let p = replayed(setup, rings, m, to, first);
-    let second = p.next;
-    let old = p.old;
+    let doubles = link_draws::chance(setup, ask_tables::DUPLICATE, c);
+    let old = replayed(setup, rings, m, to, c);
     let from = m.from as usize;
-    let a = delay_if(d.hit, setup, prices, from, to, m.wire, second);
-    let third = a.next;
-    let b = delay_if(p.hit, setup, prices, from, to, old.wire, third);
-    let last = b.next;
-    let sooner = a.latency;
-    let later = b.latency;
+    let duplicate = timed(doubles.then_some(m.entry()), setup, prices, from, to, c);
+    let replay = timed(old, setup, prices, from, to, c);
     Echoes {
-        duplicate: Echo {
-            some: d.hit,
-            latency: sooner.ns,
-        },
-        replay: Echo {
-            some: p.hit,
-            latency: later.ns,
-        },
-        old,
-        words: last.count,
+        duplicate,
+        replay,
+        words: c.count,
     }
 }
 
 // The rules' decision. Where there are none, the fault stream is not looked at.
 fn decided(setup: &[u64], net: &[u64], rules: &[u64], x: fault_rule::MessageContext) -> Ruling
     requires { (length setup.now ≡ setup_width) × Rulable net.now rules.now }
-    ensures { decision_in result ≡ decide_of (fault_key_of (settings_at setup.now).fault_key) x (rules_of rules.now (cell net.now rules_at)) (cell net.now fault_words_at) }
+    ensures { decision_in (cell net.now rules_at) result ≡ decide_of (fault_key_of (settings_at setup.now).fault_key) x (rules_of rules.now (cell net.now rules_at)) (cell net.now fault_words_at) }
 {
     let n = net[ask_tables::RULES] as usize;
     let words = net[ask_tables::FAULT_WORDS];
     if n == 0 {
-        return Ruling {
-            drops: false,
-            place: 0,
-            words,
-        };
+        return Ruling { place: None, words };
     }
-    let f = link_draws::fault_at(setup, words);
-    let v = fault_decide::decide(rules, n, f, x);
-    let next = v.next;
+    let mut f = link_draws::fault_at(setup, words);
+    let place = fault_decide::decide(rules, n, &mut f, x);
     Ruling {
-        drops: v.drops,
-        place: v.place,
-        words: next.count,
+        place,
+        words: f.count,
     }
 }
 
@@ -308,21 +251,17 @@ fn drawn(
     ensures { Draws setup.now net.now words.now keys.now prices.now rings.now rules.now m to result }
 {
     let from = m.from as usize;
-    let start = link_draws::link_at(
+    let mut c = link_draws::link_at(
         keys,
         setup[ask_tables::TILLS] as usize,
         from,
         to,
         words[from * ask_tables::LINK_ROW + to],
     );
-    let l = link_draws::chance(setup, ask_tables::LOSS, start);
-    let first = l.next;
-    if l.hit {
-        return Offer::Loss(first.count);
+    if link_draws::chance(setup, ask_tables::LOSS, &mut c) {
+        return Offer::Loss(c.count);
     }
-    let d = link_draws::delay(setup, prices, from, to, m.wire, first);
-    let second = d.next;
-    let latency = d.latency;
+    let latency = link_draws::delay(setup, prices, from, to, m.wire, &mut c);
     let x = fault_rule::MessageContext {
         kind: m.kind,
         from: m.from,
@@ -331,18 +270,19 @@ fn drawn(
         now: m.now,
     };
     let v = decided(setup, net, rules, x);
-    if v.drops {
+    let fault = v.words;
+    if let Some(place) = v.place {
         return Offer::Fault(Faulted {
-            words: second.count,
-            fault: v.words,
-            place: v.place,
+            words: c.count,
+            fault,
+            place,
         });
     }
-    let e = draw_echoes(setup, prices, rings, m, to, second);
+    let echoes = draw_echoes(setup, prices, rings, m, to, &mut c);
     Offer::Sent(Sending {
         latency: latency.ns,
-        echoes: e,
-        fault: v.words,
+        echoes,
+        fault,
     })
 }
 

@@ -6,11 +6,12 @@ ghost use Rattle.spec_network.specs.Opening.{links};
 ghost use Rattle.spec_network.specs.Tables.{setup_of};
 ghost use Rattle.spec_network.specs.Real.{keys_of, priced_by};
 ghost use Rattle.ask_opening.specs.Given.{settings_of};
+ghost use Rattle.call_reply.specs.Reply.{done_reply};
 ghost use Rattle.call_open.specs.Opens.{DoesOpen, Settled, Begun, begun_net, begun_tills, begun_seen, begun_rings, begun_log};
 
 use ask_opening::{NetworkConfig, NetworkSizes, RegionPlan, TableLengths};
+use ask_refusal::Refusal;
 use call_open_writes::{fill, links, prices, settings};
-use call_reply::Done;
 
 // What the opening alone writes: settings, word counts, link keys, prices.
 fn write_settled(
@@ -84,7 +85,7 @@ pub fn open_network(
     rules: &[u64],
     blocks: &[u64],
     log: &mut [u64],
-) -> Done
+) -> Result<(), Refusal>
     ensures { DoesOpen
         (record {
           setup = setup.old;
@@ -116,7 +117,7 @@ pub fn open_network(
           blocks = blocks.now;
           log = log.new;
         })
-        (settings_of config sizes plan seed key.now) masks.now result }
+        (settings_of config sizes plan seed key.now) masks.now (done_reply result) }
 {
     let lengths = TableLengths {
         setup: setup.len() as u64,
@@ -133,11 +134,8 @@ pub fn open_network(
         blocks: blocks.len() as u64,
         log: log.len() as u64,
     };
-    let number = ask_opening::refusal(config, sizes, plan, lengths, key, masks, names);
-    if number != 0 {
-        return Done { number };
-    }
+    ask_opening::refusal(config, sizes, plan, lengths, key, masks, names)?;
     write_settled(config, sizes, plan, seed, key, setup, words, keys, prices);
     write_begun(sizes, masks, net, tills, seen, rings, log);
-    Done { number }
+    Ok(())
 }

@@ -6,15 +6,14 @@ use Prim.Native.Nat.{ℕ, zero, suc, ◌+◌, ◌-◌, ◌*◌, ◌/◌, ◌%◌
 use native.Mathlib.Nat.{add-zero, mul-le-mul, mod-le, div-le_self}
 use native.Mathlib.Omega.{arith}
 use lib.Dec.{eqb}
-use lib.ListN.{length, get_or, take, drop, set, replicate, length-append, length-take, length-replicate, drop_of_length-le, take-append-drop}
-use lib.Seq.{take_all, take_at, drop_at}
+use lib.ListN.{length, take, drop, set, replicate, length-append, length-take, length-replicate, drop_of_length-le, take-append-drop}
+use lib.Seq.{take_at, drop_at, drop-drop}
+use borrow.Rule.Slice.PartMut.{put_mid}
 use borrow.Author.Tests.{eq-eqb, ne_eqb}
 use Rattle.math_word.specs.Word.{le_word}
 use Rattle.table_rows.specs.Lists.{up_to}
 use Rattle.table_rows.proofs.Lists.{length_up_to}
 use Rattle.table_shift.specs.Shift.{put_words}
-use Rattle.table_shift.proofs.Laws.{stores, stored}
-use Rattle.table_shift.proofs.Blocks.{cells_at}
 use Rattle.rand_streams.specs.Link.{link_key}
 use Rattle.link_geography.specs.Geography.{region_of, prices_of}
 use Rattle.link_geography.proofs.Prices.{length_prices}
@@ -72,10 +71,12 @@ module _ (c : NetworkConfig) (z : NetworkSizes) (p : RegionPlan) (seed : ℕ) (k
 
 -- ---- Keys
 
--- a key's words, stored one by one
-pub key_stored : (l key : List ℕ) (b : ℕ) → key_width ≡ length key → b + key_width ≤ length l
-    → stores (set l b (get_or key 0 0)) b 1 (get_or key 1 0 ∷ get_or key 2 0 ∷ get_or key 3 0 ∷ get_or key 4 0 ∷ get_or key 5 0 ∷ get_or key 6 0 ∷ get_or key 7 0 ∷ []) ≡ put_words l b key
-key_stored l key b h k = stored l b (get_or key 0 0) _ (omega arith) ∙ ap (put_words l b) (cells_at key 0 7 (omega arith) ∙ take_all key_width key (omega arith))
+-- a key's words, stored
+pub key_stored : (l key v : List ℕ) (b k : ℕ) → v ≡ key → k ≡ length key → put_mid b k l v ≡ put_words l b key
+unfolding put_words
+key_stored l key v b k e f =
+    ap (λ (y : List ℕ). take b l ++ (y ++ drop k (drop b l))) e
+    ∙ ap (λ (y : List ℕ). take b l ++ (key ++ y)) (drop-drop k b l ∙ ap (λ (i : ℕ). drop (b + i) l) f)
 
 pub link_long : (seed from to : ℕ) → length (link_key seed from to) ≡ key_width
 unfolding link_key

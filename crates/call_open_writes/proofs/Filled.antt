@@ -1,11 +1,11 @@
 -- Tables filled from the front, cell by cell and row by row. Assumes nothing.
 use mathlib.Core.Path.{◌≡◌, refl, sym, ap, ◌∙◌}
 use mathlib.Core.List.{List, [], ◌∷◌, ◌++◌, append_assoc, append-nil}
-use Prim.Native.Nat.{ℕ, zero, suc, ◌+◌, ◌*◌, ◌≤◌, ◌<◌}
+use Prim.Native.Nat.{ℕ, zero, suc, ◌+◌, ◌*◌, ◌<◌}
 use native.Mathlib.Nat.{suc-mul, zero-mul}
 use native.Mathlib.Omega.{arith}
-use lib.ListN.{length, get_or, take, drop, set, replicate, length-append, length-replicate, replicate-append-replicate, drop_of_length-le}
-use lib.Seq.{drop-cons, set_at, append_snoc, take_all, take_at, drop-append-add, drop-drop}
+use lib.ListN.{length, get_or, take, drop, set, length-append, drop_of_length-le}
+use lib.Seq.{drop-cons, set_at, append_snoc, take_at, drop-append-add, drop-drop}
 use Rattle.table_rows.specs.Rows.{flat}
 use Rattle.table_rows.specs.Lists.{up_to}
 use Rattle.table_shift.specs.Shift.{put_words}
@@ -18,19 +18,6 @@ cell_more a l now i v n h e =
     ∙ set_at a (get_or l i 0) (drop (suc i) l) v i n
     ∙ sym (append_snoc a v (drop (suc i) l))
     ∙ ap (λ (k : ℕ). (a ++ (v ∷ [])) ++ drop k l) s
-
--- zeros
-module _ (l now : List ℕ) (i : ℕ) where
-  pub clear_more : i < length l → now ≡ replicate i 0 ++ drop i l → set now i 0 ≡ replicate (i + 1) 0 ++ drop (i + 1) l
-  clear_more h e = cell_more (replicate i 0) l now i 0 (length-replicate i 0) h e ∙ ap (λ (x : List ℕ). x ++ drop (i + 1) l) (replicate-append-replicate i 1 0)
-
-  pub clear_all : (n : ℕ) → i ≡ n → now ≡ replicate i 0 ++ drop i l → now ≡ replicate n 0 ++ drop n l
-  clear_all n e h = h ∙ ap (λ (k : ℕ). replicate k 0 ++ drop k l) e
-
--- the cells of another list
-module _ (l now cells : List ℕ) (i : ℕ) where
-  pub copy_all : length cells ≤ i → length l ≤ i → now ≡ take i cells ++ drop i l → now ≡ cells
-  copy_all h k e = e ∙ (λ j. take_all i cells h j ++ drop_of_length-le l k j) ∙ append-nil cells
 
 -- one more of a list by places
 pub up_to_more : {A : Type 0} (n : ℕ) (f : ℕ → A) → up_to (n + 1) f ≡ up_to n f ++ (f n ∷ [])

@@ -10,19 +10,7 @@ pub fn clear(s: &mut [u64], n: usize)
     requires { n ≤ length s.old }
     ensures { s.new ≡ replicate n 0 ++ drop n s.old }
 {
-    let mut i: usize = 0;
-    while i < n {
-        s[i] = 0;
-        i += 1;
-    }
-}
-
-// The cells of another table.
-pub fn copy(s: &mut [u64], cells: &[u64])
-    requires { length cells.now ≡ length s.old }
-    ensures { s.new ≡ cells.now }
-{
-    ask_tables::copy_front(cells, 0, cells.len(), s);
+    s[0..n].fill(0);
 }
 
 // The word counts of the 64 by 64 ordered pairs of tills.
@@ -30,8 +18,7 @@ pub fn clear_words(words: &mut [u64])
     requires { length words.old ≡ links }
     ensures { words.new ≡ replicate links 0 }
 {
-    let zeros = [0u64; 4096];
-    copy(words, &zeros);
+    words.fill(0);
 }
 
 // All tills up, a mask of shards for each.
@@ -39,9 +26,7 @@ pub fn write_tills(tills: &mut [u64], masks: &[u64])
     requires { length tills.old ≡ length masks.now * till_form.width }
     ensures { tills.new ≡ flat till_form.words (open_tills masks.now (length masks.now)) }
 {
-    let mut t: usize = 0;
-    while t < masks.len() {
-        ask_tables::put_till(tills, t * ask_tables::TILL_WIDTH, 1, 0, 0, masks[t]);
-        t += 1;
+    for (t, mask) in masks.iter().enumerate() {
+        ask_tables::put_till(tills, t * ask_tables::TILL_WIDTH, 1, 0, 0, *mask);
     }
 }

@@ -10,14 +10,7 @@ fn put_key(keys: &mut [u32], b: usize, key: [u32; 8])
     requires { b + key_width ≤ length keys.old }
     ensures { keys.new ≡ put_words keys.old b key }
 {
-    keys[b] = key[0];
-    keys[b + 1] = key[1];
-    keys[b + 2] = key[2];
-    keys[b + 3] = key[3];
-    keys[b + 4] = key[4];
-    keys[b + 5] = key[5];
-    keys[b + 6] = key[6];
-    keys[b + 7] = key[7];
+    keys[b..b + key.len()].copy_from_slice(&key);
 }
 
 // The key of each ordered pair of n tills.
@@ -25,11 +18,8 @@ pub fn write_keys(keys: &mut [u32], seed: u64, n: u64)
     requires { (n ≤ most_tills) × (length keys.old ≡ n * n * key_width) }
     ensures { keys.new ≡ link_keys seed n }
 {
-    let pairs = n * n;
-    let mut i: u64 = 0;
-    while i < pairs {
+    for i in 0..n * n {
         let key = rand_streams::link_key(seed, (i / n) as u32, (i % n) as u32);
         put_key(keys, (i * ask_tables::LINK_KEY_WIDTH) as usize, key);
-        i += 1;
     }
 }

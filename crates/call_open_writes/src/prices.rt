@@ -24,10 +24,8 @@ fn write_regions(prices: &mut [u64], n: usize, seed: u64, regions: u64, tills: u
     requires { (tills ≤ most_tills) × (length prices.old ≡ n + tills) }
     ensures { prices.new ≡ take n prices.old ++ up_to tills (λ t. region_of seed regions t) }
 {
-    let mut t: u64 = 0;
-    while t < tills {
+    for t in 0..tills {
         prices[n + t as usize] = link_geography::region_of(seed, regions, t as u32);
-        t += 1;
     }
 }
 

@@ -7,7 +7,6 @@ ghost use Rattle.spec_network.specs.Limits.{range_tests};
 ghost use Rattle.spec_network.specs.Tables.{setup_of, setup_width};
 ghost use Rattle.ask_opening.specs.Given.{bits_of, config_of, settings_of, key_bytes};
 
-use crate::fill;
 use ask_opening::{NetworkConfig, NetworkSizes, RegionPlan};
 
 fn rate_bits(rate: f64) -> u64
@@ -22,7 +21,7 @@ fn key_word(key: &[u8], i: usize) -> u64
     requires { i + 4 ≤ length key.now }
     ensures { result ≡ le_word key.now i }
 {
-    math_word::le_word(key, i) as u64
+    u64::from(math_word::le_word(key, i))
 }
 
 // Sizes, latency and rates, plan, seed, and the key's 8 words.
@@ -77,5 +76,5 @@ pub fn write_setup(
     ensures { setup.new ≡ setup_of (settings_of config sizes plan seed key.now) }
 {
     let given = cells(config, sizes, plan, seed, key);
-    fill::copy(setup, &given);
+    setup.copy_from_slice(&given);
 }

@@ -11,69 +11,107 @@ ghost use Rattle.call_recipients.specs.Turning.{AdmittedFrom, Turned, Served};
 use call_offer::Outgoing;
 use call_schedule::Counts;
 
+// The tables that an accept goes by and leaves alone. Those that it writes stay parameters: lent out of a struct, each would take a lifetime of its own,
+// and what is read of one before it is written is then lost to the proof.
+#[derive(Clone, Copy)]
+pub struct FixedTables<'a> {
+    pub setup: &'a [u64],
+    pub tills: &'a [u64],
+    pub keys: &'a [u32],
+    pub prices: &'a [u64],
+    pub blocks: &'a [u64],
+}
+
+// The counts of no recipient.
+pub const NONE: Counts = Counts {
+    sent: 0,
+    deduplicated: 0,
+    partition: 0,
+    loss: 0,
+    fault: 0,
+};
+
 // One till: where it is selected, the message is offered to it, and it is counted under what became of it.
 fn turn(
-    setup: &[u64],
+    fixed: FixedTables,
     net: &mut [u64],
-    tills: &[u64],
     words: &mut [u64],
-    keys: &[u32],
-    prices: &[u64],
     seen: &mut [u64],
     waiting: &mut [u64],
     rings: &mut [u64],
     rules: &mut [u64],
-    blocks: &[u64],
     m: Outgoing,
     to: usize,
     c: Counts,
 ) -> Counts
-    requires { Fixed setup.now tills.now keys.now prices.now blocks.now × Ranged setup.now m × AdmittedFrom setup.now net.old tills.now words.old seen.old waiting.old rings.old rules.old m to × (to < (sizes_at setup.now).tills) × (total (counts_of c) ≤ to) }
-    ensures { Turned setup.now tills.now keys.now prices.now blocks.now net.old words.old seen.old waiting.old rings.old rules.old net.new words.new seen.new waiting.new rings.new rules.new m to c result }
+    requires { Fixed fixed.setup.now fixed.tills.now fixed.keys.now fixed.prices.now fixed.blocks.now
+        × Ranged fixed.setup.now m
+        × AdmittedFrom fixed.setup.now net.old fixed.tills.now words.old seen.old waiting.old rings.old rules.old m to
+        × (to < (sizes_at fixed.setup.now).tills)
+        × (total (counts_of c) ≤ to) }
+    ensures { Turned
+        fixed.entry.setup.now fixed.entry.tills.now fixed.entry.keys.now fixed.entry.prices.now fixed.entry.blocks.now
+        net.old words.old seen.old waiting.old rings.old rules.old
+        net.new words.new seen.new waiting.new rings.new rules.new
+        m to c result }
 {
-    if !call_offer::selects(tills, m.scope, m.from, to) {
+    if !call_offer::selects(fixed.tills, m.scope, m.from, to) {
         return c;
     }
     let r = call_offer::consider(
-        setup, net, tills, words, keys, prices, seen, rings, rules, blocks, m, to,
+        fixed.setup,
+        net,
+        fixed.tills,
+        words,
+        fixed.keys,
+        fixed.prices,
+        seen,
+        rings,
+        rules,
+        fixed.blocks,
+        m,
+        to,
     );
-    call_schedule::apply(setup, net, words, seen, waiting, rings, rules, m, to, r);
+    call_schedule::apply(
+        fixed.setup,
+        net,
+        words,
+        seen,
+        waiting,
+        rings,
+        rules,
+        m,
+        to,
+        r,
+    );
     call_schedule::count(c, r)
 }
 
 // All tills, in host order.
 pub fn serve(
-    setup: &[u64],
+    fixed: FixedTables,
     net: &mut [u64],
-    tills: &[u64],
     words: &mut [u64],
-    keys: &[u32],
-    prices: &[u64],
     seen: &mut [u64],
     waiting: &mut [u64],
     rings: &mut [u64],
     rules: &mut [u64],
-    blocks: &[u64],
     m: Outgoing,
 ) -> Counts
-    requires { Fixed setup.now tills.now keys.now prices.now blocks.now × Ranged setup.now m × (m.class < (sizes_at setup.now).classes) × AdmittedFrom setup.now net.old tills.now words.old seen.old waiting.old rings.old rules.old m 0 }
-    ensures { Served setup.now tills.now keys.now prices.now blocks.now net.old words.old seen.old waiting.old rings.old rules.old net.new words.new seen.new waiting.new rings.new rules.new m result }
+    requires { Fixed fixed.setup.now fixed.tills.now fixed.keys.now fixed.prices.now fixed.blocks.now
+        × Ranged fixed.setup.now m
+        × (m.class < (sizes_at fixed.setup.now).classes)
+        × AdmittedFrom fixed.setup.now net.old fixed.tills.now words.old seen.old waiting.old rings.old rules.old m 0 }
+    ensures { Served
+        fixed.entry.setup.now fixed.entry.tills.now fixed.entry.keys.now fixed.entry.prices.now fixed.entry.blocks.now
+        net.old words.old seen.old waiting.old rings.old rules.old
+        net.new words.new seen.new waiting.new rings.new rules.new
+        m result }
 {
-    let n = setup[ask_tables::TILLS] as usize;
-    let mut c = Counts {
-        sent: 0,
-        deduplicated: 0,
-        partition: 0,
-        loss: 0,
-        fault: 0,
-    };
-    let mut to: usize = 0;
-    while to < n {
-        let more = turn(
-            setup, net, tills, words, keys, prices, seen, waiting, rings, rules, blocks, m, to, c,
-        );
-        c = more;
-        to += 1;
+    let n = fixed.setup[ask_tables::TILLS] as usize;
+    let mut c = NONE;
+    for to in 0..n {
+        c = turn(fixed, net, words, seen, waiting, rings, rules, m, to, c);
     }
     c
 }

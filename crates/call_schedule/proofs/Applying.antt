@@ -2,6 +2,7 @@
 use Prim.Native.Nat.{ℕ, suc, ◌≤◌, ◌<◌}
 use mathlib.Core.Path.{◌≡◌, refl, sym, ap, ◌∙◌}
 use mathlib.Core.Bool.{Bool, true, false, cond}
+use Rattle.std.specs.Prelude.{Option, Some}
 use mathlib.Core.List.{List, [], ◌∷◌}
 use native.Mathlib.Omega.{arith}
 use lib.ListN.{length, set, length-set}
@@ -17,7 +18,7 @@ use Rattle.spec_network.specs.Live.{ids_at, rings_of}
 use Rattle.spec_network.specs.Tables.{cell, Tables, live, sizes_at, settings_at, ids_start, sequence_at, fault_words_at}
 use Rattle.spec_network.specs.Real.{draws_of, opening_at}
 use Rattle.spec_network.specs.Accept as accept
-use Rattle.spec_network.specs.Accept.{Timed, Drawn, drawn, original, echo, echo_copies, carried_of, Fate, sent, fate_of, add}
+use Rattle.spec_network.specs.Accept.{Drawn, drawn, original, echo_copies, carried_of, Fate, sent, fate_of, add}
 use Rattle.spec_network.specs.Writes.{set_rings, set_rules, words_t, net_t, ruled_t, marks_t, push_t, remember_t, effect_t, offered_t}
 use Rattle.spec_network.specs.Lending.{lend_apply, lend_send, set_rules}
 use Rattle.call_offer.specs.declared.Outgoing.{Outgoing}
@@ -25,9 +26,9 @@ use Rattle.call_offer.specs.declared.Faulted.{Faulted}
 use Rattle.call_offer.specs.declared.Sending.{Sending}
 use Rattle.call_offer.specs.declared.Offer.{Offer}
 use Rattle.call_offer.specs.declared.Offer.TheVariants.{Deduplicated, Partition, Loss, Fault, Sent}
-use Rattle.call_offer.specs.Offering.{as_message, doubled, replayed_as, echoes_in, Answers}
+use Rattle.call_offer.specs.Offering.{as_message, echoes_in, Answers}
 use Rattle.call_schedule.specs.declared.Counts.{Counts}
-use Rattle.call_schedule.specs.Writing.{marked_seen, pushed_net, pushed_waiting, remembered, sent_t, offer_t, Sends, Applies, fate_in, counts_of}
+use Rattle.call_schedule.specs.Writing.{marked_seen, pushed_net, pushed_waiting, echo_in, remembered, sent_t, offer_t, Sends, Applies, fate_in, counts_of}
 use Rattle.call_schedule.proofs.Pushing.{after, push_copies}
 
 -- ---- Sent
@@ -49,14 +50,8 @@ module _ (T : Tables) (m : accept.Message) (t : ℕ) (x : Sending) (below : t < 
   abbrev first : Copy
   first = original m t 0 x.latency
 
-  abbrev second : Timed
-  second = doubled m x.echoes.duplicate.latency
-
-  abbrev third : Timed
-  third = replayed_as x.echoes.old x.echoes.replay.latency
-
   abbrev T₅ : Tables
-  T₅ = after (after (after T₂ true first) x.echoes.duplicate.some (echo m t 0 second)) x.echoes.replay.some (echo m t 0 third)
+  T₅ = after (after (after T₂ (Some first)) (echo_in m t x.echoes.duplicate)) (echo_in m t x.echoes.replay)
 
   ids_are : placed m.id (ids_at (live z T) t) ≡ ids
   ids_are = ap (placed m.id) (get_d_up_to z.tills (λ k. ids_of T.seen (ids_start z k) (cell T.seen k)) t [] below)
@@ -73,28 +68,26 @@ module _ (T : Tables) (m : accept.Message) (t : ℕ) (x : Sending) (below : t < 
   sent_is =
       (λ j.
       let n = suc (same_sequence j) in
-      remember_t o m (push_t z (marks_t z (net_t (words_t T (link m.from t) x.echoes.words) fault_words_at x.fault) t (ids_are j)) (original m t n x.latency ∷ echo_copies m t n (echoes_in m x.echoes))))
-      ∙ ap (remember_t o m) (push_copies z T₂ m t x.latency second third x.echoes.duplicate.some x.echoes.replay.some (omega (arith, length-set T.net fault_words_at x.fault)))
+      remember_t o m (push_t z (marks_t z (net_t (words_t T (link m.from t) x.echoes.words) fault_words_at x.fault) t (ids_are j)) (original m t n x.latency ∷ echo_copies m t n (echoes_in x.echoes))))
+      ∙ ap (remember_t o m) (push_copies z T₂ m t x.latency x.echoes.duplicate x.echoes.replay (omega (arith, length-set T.net fault_words_at x.fault)))
       ∙ ring_by o.draws.echoing T₅ (pushed (rings_of z) T₅.rings (number_of m.kind m.scope) (carried_of m))
 
-pub sends : (m : Outgoing) (t : ℕ) (x : Sending) (setup net words seen waiting rings : List ℕ) {seen' n₁ n₂ n₃ w₁ w₂ w₃ rings' : List ℕ} {c₁ c₂ c₃ : Copy}
+pub sends : (m : Outgoing) (t : ℕ) (x : Sending) (setup net words seen waiting rings : List ℕ) {seen' n₁ n₂ n₃ w₁ w₂ w₃ rings' : List ℕ} {c₁ : Copy} {c₂ c₃ : Option Copy}
     → t < (sizes_at setup).tills → 2 ≤ length net → seen' ≡ marked_seen (sizes_at setup) seen t m.id
-    → c₁ ≡ original (as_message m) t 0 x.latency → n₁ ≡ pushed_net true (set net fault_words_at x.fault) waiting c₁ → w₁ ≡ pushed_waiting true (set net fault_words_at x.fault) waiting c₁
-    → c₂ ≡ echo (as_message m) t 0 (doubled (as_message m) x.echoes.duplicate.latency) → n₂ ≡ pushed_net x.echoes.duplicate.some n₁ w₁ c₂ → w₂ ≡ pushed_waiting x.echoes.duplicate.some n₁ w₁ c₂
-    → c₃ ≡ echo (as_message m) t 0 (replayed_as x.echoes.old x.echoes.replay.latency) → n₃ ≡ pushed_net x.echoes.replay.some n₂ w₂ c₃ → w₃ ≡ pushed_waiting x.echoes.replay.some n₂ w₂ c₃
+    → c₁ ≡ original (as_message m) t 0 x.latency → n₁ ≡ pushed_net (Some c₁) (set net fault_words_at x.fault) waiting → w₁ ≡ pushed_waiting (Some c₁) (set net fault_words_at x.fault) waiting
+    → c₂ ≡ echo_in (as_message m) t x.echoes.duplicate → n₂ ≡ pushed_net c₂ n₁ w₁ → w₂ ≡ pushed_waiting c₂ n₁ w₁
+    → c₃ ≡ echo_in (as_message m) t x.echoes.replay → n₃ ≡ pushed_net c₃ n₂ w₂ → w₃ ≡ pushed_waiting c₃ n₂ w₂
     → rings' ≡ remembered (settings_at setup) rings (as_message m) → Sends m t x setup net words seen waiting rings n₃ (set words (link m.from t) x.echoes.words) seen' w₃ rings'
 unfolding Sends
 sends m t x setup net words seen waiting rings {seen'} {n₁} {n₂} {n₃} {w₁} {w₂} {w₃} {rings'} {c₁} {c₂} {c₃} below size es k₁ p₁ q₁ k₂ p₂ q₂ k₃ p₃ q₃ er = λ L.
     let T = lend_send L setup net words seen waiting rings in
     let net₀ : List ℕ = set net fault_words_at x.fault in
-    let a : Bool = x.echoes.duplicate.some in
-    let b : Bool = x.echoes.replay.some in
-    let P₁ = p₁ ∙ ap (pushed_net true net₀ waiting) k₁ in
-    let Q₁ = q₁ ∙ ap (pushed_waiting true net₀ waiting) k₁ in
-    let P₂ = p₂ ∙ (λ j. pushed_net a (P₁ j) (Q₁ j) (k₂ j)) in
-    let Q₂ = q₂ ∙ (λ j. pushed_waiting a (P₁ j) (Q₁ j) (k₂ j)) in
-    let P₃ = p₃ ∙ (λ j. pushed_net b (P₂ j) (Q₂ j) (k₃ j)) in
-    let Q₃ = q₃ ∙ (λ j. pushed_waiting b (P₂ j) (Q₂ j) (k₃ j)) in
+    let P₁ = p₁ ∙ ap (λ (c : Copy). pushed_net (Some c) net₀ waiting) k₁ in
+    let Q₁ = q₁ ∙ ap (λ (c : Copy). pushed_waiting (Some c) net₀ waiting) k₁ in
+    let P₂ = p₂ ∙ (λ j. pushed_net (k₂ j) (P₁ j) (Q₁ j)) in
+    let Q₂ = q₂ ∙ (λ j. pushed_waiting (k₂ j) (P₁ j) (Q₁ j)) in
+    let P₃ = p₃ ∙ (λ j. pushed_net (k₃ j) (P₂ j) (Q₂ j)) in
+    let Q₃ = q₃ ∙ (λ j. pushed_waiting (k₃ j) (P₂ j) (Q₂ j)) in
     (λ j. lend_send L setup (P₃ j) (set words (link m.from t) x.echoes.words) (es j) (Q₃ j) (er j)) ∙ sym (sent_is T (as_message m) t x below size)
 
 -- ---- The five

@@ -2,6 +2,7 @@
 use Prim.Native.Nat.{ℕ, suc, ◌+◌, ◌*◌, ◌≤◌}
 use mathlib.Core.Path.{◌≡◌, refl, sym, ap, ◌∙◌}
 use mathlib.Core.Bool.{Bool, true, false, cond}
+use Rattle.std.specs.Prelude.{Option, Some, None}
 use mathlib.Core.List.{List, [], ◌∷◌, ◌++◌}
 use native.Mathlib.Omega.{arith}
 use native.Mathlib.Nat.{mul-le-mul_right}
@@ -21,10 +22,11 @@ use Rattle.table_rings.specs.Rings.{number_of, pushed}
 use Rattle.spec_network.specs.Opening.{Sizes, Settings}
 use Rattle.spec_network.specs.Live.{rings_of}
 use Rattle.spec_network.specs.Tables.{cell, Tables, ids_start, sequence_at, waiting_at, fault_words_at}
-use Rattle.spec_network.specs.Accept.{Message, Timed, original, echo, echo_copies, carried_of}
+use Rattle.spec_network.specs.Accept.{Message, duplicate_of, replay_of, original, echo_copies, carried_of}
 use Rattle.spec_network.specs.Writes.{set_net, set_waiting, push_t}
-use Rattle.call_offer.specs.Offering.{echoing_at}
-use Rattle.call_schedule.specs.Writing.{marked_seen, with_sequence, queue, pushed_net, pushed_waiting, remembered, Room}
+use Rattle.call_offer.specs.declared.Echo.{Echo}
+use Rattle.call_offer.specs.Offering.{echoing_at, timed_as}
+use Rattle.call_schedule.specs.Writing.{marked_seen, with_sequence, queue, pushed_net, pushed_waiting, echo_in, remembered, Room}
 
 -- ---- Marks
 
@@ -42,47 +44,43 @@ long_queue net waiting c =
     length_insert (with_sequence c (suc (cell net sequence_at))) (copies waiting (cell net waiting_at)) ∙ ap suc (length_rows width read (cell net waiting_at) waiting)
 
 module _ (net waiting : List ℕ) (c : Copy) where
-  pub unpushed : (hit : Bool) → hit ≡ false → (net ≡ pushed_net hit net waiting c) × (waiting ≡ pushed_waiting hit net waiting c)
+  pub pushed_made : (o : Option Copy) → o ≡ Some c → (w : List ℕ) → w ≡ over form (insert_copy (with_sequence c (cell net sequence_at + 1)) (copies waiting (cell net waiting_at))) waiting
+      → (set (set net sequence_at (cell net sequence_at + 1)) waiting_at (cell net waiting_at + 1) ≡ pushed_net o net waiting) × (w ≡ pushed_waiting o net waiting)
   unfolding pushed_net pushed_waiting
-  unpushed hit h = (
-    ap (λ (b : Bool). cond b (set (set net sequence_at (suc (cell net sequence_at))) waiting_at (length (queue net waiting c))) net) (sym h),
-    ap (λ (b : Bool). cond b (over form (queue net waiting c) waiting) waiting) (sym h),
-  )
-
-  pub pushed_made : (hit : Bool) → hit ≡ true → (w : List ℕ) → w ≡ over form (insert_copy (with_sequence c (cell net sequence_at + 1)) (copies waiting (cell net waiting_at))) waiting
-      → (set (set net sequence_at (cell net sequence_at + 1)) waiting_at (cell net waiting_at + 1) ≡ pushed_net hit net waiting c) × (w ≡ pushed_waiting hit net waiting c)
-  unfolding pushed_net pushed_waiting
-  pushed_made hit h w q =
+  pushed_made o h w q =
       let k : cell net waiting_at + 1 ≡ length (queue net waiting c) = omega (arith, long_queue net waiting c) in (
-        (λ j. set (set net sequence_at (add-one (cell net sequence_at) j)) waiting_at (k j))
-            ∙ ap (λ (b : Bool). cond b (set (set net sequence_at (suc (cell net sequence_at))) waiting_at (length (queue net waiting c))) net) (sym h),
+        (λ j. set (set net sequence_at (add-one (cell net sequence_at) j)) waiting_at (k j)) ∙ ap (λ (b : Option Copy). pushed_net b net waiting) (sym h),
         q ∙ (λ j. over form (insert_copy (with_sequence c (add-one (cell net sequence_at) j)) (copies waiting (cell net waiting_at))) waiting)
-            ∙ ap (λ (b : Bool). cond b (over form (queue net waiting c) waiting) waiting) (sym h),
+            ∙ ap (λ (b : Option Copy). pushed_waiting b net waiting) (sym h),
       )
 
   -- the two counts after it
-  next : 2 ≤ length net → cell (pushed_net true net waiting c) sequence_at ≡ suc (cell net sequence_at)
+  next : 2 ≤ length net → cell (pushed_net (Some c) net waiting) sequence_at ≡ suc (cell net sequence_at)
   unfolding pushed_net
   next h =
       get_or-set_other (set net sequence_at (suc (cell net sequence_at))) waiting_at sequence_at (length (queue net waiting c)) 0 (λ e. omega arith)
       ∙ get_or-set_same net sequence_at (suc (cell net sequence_at)) 0 (omega arith)
 
-  counted : 2 ≤ length net → cell (pushed_net true net waiting c) waiting_at ≡ suc (cell net waiting_at)
+  counted : 2 ≤ length net → cell (pushed_net (Some c) net waiting) waiting_at ≡ suc (cell net waiting_at)
   unfolding pushed_net
   counted h =
       get_or-set_same (set net sequence_at (suc (cell net sequence_at))) waiting_at (length (queue net waiting c)) 0 (omega (arith, length-set net sequence_at (suc (cell net sequence_at))))
       ∙ long_queue net waiting c
 
-  pub counts_after : (hit : Bool) → 2 ≤ length net
-      → (cell (pushed_net hit net waiting c) sequence_at ≤ cell net sequence_at + 1) × (cell (pushed_net hit net waiting c) waiting_at ≤ cell net waiting_at + 1)
-  unfolding pushed_net
-  counts_after true h = (omega (arith, next h), omega (arith, counted h))
-  counts_after false h = (omega arith, omega arith)
+pub unpushed : (net waiting : List ℕ) (o : Option Copy) → o ≡ None → (net ≡ pushed_net o net waiting) × (waiting ≡ pushed_waiting o net waiting)
+unfolding pushed_net pushed_waiting
+unpushed net waiting o h = (ap (λ (b : Option Copy). pushed_net b net waiting) (sym h), ap (λ (b : Option Copy). pushed_waiting b net waiting) (sym h))
 
-  pub long_net : (hit : Bool) → length (pushed_net hit net waiting c) ≡ length net
-  unfolding pushed_net
-  long_net true = length-set (set net sequence_at (suc (cell net sequence_at))) waiting_at (length (queue net waiting c)) ∙ length-set net sequence_at (suc (cell net sequence_at))
-  long_net false = refl
+pub counts_after : (net waiting : List ℕ) (o : Option Copy) → 2 ≤ length net
+    → (cell (pushed_net o net waiting) sequence_at ≤ cell net sequence_at + 1) × (cell (pushed_net o net waiting) waiting_at ≤ cell net waiting_at + 1)
+unfolding pushed_net
+counts_after net waiting (Some c) h = (omega (arith, next net waiting c h), omega (arith, counted net waiting c h))
+counts_after net waiting None h = (omega arith, omega arith)
+
+pub long_net : (net waiting : List ℕ) (o : Option Copy) → length (pushed_net o net waiting) ≡ length net
+unfolding pushed_net
+long_net net waiting (Some c) = length-set (set net sequence_at (suc (cell net sequence_at))) waiting_at (length (queue net waiting c)) ∙ length-set net sequence_at (suc (cell net sequence_at))
+long_net net waiting None = refl
 
 -- ---- Room
 
@@ -97,65 +95,66 @@ room_set net waiting n v r =
     let b : cell (set net fault_words_at v) waiting_at ≡ cell net waiting_at = get_or-set_other net fault_words_at waiting_at v 0 (λ e. omega arith) in
     record { size = omega (arith, length-set net fault_words_at v, r.size); numbers = omega (arith, r.numbers); slots = rw b r.slots }
 
-pub room_after : (hit : Bool) (net waiting net' waiting' : List ℕ) (c : Copy) (n : ℕ) → net' ≡ pushed_net hit net waiting c → length waiting' ≡ length waiting → Room net waiting (n + 1) → Room net' waiting' n
-room_after hit net waiting net' waiting' c n e l r =
-    let q = counts_after net waiting c hit r.size in
+pub room_after : (o : Option Copy) (net waiting net' waiting' : List ℕ) (n : ℕ) → net' ≡ pushed_net o net waiting → length waiting' ≡ length waiting → Room net waiting (n + 1) → Room net' waiting' n
+room_after o net waiting net' waiting' n e l r =
+    let q = counts_after net waiting o r.size in
     let s = ap (λ (x : List ℕ). cell x sequence_at) e in
     let w = ap (λ (x : List ℕ). cell x waiting_at) e in
     let a : (cell net' waiting_at + n) * width ≤ (cell net waiting_at + (n + 1)) * width = mul-le-mul_right width (omega arith) in
-    record { size = omega (arith, ap length e, long_net net waiting c hit, r.size); numbers = omega (arith, r.numbers); slots = omega (arith, r.slots) }
+    record { size = omega (arith, ap length e, long_net net waiting o, r.size); numbers = omega (arith, r.numbers); slots = omega (arith, r.slots) }
 
 -- ---- Copies one after the other
 
-abbrev pub after : Tables → Bool → Copy → Tables
-after T hit c = set_waiting (set_net T (pushed_net hit T.net T.waiting c)) (pushed_waiting hit T.net T.waiting c)
+abbrev pub after : Tables → Option Copy → Tables
+after T o = set_waiting (set_net T (pushed_net o T.net T.waiting)) (pushed_waiting o T.net T.waiting)
 
 -- each takes the next sequence; n is the last one given
 abbrev numbered : ℕ → List Copy → List Copy
 numbered n [] = []
 numbered n (c ∷ cs) = with_sequence c (suc n) ∷ numbered (suc n) cs
 
+abbrev listed : Option Copy → List Copy
+listed (Some c) = c ∷ []
+listed None = []
+
 -- an original and at most two echoes, made with their sequences, and made without
-copies_numbered : (m : Message) (t n latency : ℕ) (d r : Timed) (a b : Bool) → original m t (suc n) latency ∷ echo_copies m t (suc n) (cond a (d ∷ []) [] ++ cond b (r ∷ []) [])
-    ≡ numbered n (original m t 0 latency ∷ (cond a (echo m t 0 d ∷ []) [] ++ cond b (echo m t 0 r ∷ []) []))
-copies_numbered m t n latency d r true true = refl
-copies_numbered m t n latency d r true false = refl
-copies_numbered m t n latency d r false true = refl
-copies_numbered m t n latency d r false false = refl
+copies_numbered : (m : Message) (t n latency : ℕ) (a b : Option Echo) → original m t (suc n) latency ∷ echo_copies m t (suc n) (timed_as duplicate_of a ++ timed_as replay_of b)
+    ≡ numbered n (original m t 0 latency ∷ (listed (echo_in m t a) ++ listed (echo_in m t b)))
+copies_numbered m t n latency (Some a) (Some b) = refl
+copies_numbered m t n latency (Some a) None = refl
+copies_numbered m t n latency None (Some b) = refl
+copies_numbered m t n latency None None = refl
 
 module _ (z : Sizes) where
   push_one : (T : Tables) (c : Copy) (cs : List Copy) → 2 ≤ length T.net
-      → push_t z T (numbered (cell T.net sequence_at) (c ∷ cs)) ≡ push_t z (after T true c) (numbered (cell (after T true c).net sequence_at) cs)
+      → push_t z T (numbered (cell T.net sequence_at) (c ∷ cs)) ≡ push_t z (after T (Some c)) (numbered (cell (after T (Some c)).net sequence_at) cs)
   unfolding pushed_net pushed_waiting
-  push_one T c cs h = ap (λ (k : ℕ). push_t z (after T true c) (numbered k cs)) (sym (next T.net T.waiting c h))
+  push_one T c cs h = ap (λ (k : ℕ). push_t z (after T (Some c)) (numbered k cs)) (sym (next T.net T.waiting c h))
 
-  push_some : (T : Tables) (hit : Bool) (c : Copy) (cs : List Copy) → 2 ≤ length T.net
-      → push_t z T (numbered (cell T.net sequence_at) (cond hit (c ∷ []) [] ++ cs)) ≡ push_t z (after T hit c) (numbered (cell (after T hit c).net sequence_at) cs)
+  push_some : (T : Tables) (o : Option Copy) (cs : List Copy) → 2 ≤ length T.net
+      → push_t z T (numbered (cell T.net sequence_at) (listed o ++ cs)) ≡ push_t z (after T o) (numbered (cell (after T o).net sequence_at) cs)
   unfolding pushed_net pushed_waiting
-  push_some T true c cs h = push_one T c cs h
-  push_some T false c cs h = refl
+  push_some T (Some c) cs h = push_one T c cs h
+  push_some T None cs h = refl
 
-  push_last : (T : Tables) (hit : Bool) (c : Copy) → 2 ≤ length T.net → push_t z T (numbered (cell T.net sequence_at) (cond hit (c ∷ []) [])) ≡ after T hit c
+  push_last : (T : Tables) (o : Option Copy) → 2 ≤ length T.net → push_t z T (numbered (cell T.net sequence_at) (listed o)) ≡ after T o
   unfolding pushed_net pushed_waiting
-  push_last T true c h = push_one T c [] h
-  push_last T false c h = refl
+  push_last T (Some c) h = push_one T c [] h
+  push_last T None h = refl
 
-  push_three : (T : Tables) (c₁ c₂ c₃ : Copy) (a b : Bool) → 2 ≤ length T.net
-      → push_t z T (numbered (cell T.net sequence_at) (c₁ ∷ (cond a (c₂ ∷ []) [] ++ cond b (c₃ ∷ []) []))) ≡ after (after (after T true c₁) a c₂) b c₃
-  push_three T c₁ c₂ c₃ a b h =
-      let T₁ = after T true c₁ in
-      let T₂ = after T₁ a c₂ in
-      let l₁ = long_net T.net T.waiting c₁ true in
-      let l₂ = long_net T₁.net T₁.waiting c₂ a in
-      push_one T c₁ (cond a (c₂ ∷ []) [] ++ cond b (c₃ ∷ []) []) h
-      ∙ push_some T₁ a c₂ (cond b (c₃ ∷ []) []) (omega (arith, l₁))
-      ∙ push_last T₂ b c₃ (omega (arith, l₁, l₂))
-
-  pub push_copies : (T : Tables) (m : Message) (t latency : ℕ) (d r : Timed) (a b : Bool) → 2 ≤ length T.net
-      → let n = suc (cell T.net sequence_at) in push_t z T (original m t n latency ∷ echo_copies m t n (cond a (d ∷ []) [] ++ cond b (r ∷ []) []))
-      ≡ after (after (after T true (original m t 0 latency)) a (echo m t 0 d)) b (echo m t 0 r)
-  push_copies T m t latency d r a b h =
-      ap (push_t z T) (copies_numbered m t (cell T.net sequence_at) latency d r a b) ∙ push_three T (original m t 0 latency) (echo m t 0 d) (echo m t 0 r) a b h
+  pub push_copies : (T : Tables) (m : Message) (t latency : ℕ) (a b : Option Echo) → 2 ≤ length T.net
+      → let n = suc (cell T.net sequence_at) in push_t z T (original m t n latency ∷ echo_copies m t n (timed_as duplicate_of a ++ timed_as replay_of b))
+      ≡ after (after (after T (Some (original m t 0 latency))) (echo_in m t a)) (echo_in m t b)
+  push_copies T m t latency a b h =
+      let c = original m t 0 latency in
+      let T₁ = after T (Some c) in
+      let T₂ = after T₁ (echo_in m t a) in
+      let l₁ = long_net T.net T.waiting (Some c) in
+      let l₂ = long_net T₁.net T₁.waiting (echo_in m t a) in
+      ap (push_t z T) (copies_numbered m t (cell T.net sequence_at) latency a b)
+      ∙ push_one T c (listed (echo_in m t a) ++ listed (echo_in m t b)) h
+      ∙ push_some T₁ (echo_in m t a) (listed (echo_in m t b)) (omega (arith, l₁))
+      ∙ push_last T₂ (echo_in m t b) (omega (arith, l₁, l₂))
 
 -- ---- The ring
 

@@ -1,5 +1,5 @@
 -- Document 01, 'The book', Accept: what an offer writes, table by table, in the terms of `Writes`.
-use Rattle.std.specs.Prelude.{ℕ, suc, ◌+◌, ◌*◌, ◌≤◌, ◌<◌, ◌≡◌, Bool, true, cond, List, ◌∷◌, length, set}
+use Rattle.std.specs.Prelude.{ℕ, suc, ◌+◌, ◌*◌, ◌≤◌, ◌<◌, ◌≡◌, true, cond, List, ◌∷◌, length, set, Option, Some, None, IfSome}
 use Rattle.table_shift.specs.Shift.{put_words}
 use Rattle.table_rows.specs.Table.{over}
 use Rattle.table_marks.specs.Marks.{ids_of, placed}
@@ -11,11 +11,12 @@ use Rattle.spec_network.specs.Opening.{Opening, Sizes, Settings, link, links, la
 use Rattle.spec_network.specs.Live.{ids_at, rings_of}
 use Rattle.spec_network.specs.Tables.{cell, Tables, live, sizes_at, setup_width, net_width, ids_start, sequence_at, waiting_at, fault_words_at}
 use Rattle.spec_network.specs.Accept as accept
-use Rattle.spec_network.specs.Accept.{original, echo_copies, carried_of, Fate, deduplicated, partition, loss, fault, sent}
+use Rattle.spec_network.specs.Accept.{copy_with, original, echo_copies, carried_of, Fate, deduplicated, partition, loss, fault, sent}
 use Rattle.spec_network.specs.Writes.{words_t, net_t, ruled_t, marks_t, push_t, remember_t}
 use Rattle.spec_network.specs.Real.{opening_at}
 use Rattle.spec_network.specs.Lending.{lend_apply, lend_send}
 use Rattle.call_offer.specs.declared.Outgoing.{Outgoing}
+use Rattle.call_offer.specs.declared.Echo.{Echo}
 use Rattle.call_offer.specs.declared.Sending.{Sending}
 use Rattle.call_offer.specs.declared.Offer.{Offer}
 use Rattle.call_offer.specs.declared.Offer.TheVariants.{Deduplicated, Partition, Loss, Fault, Sent}
@@ -36,11 +37,27 @@ with_sequence c n = record { delivery = c.delivery; sequence = n; original = c.o
 abbrev pub queue : (net waiting : List ℕ) → Copy → List Copy
 queue net waiting c = insert_copy (with_sequence c (suc (cell net sequence_at))) (copies waiting (cell net waiting_at))
 
-unfoldable pub pushed_net : Bool → (net waiting : List ℕ) → Copy → List ℕ
-pushed_net hit net waiting c = cond hit (set (set net sequence_at (suc (cell net sequence_at))) waiting_at (length (queue net waiting c))) net
+unfoldable pub pushed_net : Option Copy → (net waiting : List ℕ) → List ℕ
+pushed_net (Some c) net waiting = set (set net sequence_at (suc (cell net sequence_at))) waiting_at (length (queue net waiting c))
+pushed_net None net waiting = net
 
-unfoldable pub pushed_waiting : Bool → (net waiting : List ℕ) → Copy → List ℕ
-pushed_waiting hit net waiting c = cond hit (over form (queue net waiting c) waiting) waiting
+unfoldable pub pushed_waiting : Option Copy → (net waiting : List ℕ) → List ℕ
+pushed_waiting (Some c) net waiting = over form (queue net waiting c) waiting
+pushed_waiting None net waiting = waiting
+
+-- an original has an id, and an echo none, which is 0 in its row
+abbrev pub flag_in : Option ℕ → ℕ
+flag_in (Some i) = 1
+flag_in None = 0
+
+abbrev pub id_in : Option ℕ → ℕ
+id_in (Some i) = i
+id_in None = 0
+
+-- the copy of an echo
+abbrev pub echo_in : accept.Message → ℕ → Option Echo → Option Copy
+echo_in m t (Some e) = Some (copy_with m t 0 e.entry e.latency 0 0)
+echo_in m t None = None
 
 -- the ring takes the message, where an echo rate is above 0
 abbrev pub remembered : Settings → List ℕ → accept.Message → List ℕ
@@ -66,8 +83,8 @@ pub record Sendable (setup net words seen waiting rings : List ℕ) (m : Outgoin
   pub room : Room net waiting 3
   pub rings_held : RingsHeld (sizes_at setup) rings
   pub soon : x.latency ≤ longest
-  pub first : x.echoes.duplicate.latency ≤ longest
-  pub second : x.echoes.replay.latency ≤ longest
+  pub first : IfSome x.echoes.duplicate (λ e. e.latency ≤ longest)
+  pub second : IfSome x.echoes.replay (λ e. e.latency ≤ longest)
 
 -- what applying an offer needs; of one that is sent, what sending needs
 pub record Applicable (setup net words seen waiting rings : List ℕ) (m : Outgoing) (t : ℕ) (r : Offer) : Type 0 where
@@ -86,7 +103,7 @@ sent_t o m T t x =
     let T₁ = net_t (words_t T (link m.from t) x.echoes.words) fault_words_at x.fault in
     let T₂ = marks_t o.sizes T₁ t (placed m.id (ids_at s t)) in
     let n = suc s.queue.sequence in
-    remember_t o m (push_t o.sizes T₂ (original m t n x.latency ∷ echo_copies m t n (echoes_in m x.echoes)))
+    remember_t o m (push_t o.sizes T₂ (original m t n x.latency ∷ echo_copies m t n (echoes_in x.echoes)))
 
 unfoldable pub offer_t : Opening → accept.Message → Tables → ℕ → Offer → Tables
 offer_t o m T t Deduplicated = T

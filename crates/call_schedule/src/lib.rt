@@ -1,14 +1,14 @@
 // What an offer writes: word counts, the fired count, the mark, the copies and the ring. The decision is `call_offer`'s.
 #![tactic(auto)]
 
-ghost use Rattle.std.specs.Prelude.{◌≡◌, ◌+◌, ◌*◌, ◌<◌, ◌≤◌, length};
+ghost use Rattle.std.specs.Prelude.{◌≡◌, IfSome, Some, ◌+◌, ◌*◌, ◌<◌, ◌≤◌, length};
 ghost use Rattle.link_latency.specs.Latency.{longest};
 ghost use Rattle.spec_network.specs.Opening.{latest_now, most_types, link};
 ghost use Rattle.spec_network.specs.Accept.{copy_with, original, add, total};
 ghost use Rattle.spec_network.specs.Tables.{cell, sizes_at, settings_at, setup_width};
 ghost use Rattle.call_offer.specs.Needed.{Ranged, RingsHeld, SeenHeld};
 ghost use Rattle.call_offer.specs.Offering.{as_message};
-ghost use Rattle.call_schedule.specs.Writing.{marked_seen, pushed_net, pushed_waiting, remembered, Room, Sendable, Applicable, Sends, Applies, fate_in, counts_of};
+ghost use Rattle.call_schedule.specs.Writing.{marked_seen, pushed_net, pushed_waiting, remembered, flag_in, id_in, echo_in, Room, Sendable, Applicable, Sends, Applies, fate_in, counts_of};
 
 use call_offer::{Echo, Offer, Outgoing, Sending};
 use table_delivery::Delivery;
@@ -36,37 +36,26 @@ fn mark(setup: &[u64], seen: &mut [u64], to: usize, id: u64)
     seen[to] = n + 1;
 }
 
-// A copy with the next sequence, where there is one.
-fn push_if(hit: bool, net: &mut [u64], waiting: &mut [u64], c: Copy)
+// A copy, where there is one, takes the next sequence and stands among those that wait.
+fn push(net: &mut [u64], waiting: &mut [u64], c: Option<Copy>)
     requires { Room net.old waiting.old 1 }
-    ensures counts { net.new ≡ pushed_net hit net.old waiting.old c }
-    ensures rows { waiting.new ≡ pushed_waiting hit net.old waiting.old c }
+    ensures counts { net.new ≡ pushed_net c net.old waiting.old }
+    ensures rows { waiting.new ≡ pushed_waiting c net.old waiting.old }
 {
-    if !hit {
+    let Some(c) = c else {
         return;
-    }
+    };
     let k = net[ask_tables::SEQUENCE] + 1;
     let n = net[ask_tables::WAITING];
-    let delivery = c.delivery;
-    table_waiting::insert(
-        waiting,
-        n as usize,
-        Copy {
-            delivery,
-            sequence: k,
-            original: c.original,
-            id: c.id,
-            tag: c.tag,
-        },
-    );
+    table_waiting::insert(waiting, n as usize, Copy { sequence: k, ..c });
     net[ask_tables::SEQUENCE] = k;
     net[ask_tables::WAITING] = n + 1;
 }
 
-// A copy of what is carried; it takes its sequence when it is pushed.
-fn copy_with(m: Outgoing, to: usize, e: Entry, latency: u64, flag: u64, id: u64) -> Copy
+// A copy of what is carried, an original where it has an id; it takes its sequence when it is pushed.
+fn copy_with(m: Outgoing, to: usize, e: Entry, latency: u64, id: Option<u64>) -> Copy
     requires { (m.now ≤ latest_now) × (latency ≤ longest) }
-    ensures { result ≡ copy_with (as_message m) to 0 e latency flag id }
+    ensures { result ≡ copy_with (as_message m) to 0 e latency (flag_in id) (id_in id) }
 {
     let delivery = Delivery {
         from: m.from,
@@ -81,8 +70,8 @@ fn copy_with(m: Outgoing, to: usize, e: Entry, latency: u64, flag: u64, id: u64)
     Copy {
         delivery,
         sequence: 0,
-        original: flag,
-        id,
+        original: id.is_some() as u64,
+        id: id.unwrap_or(0),
         tag: e.tag,
     }
 }
@@ -91,20 +80,18 @@ fn original(m: Outgoing, to: usize, latency: u64) -> Copy
     requires { (m.now ≤ latest_now) × (latency ≤ longest) }
     ensures { result ≡ original (as_message m) to 0 latency }
 {
-    let own = Entry {
-        class: m.class,
-        wire: m.wire,
-        tag: m.tag,
-    };
-    copy_with(m, to, own, latency, 1, m.id)
+    copy_with(m, to, m.entry(), latency, Some(m.id))
 }
 
-// An echo carries no id.
-fn echo(m: Outgoing, to: usize, e: Entry, latency: u64) -> Copy
-    requires { (m.now ≤ latest_now) × (latency ≤ longest) }
-    ensures { result ≡ copy_with (as_message m) to 0 e latency 0 0 }
+// The copy of an echo, which carries no id.
+fn echo(m: Outgoing, to: usize, e: Option<Echo>) -> Option<Copy>
+    requires { (m.now ≤ latest_now) × IfSome e (λ q. q.latency ≤ longest) }
+    ensures { result ≡ echo_in (as_message m) to e }
 {
-    copy_with(m, to, e, latency, 0, 0)
+    let Some(e) = e else {
+        return None;
+    };
+    Some(copy_with(m, to, e.entry, e.latency, None))
 }
 
 // The ring takes the message, where an echo rate is above 0.
@@ -117,16 +104,7 @@ fn remember(setup: &[u64], rings: &mut [u64], m: Outgoing)
     }
     let many = setup[ask_tables::TYPES] as usize * table_rings::SCOPES;
     let ring = table_rings::number(m.kind as usize, m.scope as usize);
-    table_rings::push(
-        rings,
-        many,
-        ring,
-        Entry {
-            class: m.class,
-            wire: m.wire,
-            tag: m.tag,
-        },
-    );
+    table_rings::push(rings, many, ring, m.entry());
 }
 
 // Sent: word counts, the mark, the original, its echoes, the ring.
@@ -144,26 +122,13 @@ fn send(
     requires { Sendable setup.now net.old words.old seen.old waiting.old rings.old m to x }
     ensures { Sends m to x setup.now net.old words.old seen.old waiting.old rings.old net.new words.new seen.new waiting.new rings.new }
 {
-    let e = x.echoes;
-    let duplicate = e.duplicate;
-    let replay = e.replay;
-    let old = e.old;
-    let own = Entry {
-        class: m.class,
-        wire: m.wire,
-        tag: m.tag,
-    };
-    words[m.from as usize * ask_tables::LINK_ROW + to] = e.words;
+    words[m.from as usize * ask_tables::LINK_ROW + to] = x.echoes.words;
     net[ask_tables::FAULT_WORDS] = x.fault;
     mark(setup, seen, to, m.id);
-    push_if(true, net, waiting, original(m, to, x.latency));
-    push_if(
-        duplicate.some,
-        net,
-        waiting,
-        echo(m, to, own, duplicate.latency),
-    );
-    push_if(replay.some, net, waiting, echo(m, to, old, replay.latency));
+    let first = original(m, to, x.latency);
+    push(net, waiting, Some(first));
+    push(net, waiting, echo(m, to, x.echoes.duplicate));
+    push(net, waiting, echo(m, to, x.echoes.replay));
     remember(setup, rings, m);
 }
 
@@ -208,39 +173,24 @@ pub fn count(c: Counts, r: Offer) -> Counts
 {
     match r {
         Offer::Deduplicated => Counts {
-            sent: c.sent,
             deduplicated: c.deduplicated + 1,
-            partition: c.partition,
-            loss: c.loss,
-            fault: c.fault,
+            ..c
         },
         Offer::Partition => Counts {
-            sent: c.sent,
-            deduplicated: c.deduplicated,
             partition: c.partition + 1,
-            loss: c.loss,
-            fault: c.fault,
+            ..c
         },
         Offer::Loss(_) => Counts {
-            sent: c.sent,
-            deduplicated: c.deduplicated,
-            partition: c.partition,
             loss: c.loss + 1,
-            fault: c.fault,
+            ..c
         },
         Offer::Fault(_) => Counts {
-            sent: c.sent,
-            deduplicated: c.deduplicated,
-            partition: c.partition,
-            loss: c.loss,
             fault: c.fault + 1,
+            ..c
         },
         Offer::Sent(_) => Counts {
             sent: c.sent + 1,
-            deduplicated: c.deduplicated,
-            partition: c.partition,
-            loss: c.loss,
-            fault: c.fault,
+            ..c
         },
     }
 }

@@ -1,6 +1,6 @@
 -- The two ways of each call: a number refuses it, or its workers leave what the definitions say. Assumes nothing.
-use mathlib.Core.Path.{◌≡◌, sym, ap, ◌∙◌}
-use mathlib.Core.Bool.{Bool, not}
+use mathlib.Core.Path.{◌≡◌, refl, sym, ap, ◌∙◌}
+use mathlib.Core.Bool.{Bool, true, false, not}
 use mathlib.Core.List.{List, [], ◌∷◌, ◌++◌}
 use Prim.Native.Nat.{ℕ, ◌+◌, ◌*◌, ◌<◌}
 use native.Mathlib.Nat.{add-zero}
@@ -24,7 +24,7 @@ use Rattle.spec_network.specs.Lending.{lend_tills, lend_seen, lend_tills_seen}
 use Rattle.spec_network.specs.Writes.{Reply, call_reply, step_t, output_of}
 use Rattle.ask_tables.specs.Held.{setup_held, tills_held, seen_held}
 use Rattle.call_reply.specs.declared.Value.{Value}
-use Rattle.call_reply.specs.Reply.{refused_by}
+use Rattle.call_reply.specs.Reply.{refused_by, answered_by}
 use Rattle.call_reply.proofs.Laws as reply
 use Rattle.call_till.specs.Calls.{DoesTakeDown, Changes, DoesIsDown, DoesMarksOf, marks_reply}
 use Rattle.ask_till.specs.Questions.{tills_lent, seen_lent, both_lent, down_number, read_number, up_number, handlers_number, marks_number}
@@ -95,6 +95,10 @@ module _ (s a : List ℕ) (t gossip host r : ℕ) (e : r ≡ handlers_number s a
 
 -- ---- is_down
 
+twice : (b : Bool) → not (not b) ≡ b
+twice true = refl
+twice false = refl
+
 module _ (s a : List ℕ) (t r : ℕ) (e : r ≡ read_number s a t) where
   ask_number : (T : Tables) → r ≡ (call_reply (lend_tills T s a) (reading (is_down t))).number
   unfolding read_number tills_lent setup_held tills_held
@@ -105,12 +109,13 @@ module _ (s a : List ℕ) (t r : ℕ) (e : r ≡ read_number s a t) where
   ask_refused v q h = λ T.
       (q ∙ reply.value_refused (lend_tills T s a) (reading (is_down t)) r (ask_number T) h, reply.stays (lend_tills T s a) (reading (is_down t)) r (ask_number T) h)
 
-  pub ask_done : r ≡ 0 → Room s a t → (down : Bool) → eqb (get_or a (t * till_form.width) 0) 0 ≡ down → DoesIsDown s a t (record { number = 0; found = 1; value = bit (not (not down)) })
+  pub ask_done : r ≡ 0 → Room s a t → DoesIsDown s a t (answered_by (bit (eqb (get_or a (t * till_form.width) 0) 0)))
   unfolding DoesIsDown
-  ask_done h k down q = λ T.
-      let here : answer_of (opening_at (lend_tills T s a)) (live (sizes_at s) (lend_tills T s a)) (reading (is_down t)) ≡ number 1 (bit (not (not down)))
-      = ap (λ (x : Till). number 1 (bit (not (not (eqb x.up 0))))) (till_row_lem s a t k.there) ∙ ap (λ (b : Bool). number 1 (bit (not (not b)))) q in
-      (reply.value (lend_tills T s a) (reading (is_down t)) r (ask_number T) h 1 (bit (not (not down))) here, reply.steps (lend_tills T s a) (reading (is_down t)) r (ask_number T) h)
+  ask_done h k = λ T.
+      let down : Bool = eqb (get_or a (t * till_form.width) 0) 0 in
+      let here : answer_of (opening_at (lend_tills T s a)) (live (sizes_at s) (lend_tills T s a)) (reading (is_down t)) ≡ number 1 (bit down)
+      = ap (λ (x : Till). number 1 (bit (not (not (eqb x.up 0))))) (till_row_lem s a t k.there) ∙ ap (λ (b : Bool). number 1 (bit b)) (twice down) in
+      (reply.value (lend_tills T s a) (reading (is_down t)) r (ask_number T) h 1 (bit down) here, reply.steps (lend_tills T s a) (reading (is_down t)) r (ask_number T) h)
 
 -- ---- marks_of
 

@@ -1,6 +1,8 @@
 -- Document 01, network (`take_down`, `bring_up`) and 'What changes shape' (handlers), with questions 1, 4 and 5: THE CONTRACTS of the calls on tills and marks. Of the
 -- tables `setup` and `tills`, `seen` or both are lent; the others hold whatever they hold, and stay.
-use Rattle.std.specs.Prelude.{List, ℕ, length}
+use Rattle.std.specs.Prelude.{Result, Ok, Err, List, ℕ, length}
+use Rattle.ask_refusal.specs.declared.Refusal.{Refusal}
+use Rattle.ask_refusal.specs.Refusals.{number_of}
 use Rattle.spec_network.specs.Calls.{Call, take_down, bring_up, handlers, reading, is_down, marks_of, Answer, shown}
 use Rattle.spec_network.specs.Tables.{Tables}
 use Rattle.spec_network.specs.Lending.{lend_tills, lend_seen, lend_tills_seen}
@@ -34,6 +36,11 @@ ids_in a = (shown a).ids
 
 abbrev pub marks_reply : Reply → Marks
 marks_reply q = record { number = q.number; count = length (ids_in q.answer) }
+
+-- what C is answered, by the call's result
+abbrev pub marks_answer : Result ℕ Refusal → Marks
+marks_answer (Ok n) = record { number = 0; count = n }
+marks_answer (Err e) = record { number = number_of e; count = 0 }
 
 -- the marks at the front of the output
 unfoldable pub DoesMarksOf : (setup seen : List ℕ) (t : ℕ) → Marks → (out out' : List ℕ) → Type 0

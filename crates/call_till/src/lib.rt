@@ -2,11 +2,12 @@
 #![tactic(auto)]
 
 ghost use Rattle.std.specs.Prelude.{◌≡◌};
-ghost use Rattle.call_till.specs.Calls.{DoesTakeDown, DoesBringUp, DoesSetHandlers, DoesIsDown, DoesMarksOf};
+ghost use Rattle.call_reply.specs.Reply.{done_reply, test_reply};
+ghost use Rattle.call_till.specs.Calls.{marks_answer, DoesTakeDown, DoesBringUp, DoesSetHandlers, DoesIsDown, DoesMarksOf};
 
-use call_reply::{Done, Value};
+use ask_refusal::Refusal;
 
-// How many marks a till has.
+// How many marks a till has, as C gets it.
 #[repr(C)]
 #[derive(Clone, Copy)]
 pub struct Marks {
@@ -14,94 +15,92 @@ pub struct Marks {
     pub count: u64,
 }
 
+impl From<Result<u64, Refusal>> for Marks {
+    ghost from_gives = { λ r m. m ≡ marks_answer r };
+
+    // The count, or the number of the question that refused.
+    fn from(outcome: Result<u64, Refusal>) -> Marks {
+        match outcome {
+            Ok(marks) => Marks {
+                number: 0,
+                count: marks,
+            },
+            Err(refusal) => Marks {
+                number: refusal.number(),
+                count: 0,
+            },
+        }
+    }
+}
+
 // The till is down; its marks, handlers and shards go, its waiting copies stay.
-pub fn take_down(setup: &[u64], tills: &mut [u64], seen: &mut [u64], t: u64) -> Done
+pub fn take_down(setup: &[u64], tills: &mut [u64], seen: &mut [u64], t: u64) -> Result<(), Refusal>
     ensures { DoesTakeDown
         setup.now tills.old seen.old
         tills.new seen.new
-        t result }
+        t (done_reply result) }
 {
-    let number = ask_till::down_refusal(setup, tills, seen, t);
-    if number != 0 {
-        return Done { number };
-    }
+    ask_till::down(setup, tills, seen, t)?;
     ask_tables::put_till(tills, t as usize * ask_tables::TILL_WIDTH, 0, 0, 0, 0);
     ask_tables::put(seen, t as usize, 0);
-    Done { number: 0 }
+    Ok(())
 }
 
 // The till is up, with these shards and no handlers.
-pub fn bring_up(setup: &[u64], tills: &mut [u64], t: u64, shards: u64) -> Done
+pub fn bring_up(setup: &[u64], tills: &mut [u64], t: u64, shards: u64) -> Result<(), Refusal>
     ensures { DoesBringUp
         setup.now tills.old
         tills.new
-        t shards result }
+        t shards (done_reply result) }
 {
-    let number = ask_till::up_refusal(setup, tills, t, shards);
-    if number != 0 {
-        return Done { number };
-    }
+    ask_till::up(setup, tills, t, shards)?;
     ask_tables::put_till(tills, t as usize * ask_tables::TILL_WIDTH, 1, 0, 0, shards);
-    Done { number: 0 }
+    Ok(())
 }
 
 // The types that the till's gossip and host handlers take, as masks.
-pub fn set_handlers(setup: &[u64], tills: &mut [u64], t: u64, gossip: u64, host: u64) -> Done
+pub fn set_handlers(
+    setup: &[u64],
+    tills: &mut [u64],
+    t: u64,
+    gossip: u64,
+    host: u64,
+) -> Result<(), Refusal>
     ensures { DoesSetHandlers
         setup.now tills.old
         tills.new
-        t gossip host result }
+        t gossip host (done_reply result) }
 {
-    let number = ask_till::handlers_refusal(setup, tills, t, gossip, host);
-    if number != 0 {
-        return Done { number };
-    }
+    ask_till::handlers(setup, tills, t, gossip, host)?;
     let b = t as usize * ask_tables::TILL_WIDTH;
     let up = tills[b];
     let shards = tills[b + 3];
     ask_tables::put_till(tills, b, up, gossip, host, shards);
-    Done { number: 0 }
+    Ok(())
 }
 
-// Is the till down? The value is 1 or 0.
-pub fn is_down(setup: &[u64], tills: &[u64], t: u64) -> Value
+// Is the till down?
+pub fn is_down(setup: &[u64], tills: &[u64], t: u64) -> Result<bool, Refusal>
     ensures { DoesIsDown
         setup.now tills.now
-        t result }
+        t (test_reply result) }
 {
-    let number = ask_till::read_refusal(setup, tills, t);
-    if number != 0 {
-        return call_reply::refused(number);
-    }
-    if tills[t as usize * ask_tables::TILL_WIDTH] == 0 {
-        return Value {
-            number: 0,
-            found: 1,
-            value: 1,
-        };
-    }
-    Value {
-        number: 0,
-        found: 1,
-        value: 0,
-    }
+    ask_till::read(setup, tills, t)?;
+    Ok(tills[t as usize * ask_tables::TILL_WIDTH] == 0)
 }
 
-// The till's marks, rising, at the front of the output.
-pub fn marks_of(setup: &[u64], seen: &[u64], t: u64, out: &mut [u64]) -> Marks
+// The till's marks, rising, at the front of the output: how many they are.
+pub fn marks_of(setup: &[u64], seen: &[u64], t: u64, out: &mut [u64]) -> Result<u64, Refusal>
     ensures { DoesMarksOf
         setup.now seen.now
-        t result
+        t (marks_answer result)
         out.old out.new }
 {
-    let number = ask_till::marks_refusal(setup, seen, out.len() as u64, t);
-    if number != 0 {
-        return Marks { number, count: 0 };
-    }
+    ask_till::marks(setup, seen, out.len() as u64, t)?;
     let count = seen[t as usize];
     let start = setup[ask_tables::TILLS] as usize
         + t as usize * setup[ask_tables::SEEN_SLOTS] as usize;
     ask_tables::copy_front(seen, start, count as usize, out);
     table_marks::list(out, count as usize);
-    Marks { number: 0, count }
+    Ok(count)
 }

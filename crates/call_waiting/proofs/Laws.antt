@@ -22,31 +22,21 @@ use Rattle.spec_network.specs.Real.{opening_at}
 use Rattle.spec_network.specs.Lending.{lend_waiting}
 use Rattle.spec_network.specs.Writes.{Reply, output_of, call_reply}
 use Rattle.ask_tables.specs.Held.{setup_held, net_held, waiting_held}
-use Rattle.ask_tables.proofs.Ladder.{yes, no, on, off, last, both, only}
+use Rattle.ask_tables.proofs.Ladder.{yes, no, both, only}
 use Rattle.ask_tables.proofs.Passed.{PassedNet, net_says_lem}
 use Rattle.ask_rows.proofs.Passed.{PassedWaiting, waiting_says_lem}
-use Rattle.call_reply.specs.declared.Value.{Value}
+use Rattle.ask_refusal.specs.declared.Refusal.{Refusal}
+use Rattle.ask_refusal.specs.declared.Refusal.TheVariants.{Tables as TablesRefused}
+use Rattle.ask_refusal.specs.Refusals.{number_of}
+use Rattle.ask_refusal.proofs.Laws.{number_not_0}
 use Rattle.call_reply.specs.Reply.{refused_by}
 use Rattle.call_reply.proofs.Laws as reply
-use Rattle.call_waiting.specs.declared.Copied.{Copied}
 use Rattle.call_waiting.specs.Call.{Reads, copied_of, copies_call, DoesCopies, waiting_lent, lent_number, till_number, out_number, transit_of, not_copied}
 use Rattle.call_waiting.proofs.Work.{first_none, first_some}
 
 -- ---- The ladders
 
 module _ (s n w : List ℕ) where
-  pub no_setup : setup_held s ≡ false → false ≡ waiting_lent s n w
-  unfolding waiting_lent
-  no_setup h = off _ _ h
-
-  pub no_net : setup_held s ≡ true → net_held s n ≡ false → false ≡ waiting_lent s n w
-  unfolding waiting_lent
-  no_net h k = on _ _ _ h (off _ _ k)
-
-  pub last_waiting : (r : Bool) → setup_held s ≡ true → net_held s n ≡ true → r ≡ waiting_held s n w → r ≡ waiting_lent s n w
-  unfolding waiting_lent
-  last_waiting r h k q = on _ _ _ h (on _ _ _ k (last _ _ q))
-
   pub not_lent : (rest : ℕ) → waiting_lent s n w ≡ false → 1 ≡ lent_number s n w rest
   unfolding lent_number
   not_lent rest h = no _ _ _ _ h refl
@@ -84,13 +74,13 @@ module _ (s n w : List ℕ) where
       let p = both (net_held s n) _ q.1 in
       record { net = net_says_lem s n p.0; waiting = waiting_says_lem s n w (only _ p.1) }
 
-  one : (x : Bool) (rest r : ℕ) → r ≡ cond x rest 1 → r ≡ 0 → (x ≡ true) × (rest ≡ 0)
-  one true rest r p q = (refl, sym p ∙ q)
-  one false rest r p q = absurd (omega arith)
+  one : (x : Bool) (rest : ℕ) → 0 ≡ cond x rest 1 → (x ≡ true) × (rest ≡ 0)
+  one true rest p = (refl, sym p)
+  one false rest p = absurd (omega arith)
 
-  pub passed : (rest r : ℕ) → r ≡ lent_number s n w rest → r ≡ 0 → (waiting_lent s n w ≡ true) × (rest ≡ 0)
+  pub passed : (rest : ℕ) → 0 ≡ lent_number s n w rest → (waiting_lent s n w ≡ true) × (rest ≡ 0)
   unfolding lent_number
-  passed rest r p q = one (waiting_lent s n w) rest r p q
+  passed rest p = one (waiting_lent s n w) rest p
 
   pub net_long : waiting_lent s n w ≡ true → length n ≡ net_width
   net_long h = (holds h).net.size
@@ -100,42 +90,45 @@ module _ (s n w : List ℕ) where
 
 -- ---- A reading that answers a number
 
-module _ (c : Reading) (s n w : List ℕ) (r N : ℕ) (e : r ≡ N) (same : (T : Tables) → N ≡ (call_reply (lend_waiting T s n w) (reading c)).number) where
-  read_refused : (v : Value) → v ≡ refused_by r → (r ≡ 0 → ⊥) → Reads s n w c v
+module _ (c : Reading) (s n w : List ℕ) (N : ℕ) (same : (T : Tables) → N ≡ (call_reply (lend_waiting T s n w) (reading c)).number) where
+  read_refused : (e : Refusal) → number_of e ≡ N → Reads s n w c (refused_by (number_of e))
   unfolding Reads
-  read_refused v q h = λ T. (q ∙ reply.value_refused (lend_waiting T s n w) (reading c) r (e ∙ same T) h, reply.stays (lend_waiting T s n w) (reading c) r (e ∙ same T) h)
+  read_refused e q = λ T. (
+    reply.value_refused (lend_waiting T s n w) (reading c) (number_of e) (q ∙ same T) (number_not_0 e),
+    reply.stays (lend_waiting T s n w) (reading c) (number_of e) (q ∙ same T) (number_not_0 e),
+  )
 
-  read_done : r ≡ 0 → (f x : ℕ) → ((T : Tables) → answer_of (opening_at (lend_waiting T s n w)) (live (sizes_at s) (lend_waiting T s n w)) (reading c) ≡ number f x)
+  read_done : 0 ≡ N → (f x : ℕ) → ((T : Tables) → answer_of (opening_at (lend_waiting T s n w)) (live (sizes_at s) (lend_waiting T s n w)) (reading c) ≡ number f x)
       → Reads s n w c (record { number = 0; found = f; value = x })
   unfolding Reads
-  read_done h f x a = λ T. (reply.value (lend_waiting T s n w) (reading c) r (e ∙ same T) h f x (a T), reply.steps (lend_waiting T s n w) (reading c) r (e ∙ same T) h)
+  read_done q f x a = λ T. (reply.value (lend_waiting T s n w) (reading c) 0 (q ∙ same T) refl f x (a T), reply.steps (lend_waiting T s n w) (reading c) 0 (q ∙ same T) refl)
 
-module _ (s n w : List ℕ) (t r : ℕ) (e : r ≡ lent_number s n w (till_number s t)) where
+module _ (s n w : List ℕ) (t : ℕ) where
   transit_number : (T : Tables) → lent_number s n w (till_number s t) ≡ (call_reply (lend_waiting T s n w) (reading (transit t))).number
   unfolding lent_number till_number waiting_lent setup_held net_held waiting_held
   transit_number T = refl
 
-  pub transit_refused : (v : Value) → v ≡ refused_by r → (r ≡ 0 → ⊥) → Reads s n w (transit t) v
-  transit_refused v q h = read_refused (transit t) s n w r _ e transit_number v q h
+  pub transit_refused : (e : Refusal) → number_of e ≡ lent_number s n w (till_number s t) → Reads s n w (transit t) (refused_by (number_of e))
+  transit_refused e q = read_refused (transit t) s n w _ transit_number e q
 
-  pub transit_done : r ≡ 0 → (x : ℕ) → x ≡ transit_of t w (cell n waiting_at) → Reads s n w (transit t) (record { number = 0; found = 1; value = x })
+  pub transit_done : 0 ≡ lent_number s n w (till_number s t) → (x : ℕ) → x ≡ transit_of t w (cell n waiting_at) → Reads s n w (transit t) (record { number = 0; found = 1; value = x })
   unfolding transit_of
-  transit_done h x q = read_done (transit t) s n w r _ e transit_number h 1 x (λ T. ap (λ (k : ℕ). number 1 k) (sym q))
+  transit_done h x q = read_done (transit t) s n w _ transit_number h 1 x (λ T. ap (λ (k : ℕ). number 1 k) (sym q))
 
 module _ (s n w : List ℕ) where
   next_number : (T : Tables) → lent_number s n w 0 ≡ (call_reply (lend_waiting T s n w) (reading next_time)).number
   unfolding lent_number waiting_lent setup_held net_held waiting_held
   next_number T = refl
 
-  pub next_refused : (v : Value) → waiting_lent s n w ≡ false → v ≡ refused_by 1 → Reads s n w next_time v
-  next_refused v h q = read_refused next_time s n w 1 _ (not_lent s n w 0 h) next_number v q (λ z. omega arith)
+  pub next_refused : waiting_lent s n w ≡ false → Reads s n w next_time (refused_by 1)
+  next_refused h = read_refused next_time s n w _ next_number TablesRefused (not_lent s n w 0 h)
 
   pub next_none : waiting_lent s n w ≡ true → cell n waiting_at ≡ 0 → Reads s n w next_time (record { number = 0; found = 0; value = 0 })
-  next_none h q = read_done next_time s n w 0 _ (is_lent s n w 0 0 h refl) next_number refl 0 0 (λ T. first_none w (cell n waiting_at) q)
+  next_none h q = read_done next_time s n w _ next_number (is_lent s n w 0 0 h refl) 0 0 (λ T. first_none w (cell n waiting_at) q)
 
   pub next_some : waiting_lent s n w ≡ true → (cell n waiting_at ≡ 0 → ⊥) → (d : Delivery) → d ≡ delivery.read (drop 0 w) → Reads s n w next_time (record { number = 0; found = 1; value = d.time })
   next_some h q d ed =
-      read_done next_time s n w 0 _ (is_lent s n w 0 0 h refl) next_number refl 1 d.time
+      read_done next_time s n w _ next_number (is_lent s n w 0 0 h refl) 1 d.time
       (λ T. first_some w (cell n waiting_at) q ∙ ap (λ (x : Delivery). number 1 x.time) (sym ed))
 
   -- the first row is there
@@ -144,25 +137,28 @@ module _ (s n w : List ℕ) where
 
 -- ---- All of them
 
-module _ (s n w out : List ℕ) (r : ℕ) (e : r ≡ lent_number s n w (out_number s (length out / waiting.width))) where
+module _ (s n w out : List ℕ) where
   copies_number : (T : Tables) → lent_number s n w (out_number s (length out / waiting.width)) ≡ (call_reply (lend_waiting T s n w) (copies_call out)).number
   unfolding lent_number out_number waiting_lent setup_held net_held waiting_held
   copies_number T = refl
 
-  pub copies_refused : (v : Copied) → v ≡ not_copied r → (r ≡ 0 → ⊥) → DoesCopies s n w v out out
+  pub copies_refused : (e : Refusal) → number_of e ≡ lent_number s n w (out_number s (length out / waiting.width)) → DoesCopies s n w (not_copied (number_of e)) out out
   unfolding DoesCopies
-  copies_refused v q h = λ T.
-      let same = e ∙ copies_number T in
-      let still = reply.silenced (lend_waiting T s n w) (copies_call out) r same h in
-      (q ∙ ap copied_of (sym still), reply.stays (lend_waiting T s n w) (copies_call out) r same h, sym (ap (λ (a : Reply). output_of a.answer ++ drop (length (output_of a.answer)) out) still))
+  copies_refused e q = λ T.
+      let same = q ∙ copies_number T in
+      let still = reply.silenced (lend_waiting T s n w) (copies_call out) (number_of e) same (number_not_0 e) in (
+        ap copied_of (sym still),
+        reply.stays (lend_waiting T s n w) (copies_call out) (number_of e) same (number_not_0 e),
+        sym (ap (λ (a : Reply). output_of a.answer ++ drop (length (output_of a.answer)) out) still),
+      )
 
-  module _ (h : r ≡ 0) where
+  module _ (q : 0 ≡ lent_number s n w (out_number s (length out / waiting.width))) where
     lent : waiting_lent s n w ≡ true
-    lent = (passed s n w (out_number s (length out / waiting.width)) r e h).0
+    lent = (passed s n w (out_number s (length out / waiting.width)) q).0
 
     slots_fit : (sizes_at s).wait_slots ≤ length out / waiting.width
     unfolding out_number
-    slots_fit = go (leb (sizes_at s).wait_slots (length out / waiting.width)) refl (passed s n w (out_number s (length out / waiting.width)) r e h).1
+    slots_fit = go (leb (sizes_at s).wait_slots (length out / waiting.width)) refl (passed s n w (out_number s (length out / waiting.width)) q).1
       where
         go : (x : Bool) → leb (sizes_at s).wait_slots (length out / waiting.width) ≡ x → ◌≡◌ {A = ℕ} (cond x 0 1) 0 → (sizes_at s).wait_slots ≤ length out / waiting.width
         go true p q = leb-true (sizes_at s).wait_slots (length out / waiting.width) p
@@ -190,10 +186,10 @@ module _ (s n w out : List ℕ) (r : ℕ) (e : r ≡ lent_number s n w (out_numb
     pub copies_done : (out' : List ℕ) → out' ≡ take (cell n waiting_at * waiting.width) w ++ drop (cell n waiting_at * waiting.width) out
         → DoesCopies s n w (record { number = 0; copies = cell n waiting_at }) out out'
     unfolding DoesCopies
-    copies_done out' q = λ T.
-        let same = sym h ∙ e ∙ copies_number T in
+    copies_done out' p = λ T.
+        let same = q ∙ copies_number T in
         let told = reply.answered (lend_waiting T s n w) (copies_call out) 0 same refl in (
           ap (λ (k : ℕ). record { number = 0; copies = k }) (sym (length_rows waiting.width waiting.read (cell n waiting_at) w)) ∙ sym (ap copied_of told),
           reply.steps (lend_waiting T s n w) (copies_call out) 0 same refl,
-          q ∙ front ∙ sym (ap (λ (a : Reply). output_of a.answer ++ drop (length (output_of a.answer)) out) told),
+          p ∙ front ∙ sym (ap (λ (a : Reply). output_of a.answer ++ drop (length (output_of a.answer)) out) told),
         )

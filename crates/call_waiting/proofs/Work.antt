@@ -1,11 +1,12 @@
 -- The loops: originals counted by their till, words copied, and the first copy's time. Assumes nothing.
 use mathlib.Core.Path.{◌≡◌, refl, sym, ap, ◌∙◌}
+use mathlib.Core.Bool.{Bool, true, false}
 use mathlib.Core.List.{List}
+use mir.Val.{bool_byte}
 use Prim.Native.Nat.{ℕ, zero, suc, ◌+◌, ◌*◌, ◌-◌, ◌≤◌, ◌<◌}
 use native.Mathlib.Nat.{zero-add, add-zero, add_assoc}
 use native.Mathlib.Omega.{arith}
 use lib.ListN.{drop}
-use borrow.Author.Tests.{eq-eqb, ne_eqb}
 use Rattle.table_rows.proofs.Rows.{rows_first, rows_next, rows_end_lem}
 use Rattle.table_delivery.specs.Delivery as delivery
 use Rattle.table_waiting.specs.declared.Copy.{Copy}
@@ -15,17 +16,15 @@ use Rattle.spec_network.specs.Live.{moves_to}
 use Rattle.spec_network.specs.Calls.{number, first_time}
 use Rattle.call_waiting.specs.Call.{transit_of}
 
--- ---- Is a copy an original to a till?
+-- ---- A test as a number
 
-module _ (t : ℕ) (c : Copy) where
-  pub moves_echo : c.original ≡ 0 → 0 ≡ bit (moves_to t c)
-  moves_echo e = rw (eq-eqb c.original 0 e)
+pub byte_bit : (b : Bool) → bool_byte b ≡ bit b
+byte_bit true = refl
+byte_bit false = refl
 
-  pub moves_here : (c.original ≡ 0 → ⊥) → c.delivery.to ≡ t → 1 ≡ bit (moves_to t c)
-  moves_here e h = rw (ne_eqb c.original 0 e, eq-eqb c.delivery.to t h)
-
-  pub moves_elsewhere : (c.original ≡ 0 → ⊥) → (c.delivery.to ≡ t → ⊥) → 0 ≡ bit (moves_to t c)
-  moves_elsewhere e h = rw (ne_eqb c.original 0 e, ne_eqb c.delivery.to t h)
+pub byte_small : (b : Bool) → bool_byte b ≤ 1
+byte_small true = omega arith
+byte_small false = omega arith
 
 -- ---- Originals to a till: k of the first i copies, and those that are left
 

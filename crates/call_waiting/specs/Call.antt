@@ -1,6 +1,8 @@
 -- Document 01, network (in transit) and 'The book' (readings, waiting copies), with questions 1 and 4; document 02, M-101 (in transit counts originals): THE
 -- CONTRACTS of in_transit, next_time and waiting_copies. Of the tables `setup`, `net` and `waiting` are lent; the others hold whatever they hold. All stay.
-use Rattle.std.specs.Prelude.{Bool, true, cond, ◌&&◌, List, ℕ, ◌/◌, leb, ltb, length}
+use Rattle.std.specs.Prelude.{Bool, true, cond, ◌&&◌, List, ℕ, ◌/◌, leb, ltb, length, Result, Ok, Err}
+use Rattle.ask_refusal.specs.declared.Refusal.{Refusal}
+use Rattle.ask_refusal.specs.Refusals.{number_of}
 use Rattle.table_waiting.specs.Waiting as waiting
 use Rattle.spec_network.specs.Lists.{count}
 use Rattle.spec_network.specs.Live.{moves_to}
@@ -66,3 +68,8 @@ transit_of t w n = count (moves_to t) (waiting.copies w n)
 
 abbrev pub not_copied : ℕ → Copied
 not_copied n = record { number = n; copies = 0 }
+
+-- what C is answered, by a call's result
+abbrev pub copied_reply : Result ℕ Refusal → Copied
+copied_reply (Ok k) = record { number = 0; copies = k }
+copied_reply (Err e) = not_copied (number_of e)

@@ -1,7 +1,7 @@
 // Accept as a C function.
 ghost use Rattle.call_accept.specs.Accepting.{DoesAccept, call_of};
 
-use call_accept::Accepted;
+use call_accept::{Accepted, Entry, FixedTables};
 
 // Takes an entry of a till's outbox.
 #[unsafe(no_mangle)]
@@ -33,8 +33,32 @@ pub extern "C" fn gossip_accept(
         net.new words.new seen.new waiting.new rings.new rules.new
         (call_of wire.now «from» at kind «class» scope tag opens) result }
 {
-    call_accept::accept(
-        setup, net, names, tills, words, keys, prices, seen, waiting, rings, rules, blocks, wire,
-        from, at, kind, class, scope, tag, opens,
-    )
+    let fixed = FixedTables {
+        setup,
+        tills,
+        keys,
+        prices,
+        blocks,
+    };
+    let entry = Entry {
+        wire,
+        from,
+        at,
+        kind,
+        class,
+        scope,
+        tag,
+    };
+    Accepted::from(call_accept::accept(
+        fixed,
+        net,
+        names,
+        words,
+        seen,
+        waiting,
+        rings,
+        rules,
+        entry,
+        opens != 0,
+    ))
 }

@@ -18,7 +18,7 @@ pub extern "C" fn gossip_block(
         net.new blocks.new
         «from» to result }
 {
-    call_block::block(setup, net, blocks, from, to)
+    Done::from(call_block::block(setup, net, blocks, from, to))
 }
 
 // Blocks a directed pair for a window.
@@ -37,7 +37,7 @@ pub extern "C" fn gossip_block_during(
         net.new blocks.new
         «from» to start end result }
 {
-    call_block::block_during(setup, net, blocks, from, to, start, end)
+    Done::from(call_block::block_during(setup, net, blocks, from, to, start, end))
 }
 
 // Takes every window of a pair away.
@@ -54,7 +54,7 @@ pub extern "C" fn gossip_unblock(
         net.new blocks.new
         «from» to result }
 {
-    call_block::unblock(setup, net, blocks, from, to)
+    Done::from(call_block::unblock(setup, net, blocks, from, to))
 }
 
 // Is a pair blocked at a time?
@@ -71,7 +71,7 @@ pub extern "C" fn gossip_is_blocked(
         setup.now net.now blocks.now
         «from» to at result }
 {
-    call_block::is_blocked(setup, net, blocks, from, to, at)
+    Value::from(call_block::is_blocked(setup, net, blocks, from, to, at))
 }
 
 // Installs the rule of a drop card.
@@ -87,7 +87,7 @@ pub extern "C" fn gossip_install(
         net.new rules.new
         card.now result }
 {
-    call_rule::install(setup, net, rules, card)
+    Value::from(call_rule::install(setup, net, rules, card))
 }
 
 // Removes a rule; its last fired count.
@@ -98,7 +98,7 @@ pub extern "C" fn gossip_remove(setup: &[u64], net: &mut [u64], rules: &mut [u64
         net.new rules.new
         id result }
 {
-    call_rule::remove(setup, net, rules, id)
+    Value::from(call_rule::remove(setup, net, rules, id))
 }
 
 // How often a rule has fired.
@@ -108,7 +108,7 @@ pub extern "C" fn gossip_fired(setup: &[u64], net: &[u64], rules: &[u64], id: u6
         setup.now net.now rules.now
         id result }
 {
-    call_rule::fired(setup, net, rules, id)
+    Value::from(call_rule::fired(setup, net, rules, id))
 }
 
 // What the rules say of a message.
@@ -128,5 +128,5 @@ pub extern "C" fn gossip_decide(
         net.new rules.new
         «from» to kind tier at result }
 {
-    call_rule::decide(setup, net, rules, from, to, kind, tier, at)
+    Value::from(call_rule::decide(setup, net, rules, from, to, kind, tier, at))
 }

@@ -22,5 +22,5 @@ pub extern "C" fn gossip_flush(
         at result
         out.old out.new }
 {
-    call_flush::flush(setup, net, tills, seen, waiting, blocks, log, out, at)
+    Flushed::from(call_flush::flush(setup, net, tills, seen, waiting, blocks, log, out, at))
 }

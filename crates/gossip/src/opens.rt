@@ -64,10 +64,10 @@ pub extern "C" fn gossip_open(
         })
         (settings_of config sizes plan seed key.now) masks.now result }
 {
-    call_open::open_network(
+    Done::from(call_open::open_network(
         config, sizes, plan, seed, key, masks, names, setup, net, tills, words, keys, prices, seen,
         waiting, rings, rules, blocks, log,
-    )
+    ))
 }
 
 // How many elements each lent table has for an opening; 2, and zeros, where its sizes are beyond the limits.
@@ -75,5 +75,5 @@ pub extern "C" fn gossip_open(
 pub extern "C" fn gossip_table_sizes(sizes: NetworkSizes, plan: RegionPlan) -> TableSizes
     ensures { result ≡ table_sizes (sized sizes plan) }
 {
-    ask_opening::table_sizes(sizes, plan)
+    TableSizes::from(ask_opening::table_sizes(sizes, plan))
 }

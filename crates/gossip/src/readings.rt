@@ -16,7 +16,7 @@ pub extern "C" fn gossip_in_transit(setup: &[u64], net: &[u64], waiting: &[u64],
         setup.now net.now waiting.now
         t result }
 {
-    call_waiting::in_transit(setup, net, waiting, t)
+    Value::from(call_waiting::in_transit(setup, net, waiting, t))
 }
 
 // The time of the next delivery, if there is one.
@@ -26,7 +26,7 @@ pub extern "C" fn gossip_next_time(setup: &[u64], net: &[u64], waiting: &[u64]) 
         setup.now net.now waiting.now
         result }
 {
-    call_waiting::next_time(setup, net, waiting)
+    Value::from(call_waiting::next_time(setup, net, waiting))
 }
 
 // The waiting copies, to the output.
@@ -42,7 +42,7 @@ pub extern "C" fn gossip_waiting(
         result
         out.old out.new }
 {
-    call_waiting::waiting_copies(setup, net, waiting, out)
+    Copied::from(call_waiting::waiting_copies(setup, net, waiting, out))
 }
 
 // The log's records to the output; the log is then empty.
@@ -54,7 +54,7 @@ pub extern "C" fn gossip_drain(setup: &[u64], log: &mut [u64], out: &mut [u64]) 
         result
         out.old out.new }
 {
-    call_log::drain(setup, log, out)
+    Drained::from(call_log::drain(setup, log, out))
 }
 
 // Deliveries and bytes of a class.
@@ -64,7 +64,7 @@ pub extern "C" fn gossip_tally(setup: &[u64], log: &[u64], class: u64) -> Tallie
         setup.now log.now
         «class» result }
 {
-    call_log::tally_of(setup, log, class)
+    Tallied::from(call_log::tally_of(setup, log, class))
 }
 
 // The digest by itself.
@@ -72,5 +72,5 @@ pub extern "C" fn gossip_tally(setup: &[u64], log: &[u64], class: u64) -> Tallie
 pub extern "C" fn gossip_digest(input: &[u8]) -> Hashed
     ensures { result ≡ digest_of input.now }
 {
-    hash_digest::digest(input)
+    Hashed::from(hash_digest::digest(input))
 }

@@ -18,7 +18,5 @@ pub extern "C" fn gossip_next_u64(s: &mut Stream) -> u64
         × (s.new.count ≡ (step_of s.old.key s.old.count).count)
         × (s.new.key ≡ s.old.key) }
 {
-    let d = rand_streams::step_at(s.key, s.count);
-    s.count = d.count;
-    d.value
+    rand_streams::draw_at(s.key, &mut s.count)
 }

@@ -17,7 +17,7 @@ pub extern "C" fn gossip_take_down(
         tills.new seen.new
         t result }
 {
-    call_till::take_down(setup, tills, seen, t)
+    Done::from(call_till::take_down(setup, tills, seen, t))
 }
 
 // A till comes up, with the shards given.
@@ -28,7 +28,7 @@ pub extern "C" fn gossip_bring_up(setup: &[u64], tills: &mut [u64], t: u64, shar
         tills.new
         t shards result }
 {
-    call_till::bring_up(setup, tills, t, shards)
+    Done::from(call_till::bring_up(setup, tills, t, shards))
 }
 
 // The types that a till's gossip and host handlers take.
@@ -45,7 +45,7 @@ pub extern "C" fn gossip_set_handlers(
         tills.new
         t gossip host result }
 {
-    call_till::set_handlers(setup, tills, t, gossip, host)
+    Done::from(call_till::set_handlers(setup, tills, t, gossip, host))
 }
 
 // Is a till down?
@@ -55,7 +55,7 @@ pub extern "C" fn gossip_is_down(setup: &[u64], tills: &[u64], t: u64) -> Value
         setup.now tills.now
         t result }
 {
-    call_till::is_down(setup, tills, t)
+    Value::from(call_till::is_down(setup, tills, t))
 }
 
 // The ids that a till has seen, to the output.
@@ -66,5 +66,5 @@ pub extern "C" fn gossip_marks(setup: &[u64], seen: &[u64], t: u64, out: &mut [u
         t result
         out.old out.new }
 {
-    call_till::marks_of(setup, seen, t, out)
+    Marks::from(call_till::marks_of(setup, seen, t, out))
 }

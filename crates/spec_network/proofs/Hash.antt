@@ -11,7 +11,7 @@ use lib.ListN.{length, get_or, set, take, drop, length-drop}
 use Rattle.math_word.specs.Word.{add32, xor32, rotr32}
 use Rattle.table_rows.specs.Lists.{Each}
 use Rattle.hash_compress.specs.Compress.{iv, compressed, folded, rounds, round_of, columns, diagonals, mix_at, mix_of, half_of, put_quad, initial, permuted}
-use Rattle.hash_compress.specs.declared.Quad.{Quad}
+use Rattle.math_word.specs.declared.Quad.{Quad}
 use Rattle.hash_chunk.specs.Chunk.{chunk, blocks, parent, words_of}
 use Rattle.hash_digest.specs.Blake3.{hash, tree, pick}
 

@@ -1,8 +1,7 @@
 -- Document 01, 'The book', the calls of the list: what each does to the live part, and what it answers.
-use Rattle.std.specs.Prelude.{ℕ, suc, Bool, true, false, not, List, [], ◌∷◌, ◌++◌, get_or, set}
+use Rattle.std.specs.Prelude.{ℕ, suc, Option, is_some, unwrap_or, Bool, true, false, not, List, [], ◌∷◌, ◌++◌, get_or, set}
 use Rattle.fault_rule.specs.declared.DropSpec.{DropSpec}
 use Rattle.fault_card.specs.Card.{fields_of}
-use Rattle.fault_rules.specs.declared.Reading as rules
 use Rattle.fault_rules.specs.Rules.{with_rule, without, reading_of}
 use Rattle.fault_blocks.specs.declared.BlockWindow.{BlockWindow}
 use Rattle.fault_blocks.specs.Blocks.{blocked, always, during}
@@ -134,8 +133,8 @@ pub data Answer : Type 0 where
   ids : List ℕ → Answer
 
 -- the fired count of a rule, and whether it is there
-abbrev pub fired_of : rules.Reading → Answer
-fired_of r = number r.found r.fired
+abbrev pub fired_of : Option ℕ → Answer
+fired_of r = number (bit (is_some r)) (unwrap_or r 0)
 
 abbrev pub first_time : List Copy → Answer
 first_time [] = number 0 0

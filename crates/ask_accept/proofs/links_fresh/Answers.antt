@@ -10,22 +10,16 @@ pub bounds-setup-0 : goal.bounds-setup-0
 bounds-setup-0 c = omega (arith, c.requires.0.setup_size)
 
 pub loop-to-init : goal.loop-to-init
-loop-to-init c = (omega arith, refl)
+loop-to-init c = refl
 
 pub link_fresh-requires : goal.link_fresh-requires
 link_fresh-requires c = (c.requires.0, c.requires.1, omega (arith, c.loop-to-test.true))
 
 pub returns-then-not-link_fresh : goal.returns-then-not-link_fresh
-returns-then-not-link_fresh c = scan_off (λ t. selects_at c.args.tills.now c.args.m.scope c.args.m.from t) (fresh_at c.args.words.now c.args.m) (sizes_at c.args.setup.now).tills c.loop-to.to c.link_fresh.result (omega (arith, c.loop-to-test.true)) c.link_fresh.ensures c.if-not-link_fresh.true ∙ sym c.loop-to.invariant.1
-
-pub overflow_add-to : goal.overflow_add-to
-overflow_add-to c = omega (arith, c.loop-to-test.true, c.requires.0.few)
-
-pub loop-to-smaller : goal.loop-to-smaller
-loop-to-smaller c = omega (arith, c.loop-to-test.true)
+returns-then-not-link_fresh c = scan_off (λ t. selects_at c.args.tills.now c.args.m.scope c.args.m.from t) (fresh_at c.args.words.now c.args.m) (sizes_at c.args.setup.now).tills c.loop-to.to c.link_fresh.result (omega (arith, c.loop-to-test.true)) c.link_fresh.ensures c.if-not-link_fresh.true ∙ sym c.loop-to.invariant
 
 pub loop-to-preserved : goal.loop-to-preserved
-loop-to-preserved c = (omega (arith, c.loop-to-test.true), c.loop-to.invariant.1 ∙ scan_on (λ t. selects_at c.args.tills.now c.args.m.scope c.args.m.from t) (fresh_at c.args.words.now c.args.m) (sizes_at c.args.setup.now).tills c.loop-to.to c.link_fresh.result (omega (arith, c.loop-to-test.true)) c.link_fresh.ensures c.if-not-link_fresh.false)
+loop-to-preserved c = c.loop-to.invariant ∙ scan_on (λ t. selects_at c.args.tills.now c.args.m.scope c.args.m.from t) (fresh_at c.args.words.now c.args.m) (sizes_at c.args.setup.now).tills c.loop-to.to c.link_fresh.result (omega (arith, c.loop-to-test.true)) c.link_fresh.ensures c.if-not-link_fresh.false
 
 pub returns : goal.returns
-returns c = scan_end (λ t. selects_at c.args.tills.now c.args.m.scope c.args.m.from t) (fresh_at c.args.words.now c.args.m) (sizes_at c.args.setup.now).tills c.loop-to.to (omega (arith, c.loop-to-test.false)) ∙ sym c.loop-to.invariant.1
+returns c = scan_end (λ t. selects_at c.args.tills.now c.args.m.scope c.args.m.from t) (fresh_at c.args.words.now c.args.m) (sizes_at c.args.setup.now).tills c.loop-to.to (omega (arith, c.loop-to-test.false)) ∙ sym c.loop-to.invariant

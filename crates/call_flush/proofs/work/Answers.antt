@@ -1,8 +1,8 @@
-use mathlib.Core.Path.{refl, ◌∙◌, ap}
+use mathlib.Core.Path.{refl, ap}
 use Rattle.call_flush.specs.Call.{flushed_by}
 use Rattle.call_flush.proofs.work.Goals as goal
 
 pub returns : goal.returns
 returns c = let p = c.pass-m.ensures in
     record
-    { net = refl; seen = p.seen; waiting = c.drop_front.ensures; log = p.log; out = p.out; reply = c.answered.ensures ∙ ap flushed_by p.counts }
+    { net = refl; seen = p.seen; waiting = c.drop_front.ensures; log = p.log; out = p.out; reply = ap flushed_by p.counts }

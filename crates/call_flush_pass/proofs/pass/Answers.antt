@@ -13,21 +13,18 @@ overflow_mul-i c = omega (arith, c.requires.1.few)
 pub get-c-requires : goal.get-c-requires
 get-c-requires c = omega (arith, c.requires.1.rows)
 
-pub turn-next-requires : goal.turn-next-requires
-turn-next-requires c = let a = c.args in
+pub turn-m-requires : goal.turn-m-requires
+turn-m-requires c = let a = c.args in
     let l = c.loop-i in
     let m = near_copy_lem a.z (flush_view a.z a.tills.now a.blocks.now) a.waiting.now a.k a.seen.now a.log.now a.out.now l.i _ _ _ l.m c.loop-i-test.true c.requires.1 l.invariant c.get-c.result c.get-c.ensures in
     (c.requires.0, m, l.invariant.room, record { few = c.requires.3.few; size = omega (arith, c.requires.3.size, l.invariant.log) }, row_room a.z (flush_view a.z a.tills.now a.blocks.now) a.waiting.now a.k a.seen.now a.log.now a.out.now l.i _ _ _ l.m c.loop-i-test.true c.requires.1 l.invariant, omega (arith, l.invariant.counts.0, c.requires.1.few), omega (arith, l.invariant.counts.1, c.requires.1.few), omega (arith, l.invariant.counts.2, c.requires.1.few))
-
-pub overflow_add-i : goal.overflow_add-i
-overflow_add-i c = omega (arith, c.requires.1.few)
 
 pub loop-i-preserved : goal.loop-i-preserved
 loop-i-preserved c = let a = c.args in
     let l = c.loop-i in
     more a.z (flush_view a.z a.tills.now a.blocks.now) a.waiting.now a.k a.seen.now a.log.now a.out.now l.i _ _ _
-    l.m c.loop-i-test.true c.requires.1 l.invariant c.get-c.result c.get-c.ensures _ _ _ _ c.turn-next.auto.seen
-    c.turn-next.auto.log c.turn-next.auto.out c.turn-next.ensures
+    l.m c.loop-i-test.true c.requires.1 l.invariant c.get-c.result c.get-c.ensures _ _ _ _ c.turn-m.auto.seen
+    c.turn-m.auto.log c.turn-m.auto.out c.turn-m.ensures
 
 pub shape_of-seen : goal.shape_of-seen
 shape_of-seen c = c.loop-i.invariant.seen

@@ -1,10 +1,6 @@
-use Prim.Native.Nat.{◌-◌}
 use Rattle.call_flush_pass.specs.Pass.{flush_view}
 use Rattle.call_flush_pass.proofs.Passing.{Mid}
 use Rattle.call_flush_pass.proofs.pass.Given as goal
 
 abbrev pub invariant-loop-i : goal.invariant-loop-i
 invariant-loop-i l = Mid l.z (flush_view l.z l.tills l.blocks) l.waiting l.k l.initial.seen l.initial.log l.initial.out l.i l.seen l.log l.out l.m
-
-abbrev pub decreases-loop-i : goal.decreases-loop-i
-decreases-loop-i l = l.k - l.i

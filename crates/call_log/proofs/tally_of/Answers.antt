@@ -1,12 +1,14 @@
+use Rattle.std.proofs.lemmas.Result.{err_from_is_err_and}
 use Rattle.call_log.proofs.Laws.{tally_refused, tally_room, tally_done}
 use Rattle.call_log.proofs.tally_of.Goals as goal
 
-pub returns-then-number-ne0 : goal.returns-then-number-ne0
-returns-then-number-ne0 c = let a = c.args in tally_refused a.setup.now a.log.now a.class _ c.tally_refusal-number.ensures _ c.untold.ensures c.if-number-ne0.true
+pub returns-in_err-tally_refusal : goal.returns-in_err-tally_refusal
+returns-in_err-tally_refusal c =
+    let p = err_from_is_err_and c.from_residual.result c.from_residual.ensures.1 in
+    rw (p.1, p.2) (tally_refused _ _ _ _ (c.in_err-tally_refusal.ensures))
 
-pub class_tally-t-requires : goal.class_tally-t-requires
-class_tally-t-requires c = let a = c.args in tally_room a.setup.now a.log.now a.class _ c.tally_refusal-number.ensures c.if-number-ne0.false
+pub class_tally-requires : goal.class_tally-requires
+class_tally-requires c = tally_room _ _ _ (c.in_ok-tally_refusal.ensures)
 
 pub returns : goal.returns
-returns c = let a = c.args in
-    tally_done a.setup.now a.log.now a.class _ c.tally_refusal-number.ensures c.if-number-ne0.false _ c.class_tally-t.ensures
+returns c = tally_done _ _ _ (c.in_ok-tally_refusal.ensures) _ c.class_tally.ensures

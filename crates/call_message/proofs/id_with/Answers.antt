@@ -1,25 +1,23 @@
-use Rattle.call_message.proofs.Laws.{head_is, text_short}
+use Rattle.call_message.proofs.Laws.{head_is, text_short, length_put}
 use native.Mathlib.Omega.{arith}
-use mathlib.Core.Path.{ap, ◌∙◌}
+use mathlib.Core.Path.{refl, ap, ◌∙◌}
 use lib.ListN.{length}
+use Prim.Native.Nat.{◌-◌}
+use Rattle.std.proofs.lemmas.Slice.{put_mid-paste}
 use Rattle.spec_network.specs.Tables.{name_at}
 use Rattle.spec_network.specs.Opening.{longest_name}
 use Rattle.call_message.proofs.id_with.Goals as goal
 
-pub put-requires : goal.put-requires
-put-requires c = omega (arith, ap length c.text-name.ensures, text_short c.args.names.now (name_at c.args.kind) longest_name c.requires.0.name)
+pub copy_from_slice-requires : goal.copy_from_slice-requires
+copy_from_slice-requires c = omega (arith, ap length c.text-name.ensures, text_short c.args.names.now (name_at c.args.kind) longest_name c.requires.0.name)
 
 pub put_scope-n-requires : goal.put_scope-n-requires
-put_scope-n-requires c = (
-  c.requires.0,
-  omega (
-    arith,
-    ap length c.text-name.ensures,
-    text_short c.args.names.now (name_at c.args.kind) longest_name
-        c.requires.0.name,
-    c.put.auto.dst,
-  ),
-)
+put_scope-n-requires c =
+    let s = text_short c.args.names.now (name_at c.args.kind) longest_name c.requires.0.name in
+    let n = ap length c.text-name.ensures in (
+      c.requires.0,
+      omega (arith, n, s, length_put c.args.buf.now c.text-name.result.now _ (length c.text-name.result.now - 0) c.copy_from_slice.ensures.after (omega arith) (omega (arith, n, s))),
+    )
 
 pub id_after-requires : goal.id_after-requires
 id_after-requires c = (
@@ -41,4 +39,4 @@ returns c = let a = c.args in
       ap length c.text-name.ensures,
       text_short a.names.now
           (name_at a.kind) longest_name c.requires.0.name,
-    )) c.put.ensures c.put_scope-n.ensures.0
+    )) (put_mid-paste 0 _ a.buf.now _ c.text-name.result.now (length c.text-name.result.now) c.copy_from_slice.ensures.after (omega arith) refl) c.put_scope-n.ensures.0

@@ -2,4 +2,4 @@ use Rattle.call_message.proofs.Laws.{text_is}
 use Rattle.call_message.proofs.text.Goals as goal
 
 pub returns : goal.returns
-returns c = text_is c.args.names.now c.args.i c.size-n.result _ _ c.size-n.ensures c.back.ensures c.front.ensures
+returns c = text_is c.args.names.now c.args.i _ c.text.ensures

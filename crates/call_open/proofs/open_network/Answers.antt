@@ -1,9 +1,12 @@
+use Rattle.std.proofs.Common.{refl}
+use Rattle.std.proofs.lemmas.Result.{err_from_is_err_and}
+use Rattle.ask_refusal.proofs.Laws.{number_not_0}
 use Rattle.spec_network.specs.Tables.{Tables}
 use Rattle.call_open.proofs.Whole.{refused, settled, begun, done}
 use Rattle.call_open.proofs.open_network.Goals as goal
 
-pub returns-then-number-ne0 : goal.returns-then-number-ne0
-returns-then-number-ne0 c = let a = c.args in
+pub returns-in_err-refusal : goal.returns-in_err-refusal
+returns-in_err-refusal c = let a = c.args in
     let T : Tables =
     record {
       setup = a.setup.now;
@@ -20,8 +23,8 @@ returns-then-number-ne0 c = let a = c.args in
       blocks = a.blocks.now;
       log = a.log.now;
     } in
-    refused a.config a.sizes a.plan a.seed a.key.now a.masks.now T
-    c.refusal-number.result c.refusal-number.ensures c.if-number-ne0.true
+    let p = err_from_is_err_and c.from_residual.result c.from_residual.ensures.1 in
+    rw (p.1, p.2) (refused a.config a.sizes a.plan a.seed a.key.now a.masks.now T _ c.in_err-refusal.ensures (number_not_0 _))
 
 pub write_settled-requires : goal.write_settled-requires
 write_settled-requires c = let a = c.args in
@@ -41,8 +44,7 @@ write_settled-requires c = let a = c.args in
       blocks = a.blocks.now;
       log = a.log.now;
     } in
-    settled a.config a.sizes a.plan a.seed a.key.now a.masks.now T
-    c.refusal-number.result c.refusal-number.ensures c.if-number-ne0.false
+    settled a.config a.sizes a.plan a.seed a.key.now a.masks.now T 0 c.in_ok-refusal.ensures refl
 
 pub write_begun-requires : goal.write_begun-requires
 write_begun-requires c = let a = c.args in
@@ -62,8 +64,7 @@ write_begun-requires c = let a = c.args in
       blocks = a.blocks.now;
       log = a.log.now;
     } in
-    begun a.config a.sizes a.plan a.seed a.key.now a.masks.now T
-    c.refusal-number.result c.refusal-number.ensures c.if-number-ne0.false
+    begun a.config a.sizes a.plan a.seed a.key.now a.masks.now T 0 c.in_ok-refusal.ensures refl
 
 pub returns : goal.returns
 returns c = let a = c.args in
@@ -83,6 +84,5 @@ returns c = let a = c.args in
       blocks = a.blocks.now;
       log = a.log.now;
     } in
-    done a.config a.sizes a.plan a.seed a.key.now a.masks.now T
-    c.refusal-number.result c.refusal-number.ensures c.if-number-ne0.false _ _ _ _ _ _ _ _ _ c.write_settled.ensures
+    done a.config a.sizes a.plan a.seed a.key.now a.masks.now T 0 c.in_ok-refusal.ensures refl _ _ _ _ _ _ _ _ _ c.write_settled.ensures
     c.write_begun.ensures

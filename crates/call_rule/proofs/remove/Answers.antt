@@ -1,24 +1,24 @@
 use mathlib.Core.Path.{refl}
 use native.Mathlib.Omega.{arith}
-use Rattle.ask_tables.proofs.Ladder.{is_no, is_yes}
-use Rattle.ask_rule.proofs.Laws.{passed}
-use Rattle.call_rule.proofs.Laws.{remove_not_lent, remove_done}
+use Rattle.ask_refusal.proofs.Laws.{number_not_0, left_by}
+use Rattle.ask_rule.proofs.Laws.{passed, is_lent}
+use Rattle.call_rule.proofs.Laws.{remove_refused, remove_done}
 use Rattle.call_rule.proofs.remove.Goals as goal
 
-pub returns-then-not-lent : goal.returns-then-not-lent
-returns-then-not-lent c = let a = c.args in
-    remove_not_lent a.setup.now a.net.now a.rules.now (is_no _ _ c.lent.ensures c.if-not-lent.true) _ c.refused.ensures a.id
+pub returns-in_err-lent : goal.returns-in_err-lent
+returns-in_err-lent c = let a = c.args in
+    rw (left_by c.from_residual.result c.from_residual.ensures.1) (remove_refused a.setup.now a.net.now a.rules.now _ c.in_err-lent.ensures (number_not_0 _) a.id)
 
 pub bounds-net-2 : goal.bounds-net-2
-bounds-net-2 c = let p = passed _ _ _ (is_yes _ _ c.lent.ensures c.if-not-lent.false) in omega (arith, p.net)
+bounds-net-2 c = let p = passed _ _ _ (is_lent _ _ _ c.in_ok-lent.ensures) in omega (arith, p.net)
 
 pub remove-gone-requires : goal.remove-gone-requires
-remove-gone-requires c = let p = passed _ _ _ (is_yes _ _ c.lent.ensures c.if-not-lent.false) in omega (arith, p.rules, p.count)
+remove-gone-requires c = let p = passed _ _ _ (is_lent _ _ _ c.in_ok-lent.ensures) in omega (arith, p.rules, p.count)
 
 pub bounds-net-2-2 : goal.bounds-net-2-2
-bounds-net-2-2 c = let p = passed _ _ _ (is_yes _ _ c.lent.ensures c.if-not-lent.false) in omega (arith, p.net)
+bounds-net-2-2 c = let p = passed _ _ _ (is_lent _ _ _ c.in_ok-lent.ensures) in omega (arith, p.net)
 
 pub returns : goal.returns
 returns c = let a = c.args in
-    remove_done a.setup.now a.net.now a.rules.now (is_yes _ _ c.lent.ensures c.if-not-lent.false) _ refl a.id _ _ _
+    remove_done a.setup.now a.net.now a.rules.now c.in_ok-lent.ensures _ refl a.id _ _ _
     c.remove-gone.ensures.0 c.remove-gone.ensures.1 refl

@@ -5,35 +5,35 @@ use native.Mathlib.Omega.{arith}
 use lib.ListN.{length-set, set}
 use Rattle.call_schedule.proofs.send.Goals as goal
 
-pub push_if-requires : goal.push_if-requires
-push_if-requires c = let a = c.args in
+pub push-requires : goal.push-requires
+push-requires c = let a = c.args in
     room_less _ a.waiting.now 1 3 (omega arith) (room_set a.net.now a.waiting.now 3 a.x.fault c.requires.room)
 
 pub echo-requires : goal.echo-requires
 echo-requires c = (c.requires.ranged.now, c.requires.first)
 
-pub push_if-requires-2 : goal.push_if-requires-2
-push_if-requires-2 c = let a = c.args in room_less _ _ 1 2 (omega arith) (room_after _ (set a.net.now fault_words_at a.x.fault) a.waiting.now _ _ _ 2 c.push_if.ensures.counts c.push_if.auto.waiting (room_set a.net.now a.waiting.now 3 a.x.fault c.requires.room))
+pub push-requires-2 : goal.push-requires-2
+push-requires-2 c = let a = c.args in room_less _ _ 1 2 (omega arith) (room_after _ (set a.net.now fault_words_at a.x.fault) a.waiting.now _ _ 2 c.push.ensures.counts c.push.auto.waiting (room_set a.net.now a.waiting.now 3 a.x.fault c.requires.room))
 
 pub echo-requires-2 : goal.echo-requires-2
 echo-requires-2 c = (c.requires.ranged.now, c.requires.second)
 
-pub push_if-requires-3 : goal.push_if-requires-3
-push_if-requires-3 c = let a = c.args in room_after _ _ _ _ _ _ 1 c.push_if-2.ensures.counts c.push_if-2.auto.waiting
-    (room_after _ (set a.net.now fault_words_at a.x.fault) a.waiting.now _ _ _ 2 c.push_if.ensures.counts
-    c.push_if.auto.waiting (room_set a.net.now a.waiting.now 3 a.x.fault c.requires.room))
+pub push-requires-3 : goal.push-requires-3
+push-requires-3 c = let a = c.args in room_after _ _ _ _ _ 1 c.push-2.ensures.counts c.push-2.auto.waiting
+    (room_after _ (set a.net.now fault_words_at a.x.fault) a.waiting.now _ _ 2 c.push.ensures.counts
+    c.push.auto.waiting (room_set a.net.now a.waiting.now 3 a.x.fault c.requires.room))
 
 pub remember-requires : goal.remember-requires
 remember-requires c = (c.requires.setup_size, c.requires.rings_held, c.requires.ranged, c.requires.types)
 
 pub shape_of-net : goal.shape_of-net
-shape_of-net c = omega (arith, c.push_if.auto.net, c.push_if-2.auto.net, c.push_if-3.auto.net, length-set c.args.net.now fault_words_at c.args.x.fault)
+shape_of-net c = omega (arith, c.push.auto.net, c.push-2.auto.net, c.push-3.auto.net, length-set c.args.net.now fault_words_at c.args.x.fault)
 
 pub shape_of-seen : goal.shape_of-seen
 shape_of-seen c = omega (arith, c.mark.auto.seen)
 
 pub shape_of-waiting : goal.shape_of-waiting
-shape_of-waiting c = omega (arith, c.push_if.auto.waiting, c.push_if-2.auto.waiting, c.push_if-3.auto.waiting)
+shape_of-waiting c = omega (arith, c.push.auto.waiting, c.push-2.auto.waiting, c.push-3.auto.waiting)
 
 pub returns : goal.returns
-returns c = let a = c.args in sends a.m a.to a.x a.setup.now a.net.now a.words.now a.seen.now a.waiting.now a.rings.now c.requires.below (omega (arith, c.requires.net_size)) c.mark.ensures c.original.ensures c.push_if.ensures.counts c.push_if.ensures.rows c.echo.ensures c.push_if-2.ensures.counts c.push_if-2.ensures.rows c.echo-2.ensures c.push_if-3.ensures.counts c.push_if-3.ensures.rows c.remember.ensures
+returns c = let a = c.args in sends a.m a.to a.x a.setup.now a.net.now a.words.now a.seen.now a.waiting.now a.rings.now c.requires.below (omega (arith, c.requires.net_size)) c.mark.ensures c.original-first.ensures c.push.ensures.counts c.push.ensures.rows c.echo.ensures c.push-2.ensures.counts c.push-2.ensures.rows c.echo-2.ensures c.push-3.ensures.counts c.push-3.ensures.rows c.remember.ensures

@@ -1,24 +1,20 @@
+use Rattle.std.proofs.lemmas.Result.{err_from_is_err_and}
 use native.Mathlib.Omega.{arith}
 use Rattle.call_waiting.proofs.Laws.{transit_refused, transit_done, passed, net_long, rows_room}
 use Rattle.call_waiting.proofs.in_transit.Goals as goal
 
-pub returns-then-number-ne0 : goal.returns-then-number-ne0
-returns-then-number-ne0 c = let a = c.args in
-    transit_refused a.setup.now a.net.now a.waiting.now a.t _ c.transit_refusal-number.ensures _ c.refused.ensures c.if-number-ne0.true
+pub returns-in_err-transit_refusal : goal.returns-in_err-transit_refusal
+returns-in_err-transit_refusal c =
+    let p = err_from_is_err_and c.from_residual.result c.from_residual.ensures.1 in
+    rw (p.1, p.2) (transit_refused _ _ _ _ _ (c.in_err-transit_refusal.ensures))
 
 pub bounds-net-1 : goal.bounds-net-1
 bounds-net-1 c = let a = c.args in
-    omega (
-      arith,
-      net_long a.setup.now a.net.now a.waiting.now
-          (passed a.setup.now a.net.now a.waiting.now _ _ c.transit_refusal-number.ensures c.if-number-ne0.false).0,
-    )
+    omega (arith, net_long a.setup.now a.net.now a.waiting.now (passed a.setup.now a.net.now a.waiting.now _ c.in_ok-transit_refusal.ensures).0)
 
-pub count_to-value-requires : goal.count_to-value-requires
-count_to-value-requires c = let a = c.args in
-    rows_room a.setup.now a.net.now a.waiting.now
-    (passed a.setup.now a.net.now a.waiting.now _ _ c.transit_refusal-number.ensures c.if-number-ne0.false).0
+pub count_to-requires : goal.count_to-requires
+count_to-requires c = let a = c.args in
+    rows_room a.setup.now a.net.now a.waiting.now (passed a.setup.now a.net.now a.waiting.now _ c.in_ok-transit_refusal.ensures).0
 
 pub returns : goal.returns
-returns c = let a = c.args in
-    transit_done a.setup.now a.net.now a.waiting.now a.t _ c.transit_refusal-number.ensures c.if-number-ne0.false _ c.count_to-value.ensures
+returns c = let a = c.args in transit_done a.setup.now a.net.now a.waiting.now a.t c.in_ok-transit_refusal.ensures _ c.count_to.ensures

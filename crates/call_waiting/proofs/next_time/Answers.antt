@@ -4,7 +4,7 @@ use Rattle.call_waiting.proofs.Laws.{next_refused, next_none, next_some, first_r
 use Rattle.call_waiting.proofs.next_time.Goals as goal
 
 pub returns-then-not-lent : goal.returns-then-not-lent
-returns-then-not-lent c = let a = c.args in next_refused a.setup.now a.net.now a.waiting.now _ (is_no _ _ c.lent.ensures c.if-not-lent.true) c.refused.ensures
+returns-then-not-lent c = let a = c.args in next_refused a.setup.now a.net.now a.waiting.now (is_no _ _ c.lent.ensures c.if-not-lent.true)
 
 pub bounds-net-1 : goal.bounds-net-1
 bounds-net-1 c = let a = c.args in omega (arith, net_long a.setup.now a.net.now a.waiting.now (is_yes _ _ c.lent.ensures c.if-not-lent.false))

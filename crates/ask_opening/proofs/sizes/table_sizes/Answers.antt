@@ -6,7 +6,7 @@ use Rattle.ask_opening.proofs.Made.{times, refused, made}
 use Rattle.ask_opening.proofs.sizes.table_sizes.Goals as goal
 
 pub returns-then-not-sizes_admitted : goal.returns-then-not-sizes_admitted
-returns-then-not-sizes_admitted c = refused c.args.sizes c.args.plan _ c.beyond.ensures
+returns-then-not-sizes_admitted c = refused c.args.sizes c.args.plan
     (sym c.sizes_admitted.ensures ∙ c.if-not-sizes_admitted.true)
 
 pub overflow_mul-result : goal.overflow_mul-result

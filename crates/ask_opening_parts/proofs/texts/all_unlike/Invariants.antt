@@ -1,4 +1,3 @@
-use Prim.Native.Nat.{◌-◌, ◌≤◌}
 use mathlib.Core.Path.{◌≡◌}
 use lib.ListN.{drop}
 use Rattle.spec_network.specs.Lists.{unlike}
@@ -6,7 +5,4 @@ use Rattle.ask_opening_parts.specs.Texts.{texts_from}
 use Rattle.ask_opening_parts.proofs.texts.all_unlike.Given as goal
 
 abbrev pub invariant-loop-k : goal.invariant-loop-k
-invariant-loop-k l = (l.k ≤ l.n) × (unlike (texts_from l.names l.start l.stride l.n) ≡ unlike (drop l.k (texts_from l.names l.start l.stride l.n)))
-
-abbrev pub decreases-loop-k : goal.decreases-loop-k
-decreases-loop-k l = l.n - l.k
+invariant-loop-k l = unlike (texts_from l.names l.start l.stride l.n) ≡ unlike (drop l.k (texts_from l.names l.start l.stride l.n))

@@ -10,7 +10,7 @@ use Rattle.ask_opening_parts.proofs.Names.{place, inside, texts_length, text_ask
 use Rattle.ask_opening_parts.proofs.texts.repeated.Goals as goal
 
 pub loop-j-init : goal.loop-j-init
-loop-j-init c = (omega arith, omega arith, refl)
+loop-j-init c = refl
 
 pub overflow_mul-k : goal.overflow_mul-k
 overflow_mul-k c = let a = c.args in omega (arith, place a.names.now a.start a.stride a.n c.requires.0 a.k (omega arith))
@@ -28,10 +28,10 @@ pub same_text-requires : goal.same_text-requires
 same_text-requires c = let a = c.args in (inside a.names.now a.start a.stride a.n c.requires.0 c.requires.1 a.k (omega arith), inside a.names.now a.start a.stride a.n c.requires.0 c.requires.1 c.loop-j.j (omega arith))
 
 pub returns-then-same_text : goal.returns-then-same_text
-returns-then-same_text c = let a = c.args in some_stop (same (text_at a.names.now (a.start + a.k * a.stride))) (texts_from a.names.now a.start a.stride a.n) c.loop-j.j [] _ (omega (arith, texts_length a.names.now a.start a.stride a.n)) (text_asked a.names.now a.start a.stride a.n (same (text_at a.names.now (a.start + a.k * a.stride))) c.loop-j.j _ _ (omega arith) c.same_text.ensures c.if-same_text.true) c.loop-j.invariant.2
+returns-then-same_text c = let a = c.args in some_stop (same (text_at a.names.now (a.start + a.k * a.stride))) (texts_from a.names.now a.start a.stride a.n) c.loop-j.j [] _ (omega (arith, texts_length a.names.now a.start a.stride a.n)) (text_asked a.names.now a.start a.stride a.n (same (text_at a.names.now (a.start + a.k * a.stride))) c.loop-j.j _ _ (omega arith) c.same_text.ensures c.if-same_text.true) c.loop-j.invariant
 
 pub loop-j-preserved : goal.loop-j-preserved
-loop-j-preserved c = let a = c.args in (omega arith, omega arith, some_next (same (text_at a.names.now (a.start + a.k * a.stride))) (texts_from a.names.now a.start a.stride a.n) c.loop-j.j [] _ (omega (arith, texts_length a.names.now a.start a.stride a.n)) (text_asked a.names.now a.start a.stride a.n (same (text_at a.names.now (a.start + a.k * a.stride))) c.loop-j.j _ _ (omega arith) c.same_text.ensures c.if-same_text.false) c.loop-j.invariant.2)
+loop-j-preserved c = let a = c.args in some_next (same (text_at a.names.now (a.start + a.k * a.stride))) (texts_from a.names.now a.start a.stride a.n) c.loop-j.j [] _ (omega (arith, texts_length a.names.now a.start a.stride a.n)) (text_asked a.names.now a.start a.stride a.n (same (text_at a.names.now (a.start + a.k * a.stride))) c.loop-j.j _ _ (omega arith) c.same_text.ensures c.if-same_text.false) c.loop-j.invariant
 
 pub returns : goal.returns
-returns c = let a = c.args in some_end (same (text_at a.names.now (a.start + a.k * a.stride))) (texts_from a.names.now a.start a.stride a.n) c.loop-j.j [] _ (omega (arith, texts_length a.names.now a.start a.stride a.n)) c.loop-j.invariant.2
+returns c = let a = c.args in some_end (same (text_at a.names.now (a.start + a.k * a.stride))) (texts_from a.names.now a.start a.stride a.n) c.loop-j.j [] _ (omega (arith, texts_length a.names.now a.start a.stride a.n)) c.loop-j.invariant

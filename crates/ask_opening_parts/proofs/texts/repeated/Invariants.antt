@@ -1,4 +1,4 @@
-use Prim.Native.Nat.{◌+◌, ◌*◌, ◌-◌, ◌≤◌}
+use Prim.Native.Nat.{◌+◌, ◌*◌}
 use mathlib.Core.Path.{◌≡◌}
 use lib.ListN.{drop}
 use Rattle.spec_network.specs.Lists.{same, some_of}
@@ -7,7 +7,4 @@ use Rattle.ask_opening_parts.specs.Texts.{texts_from}
 use Rattle.ask_opening_parts.proofs.texts.repeated.Given as goal
 
 abbrev pub invariant-loop-j : goal.invariant-loop-j
-invariant-loop-j l = (l.k + 1 ≤ l.j) × (l.j ≤ l.n) × (some_of (same (text_at l.names (l.start + l.k * l.stride))) (drop (l.k + 1) (texts_from l.names l.start l.stride l.n)) ≡ some_of (same (text_at l.names (l.start + l.k * l.stride))) (drop l.j (texts_from l.names l.start l.stride l.n)))
-
-abbrev pub decreases-loop-j : goal.decreases-loop-j
-decreases-loop-j l = l.n - l.j
+invariant-loop-j l = some_of (same (text_at l.names (l.start + l.k * l.stride))) (drop (l.k + 1) (texts_from l.names l.start l.stride l.n)) ≡ some_of (same (text_at l.names (l.start + l.k * l.stride))) (drop l.j (texts_from l.names l.start l.stride l.n))

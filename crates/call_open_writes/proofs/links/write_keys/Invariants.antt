@@ -1,4 +1,4 @@
-use Prim.Native.Nat.{◌*◌, ◌-◌, ◌/◌, ◌%◌, ◌≤◌}
+use Prim.Native.Nat.{◌*◌, ◌/◌, ◌%◌}
 use mathlib.Core.Path.{◌≡◌}
 use mathlib.Core.List.{◌++◌}
 use lib.ListN.{length, drop}
@@ -9,7 +9,4 @@ use Rattle.spec_network.specs.Real.{key_width}
 use Rattle.call_open_writes.proofs.links.write_keys.Given as goal
 
 abbrev pub invariant-loop-i : goal.invariant-loop-i
-invariant-loop-i l = (l.i ≤ l.pairs) × (l.pairs ≡ l.n * l.n) × (length l.keys ≡ length l.initial.keys) × (l.keys ≡ flat (λ i. link_key l.seed (i / l.n) (i % l.n)) (up_to l.i (λ i. i)) ++ drop (l.i * key_width) l.initial.keys)
-
-abbrev pub decreases-loop-i : goal.decreases-loop-i
-decreases-loop-i l = l.pairs - l.i
+invariant-loop-i l = (length l.keys ≡ length l.initial.keys) × (l.keys ≡ flat (λ i. link_key l.seed (i / l.n) (i % l.n)) (up_to l.i (λ i. i)) ++ drop (l.i * key_width) l.initial.keys)

@@ -1,4 +1,4 @@
-use Prim.Native.Nat.{◌+◌, ◌-◌, ◌≤◌}
+use Prim.Native.Nat.{◌+◌}
 use mathlib.Core.Path.{◌≡◌}
 use mathlib.Core.List.{◌++◌}
 use lib.ListN.{length, take, drop}
@@ -7,7 +7,4 @@ use Rattle.link_geography.specs.Geography.{region_of}
 use Rattle.call_open_writes.proofs.prices.write_regions.Given as goal
 
 abbrev pub invariant-loop-t : goal.invariant-loop-t
-invariant-loop-t l = (l.t ≤ l.tills) × (length l.prices ≡ length l.initial.prices) × (l.prices ≡ (take l.n l.initial.prices ++ up_to l.t (λ t. region_of l.seed l.regions t)) ++ drop (l.n + l.t) l.initial.prices)
-
-abbrev pub decreases-loop-t : goal.decreases-loop-t
-decreases-loop-t l = l.tills - l.t
+invariant-loop-t l = (length l.prices ≡ length l.initial.prices) × (l.prices ≡ (take l.n l.initial.prices ++ up_to l.t (λ t. region_of l.seed l.regions t)) ++ drop (l.n + l.t) l.initial.prices)
