@@ -4,8 +4,12 @@
 ghost use Rattle.std.specs.Prelude.{◌≡◌};
 ghost use Rattle.spec_network.specs.Tables.{cell};
 
-use call_accept::Accepted;
+use ask_tables::cell;
+use call_accept::{Accepted, Entry, FixedTables};
+use sim_lend::Network;
 use sim_outcome::{Outcome, done};
+use sim_printer::Printer;
+use sim_script::Accept;
 
 // The longest type name and shard key.
 const LONGEST_NAME: u8 = 64;
@@ -62,66 +66,61 @@ fn id_in(names: &[u8], kind: usize, scope: usize, wire: &[u8]) -> u64 {
     call_message::id_of(names, kind, scope, wire)
 }
 
-// The five counts.
-fn counts(text: &mut [u8], used: usize, a: Accepted) -> usize {
-    let b = sim_answers::labelled(text, used, b"accept sent=", a.sent);
-    let c = sim_answers::labelled(text, b, b" dedup=", a.deduplicated);
-    let d = sim_answers::labelled(text, c, b" partition=", a.partition);
-    let e = sim_answers::labelled(text, d, b" loss=", a.loss);
-    sim_answers::labelled(text, e, b" fault=", a.fault)
-}
-
-// Digits of an id.
-const ID: usize = 16;
-
-fn accepted(text: &mut [u8], used: usize, a: Accepted, id: u64, net: &[u64]) -> Outcome {
-    let b = counts(text, used, a);
-    let c = sim_answers::say(text, b, b" id=");
-    let d = sim_printer::hex(text, c, id, ID);
-    let e = sim_answers::labelled(
-        text,
-        d,
-        b" sequence=",
-        ask_tables::cell(net, ask_tables::SEQUENCE),
-    );
-    let f = sim_answers::ended(
-        text,
-        e,
-        b" waiting=",
-        ask_tables::cell(net, ask_tables::WAITING),
-    );
+// The five counts, the id, and the network's own counts.
+fn accepted(page: &mut Printer, a: Accepted, id: u64, net: &[u64]) -> Outcome {
+    page.print(format_args!("accept sent={} dedup={}", a.sent, a.deduplicated));
+    page.print(format_args!(
+        " partition={} loss={} fault={}",
+        a.partition, a.loss, a.fault
+    ));
+    let sequence = cell(net, ask_tables::SEQUENCE);
+    let waiting = cell(net, ask_tables::WAITING);
+    page.print(format_args!(" id={id:016x} sequence={sequence} waiting={waiting}\n"));
     Outcome {
-        used: f,
         number: 0,
         counts: [a.sent, a.deduplicated, a.partition, a.loss, a.fault],
     }
 }
 
-// Takes an entry: from, now, type, class, scope, opens and tag are words 0 to 4, 6 and 7.
-pub fn accept(
-    v: [u64; 8],
-    wire: &[u8],
-    setup: &[u64],
-    net: &mut [u64],
-    names: &[u8],
-    tills: &[u64],
-    words: &mut [u64],
-    keys: &[u32],
-    prices: &[u64],
-    seen: &mut [u64],
-    waiting: &mut [u64],
-    rings: &mut [u64],
-    rules: &mut [u64],
-    blocks: &[u64],
-    text: &mut [u8],
-    used: usize,
-) -> Outcome {
-    let a = call_accept::accept(
-        setup, net, names, tills, words, keys, prices, seen, waiting, rings, rules, blocks, wire,
-        v[0], v[1], v[2], v[3], v[4], v[7], v[6],
-    );
+// Takes an entry.
+pub fn accept(network: Network<'_>, told: Accept<'_>, page: &mut Printer) -> Outcome {
+    let Network {
+        setup,
+        net,
+        names,
+        tills,
+        words,
+        keys,
+        prices,
+        seen,
+        waiting,
+        rings,
+        rules,
+        blocks,
+        ..
+    } = network;
+    let fixed = FixedTables {
+        setup,
+        tills,
+        keys,
+        prices,
+        blocks,
+    };
+    let entry = Entry {
+        wire: told.wire,
+        from: told.from,
+        at: told.at,
+        kind: told.kind,
+        class: told.class,
+        scope: told.scope,
+        tag: told.tag,
+    };
+    let a = Accepted::from(call_accept::accept(
+        fixed, net, names, words, seen, waiting, rings, rules, entry, told.opens,
+    ));
     if a.number != 0 {
-        return done(text, used, b"accept", a.number);
+        return done(page, "accept", a.number);
     }
-    accepted(text, used, a, id(names, v[2], v[4], wire), net)
+    let id = id(names, told.kind, told.scope, told.wire);
+    accepted(page, a, id, net)
 }

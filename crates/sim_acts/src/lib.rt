@@ -2,8 +2,11 @@
 #![tactic(auto)]
 
 use ask_opening::{NetworkSizes, RegionPlan, TableSizes};
+use sim_figures::Figures;
+use sim_lend::{Network, front};
 use sim_outcome::Outcome;
-use sim_script::calls;
+use sim_printer::Printer;
+use sim_script::{Call, Reading};
 use sim_session::lines;
 use sim_session::lines::Session;
 
@@ -23,185 +26,103 @@ fn open_sizes(setup: &[u64]) -> TableSizes {
         regions: ask_tables::cell(setup, ask_tables::REGIONS),
         seed: ask_tables::cell(setup, ask_tables::PLAN_SEED),
     };
-    ask_opening::table_sizes(sizes, plan)
+    TableSizes::from(ask_opening::table_sizes(sizes, plan))
 }
 
-// Accept, flush and drain.
-fn traffic(
-    which: u64,
-    v: [u64; 8],
-    wire: &[u8],
-    setup: &[u64],
-    net: &mut [u64],
-    names: &[u8],
-    tills: &[u64],
-    words: &mut [u64],
-    keys: &[u32],
-    prices: &[u64],
-    seen: &mut [u64],
-    waiting: &mut [u64],
-    rings: &mut [u64],
-    rules: &mut [u64],
-    blocks: &[u64],
-    log: &mut [u64],
-    out: &mut [u64],
-    due: &mut [u64],
-    text: &mut [u8],
-    used: usize,
-) -> Outcome {
-    match which {
-        calls::ACCEPT => sim_accept::accept(
-            v, wire, setup, net, names, tills, words, keys, prices, seen, waiting, rings, rules,
-            blocks, text, used,
-        ),
-        calls::DRAIN => sim_flush::drain(setup, log, out, text, used),
-        _ => sim_flush::flush(
-            v[0],
-            sim_flush::rows_of(which, v),
-            setup,
-            net,
-            tills,
-            seen,
-            waiting,
-            blocks,
-            log,
-            out,
-            due,
-            text,
-            used,
-        ),
+// A call on tables that have the network's sizes, each lent anew: the borrow checker covers a struct that is taken apart by value, and one made here.
+fn act(network: &mut Network<'_>, call: Call<'_>, due: &mut [u64], page: &mut Printer) -> Outcome {
+    let lent = Network {
+        setup: network.setup,
+        net: network.net,
+        names: network.names,
+        tills: network.tills,
+        words: network.words,
+        keys: network.keys,
+        prices: network.prices,
+        seen: network.seen,
+        waiting: network.waiting,
+        rings: network.rings,
+        rules: network.rules,
+        blocks: network.blocks,
+        log: network.log,
+        out: network.out,
+    };
+    match call {
+        Call::Accept(entry) => sim_accept::accept(lent, entry, page),
+        Call::Flush(flush) => sim_flush::flush(lent, flush, due, page),
+        Call::Drain => sim_flush::drain(lent, page),
+        Call::Change(change) => sim_calls::change(lent, change, page),
+        Call::Passage(passage) => sim_calls::passage(lent, passage, page),
+        Call::Install { card } => sim_calls::install(lent, card, page),
+        Call::Hook(hook) => sim_calls::hook(lent, hook, page),
+        Call::Reading(Reading::Single(single)) => sim_calls::single(lent, single, page),
+        Call::Reading(Reading::Table(table)) => sim_calls::table(lent, table, page),
+        Call::Reading(Reading::State) => sim_calls::state(lent, page),
+        Call::Should(message) => sim_leaf_calls::should(lent, message, page),
+        Call::Geography(geography) => sim_leaf_calls::geography(lent, geography, page),
+        Call::Latency(latency) => sim_leaf_calls::latency(lent, latency, page),
+        Call::Digest { input } => sim_leaf_calls::digest(input, page),
+        Call::Seconds(seconds) => sim_leaf_calls::seconds(seconds, page),
+        Call::Draws(draws) => sim_leaf_calls::draws(draws, page),
     }
 }
 
-// A call on tables that have the network's sizes.
-fn act(
-    which: u64,
-    v: [u64; 8],
-    given: &[u8],
-    setup: &[u64],
-    net: &mut [u64],
-    names: &[u8],
-    tills: &mut [u64],
-    words: &mut [u64],
-    keys: &[u32],
-    prices: &[u64],
-    seen: &mut [u64],
-    waiting: &mut [u64],
-    rings: &mut [u64],
-    rules: &mut [u64],
-    blocks: &mut [u64],
-    log: &mut [u64],
-    out: &mut [u64],
-    due: &mut [u64],
-    text: &mut [u8],
-    used: usize,
-) -> Outcome {
-    match which {
-        calls::ACCEPT | calls::FLUSH | calls::FLUSH_ROWS | calls::DRAIN => traffic(
-            which, v, given, setup, net, names, tills, words, keys, prices, seen, waiting, rings,
-            rules, blocks, log, out, due, text, used,
-        ),
-        calls::DOWN
-        | calls::UP
-        | calls::HANDLERS
-        | calls::BLOCK
-        | calls::BLOCK_DURING
-        | calls::UNBLOCK
-        | calls::INSTALL
-        | calls::REMOVE
-        | calls::DECIDE
-        | calls::SHOULD
-        | calls::SET_FIRED
-        | calls::SET_WORDS
-        | calls::SET_FAULT
-        | calls::SET_SEQUENCE
-        | calls::SET_RULES => sim_other_acts::changes(
-            which, v, given, setup, net, tills, words, prices, seen, rules, blocks, text, used,
-        ),
-        _ => sim_other_acts::readings(
-            which, v, given, setup, net, tills, words, prices, seen, waiting, rings, rules, blocks,
-            out, text, used,
-        ),
-    }
-}
-
-// The first n words of 32 bits, or all where there are fewer.
-fn part32(s: &[u32], n: usize) -> &[u32] {
-    if n < s.len() {
-        return &s[0..n];
-    }
-    s
-}
-
-// How many bytes a call was given: a wire, a card, an input, or a key.
-fn size_of(which: u64, v: [u64; 8]) -> usize {
-    if which == calls::ACCEPT {
-        return v[5] as usize;
-    }
-    v[0] as usize
-}
-
-// A call on the tables of the largest sizes, and the notes for the figures of the run, which stand before the due copies; `room` holds the bytes
-// that the call was given.
+// A call on the tables of the largest sizes, and the notes for the figures of the run.
 pub fn call(
-    which: u64,
-    v: [u64; 8],
+    network: Network<'_>,
+    call: Call<'_>,
     r: Session,
-    room: &[u8],
-    setup: &[u64],
-    net: &mut [u64],
-    names: &[u8],
-    tills: &mut [u64],
-    words: &mut [u64],
-    keys: &[u32],
-    prices: &[u64],
-    seen: &mut [u64],
-    waiting: &mut [u64],
-    rings: &mut [u64],
-    rules: &mut [u64],
-    blocks: &mut [u64],
-    log: &mut [u64],
-    out: &mut [u64],
+    figures: &mut Figures,
     due: &mut [u64],
-    text: &mut [u8],
-) -> Session {
-    sim_notes::before(due, which, setup, log);
-    let stood = sim_notes::marks(setup, seen);
-    let n = open_sizes(setup);
-    let told = act(
-        which,
-        v,
-        sim_spelling::words::part(room, 0, size_of(which, v)),
+    page: &mut Printer,
+) {
+    let Network {
         setup,
         net,
         names,
-        sim_lend::front(tills, n.tills as usize),
+        tills,
         words,
-        part32(keys, n.keys as usize),
-        sim_lend::part(prices, n.prices as usize),
-        sim_lend::front(seen, n.seen as usize),
-        sim_lend::front(waiting, n.waiting as usize),
-        sim_lend::front(rings, n.rings as usize),
+        keys,
+        prices,
+        seen,
+        waiting,
+        rings,
         rules,
         blocks,
-        sim_lend::front(log, n.log as usize),
+        log,
         out,
-        sim_notes::copies_in(due),
-        text,
-        r.used,
-    );
-    let counts = told.counts;
+    } = network;
+    sim_notes::before(figures, call, setup, log);
+    let stood = sim_notes::marks(setup, seen);
+    let n = open_sizes(setup);
+    let mut lent = Network {
+        setup,
+        net,
+        names,
+        tills: front(tills, n.tills as usize),
+        words,
+        keys: front(keys, n.keys as usize),
+        prices: front(prices, n.prices as usize),
+        seen: front(seen, n.seen as usize),
+        waiting: front(waiting, n.waiting as usize),
+        rings: front(rings, n.rings as usize),
+        rules,
+        blocks,
+        log: front(log, n.log as usize),
+        out,
+    };
+    let told = act(&mut lent, call, due, page);
     sim_notes::after(
+        figures,
         due,
-        which,
-        v,
+        call,
         told.number,
-        counts,
+        told.counts,
         stood,
         setup,
         net,
         seen,
         out,
     );
-    lines::called(text, r, told)
+    lines::called(page, r, told);
 }

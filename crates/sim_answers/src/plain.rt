@@ -1,91 +1,51 @@
 // Plain answers: a name with a number or a refusal behind it, and lists of numbers.
-
-pub fn say(text: &mut [u8], used: usize, what: &[u8]) -> usize {
-    sim_printer::text(text, used, what)
-}
-
-// A label and a number.
-pub fn labelled(text: &mut [u8], used: usize, label: &[u8], n: u64) -> usize {
-    let u = sim_printer::text(text, used, label);
-    sim_printer::decimal(text, u, n)
-}
-
-// A line of a label and a number.
-pub fn ended(text: &mut [u8], used: usize, label: &[u8], n: u64) -> usize {
-    let u = labelled(text, used, label, n);
-    sim_printer::text(text, u, b"\n")
-}
+use sim_printer::Printer;
+use std::fmt;
 
 // `ok`, or the number of the question that refused.
-pub fn done(text: &mut [u8], used: usize, call: &[u8], number: u64) -> usize {
-    let u = sim_printer::text(text, used, call);
+pub fn done(page: &mut Printer, call: &str, number: u64) {
     if number == 0 {
-        return sim_printer::text(text, u, b" ok\n");
+        page.print(format_args!("{call} ok\n"));
+        return;
     }
-    ended(text, u, b" refused ", number)
+    page.print(format_args!("{call} refused {number}\n"));
 }
 
 // A bad line, by its number.
-pub fn bad(text: &mut [u8], used: usize, line: u64) -> usize {
-    ended(text, used, b"err ", line)
+pub fn bad(page: &mut Printer, line: u64) {
+    page.print(format_args!("err {line}\n"));
 }
 
-// n cells from `at` on, a space before each.
-pub fn cells(text: &mut [u8], used: usize, ws: &[u64], at: usize, n: usize) -> usize {
-    let mut u = used;
-    let mut i: usize = 0;
-    while i < n {
-        u = labelled(
-            text,
-            u,
-            b" ",
-            ask_tables::cell(ws, std::num::wrapping_add_usize(at, i)),
-        );
-        i += 1;
+// Numbers, a space before each.
+#[derive(Drop)]
+pub struct Spaced<'a>(pub &'a [u64]);
+
+impl fmt::Display for Spaced<'_> {
+    fn fmt<W: fmt::Write>(&self, f: &mut fmt::Formatter<W>) -> fmt::Result {
+        for n in self.0 {
+            write!(f, " {n}")?;
+        }
+        Ok(())
     }
-    u
 }
 
-// Digits of an id.
-const ID: usize = 16;
-
-// A space and an id.
-pub fn id(text: &mut [u8], used: usize, id: u64) -> usize {
-    let u = sim_printer::text(text, used, b" ");
-    sim_printer::hex(text, u, id, ID)
-}
-
-// The first n cells as ids, a space before each.
-pub fn ids(text: &mut [u8], used: usize, ws: &[u64], n: usize) -> usize {
-    let mut u = used;
-    let mut i: usize = 0;
-    while i < n {
-        u = id(text, u, ask_tables::cell(ws, i));
-        i += 1;
+// Ids, a space before each.
+pub fn ids(page: &mut Printer, ids: &[u64]) {
+    for id in ids {
+        page.print(format_args!(" {id:016x}"));
     }
-    u
 }
 
-fn wide(w: u32) -> u64 {
-    w as u64
-}
+// The bytes of eight words, little-endian, two digits each.
+#[derive(Drop)]
+pub struct Hexes(pub [u32; 8]);
 
-// The bytes of a word, little-endian, two digits each.
-fn bytes(text: &mut [u8], used: usize, w: u32) -> usize {
-    let x = wide(w);
-    let a = sim_printer::hex(text, used, x % 256, 2);
-    let b = sim_printer::hex(text, a, x / 256 % 256, 2);
-    let c = sim_printer::hex(text, b, x / 65536 % 256, 2);
-    sim_printer::hex(text, c, x / 16777216 % 256, 2)
-}
-
-// The 32 bytes of eight words.
-pub fn hexes(text: &mut [u8], used: usize, ws: [u32; 8]) -> usize {
-    let mut u = used;
-    let mut i: usize = 0;
-    while i < 8 {
-        u = bytes(text, u, ws[i]);
-        i += 1;
+impl fmt::Display for Hexes {
+    fn fmt<W: fmt::Write>(&self, f: &mut fmt::Formatter<W>) -> fmt::Result {
+        for word in &self.0 {
+            let word = word.swap_bytes();
+            write!(f, "{word:08x}")?;
+        }
+        Ok(())
     }
-    u
 }

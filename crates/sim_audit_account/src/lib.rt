@@ -1,133 +1,102 @@
-// The account of an audit: figures in a lent table, noted line by line, and the verdict that they give.
+// The account of an audit: what is noted of each line of the recording, and the verdict.
 #![tactic(auto)]
 
-ghost use Rattle.std.specs.Prelude.{◌≡◌, slice_index, slice_set};
+pub mod words;
+
+ghost use Rattle.std.specs.Prelude.{◌≡◌};
 ghost use Rattle.sim_audit_account.specs.Account as is;
 
-// The places: lines of the recording, calls played, answers compared, differences,
-pub const LINES: usize = 0;
+use words::Words;
 
-pub const CALLS: usize = 1;
+// The figures of an audit so far; they wrap.
+#[derive(Debug, Drop)]
+pub struct Account {
+    // Lines of the recording, calls played, answers compared, differences, lines that are no calls.
+    pub lines: u64,
+    pub calls: u64,
+    pub answers: u64,
+    pub differ: u64,
+    pub bad: u64,
+    // The line of the first call whose answers differ, and of the last call.
+    pub first: Option<u64>,
+    pub call: Option<u64>,
+    // How much of the book's answers to the last call was compared.
+    pub read: usize,
+    // The last call's words.
+    pub words: Words,
+}
 
-pub const ANSWERS: usize = 2;
-
-pub const DIFFER: usize = 3;
-
-// the line of the first call that differs, the line of the last call, how much of the book's answers to it was compared, bad lines,
-pub const FIRST: usize = 4;
-
-pub const CALL: usize = 5;
-
-pub const READ: usize = 6;
-
-pub const BAD: usize = 7;
-
-// and the last call's words: how many bytes are kept, and each of them.
-pub const LENGTH: usize = 8;
-
-pub const TEXT: usize = 9;
-
-// Bytes of a call's words that are kept, to be shown.
-pub const SHOWN: usize = 36;
-
-// How many places there are.
-pub const SIZE: usize = TEXT + SHOWN;
-
-// The figure at i; 0 past the end.
-pub fn get(account: &[u64], i: usize) -> u64
-    ensures { result ≡ slice_index account.now i }
-{
-    if i < account.len() {
-        return account[i];
+impl Account {
+    // Before the first line.
+    pub fn new() -> Account
+        ensures { result ≡ is.nothing }
+    {
+        Account {
+            lines: 0,
+            calls: 0,
+            answers: 0,
+            differ: 0,
+            bad: 0,
+            first: None,
+            call: None,
+            read: 0,
+            words: Words::of(b""),
+        }
     }
-    0
-}
 
-// n at i; nothing past the end.
-pub fn put(account: &mut [u64], i: usize, n: u64)
-    ensures { account.new ≡ slice_set account.old i n }
-{
-    if i < account.len() {
-        account[i] = n;
-        return;
+    // A line of the recording.
+    pub fn line(&mut self)
+        ensures { self.new ≡ is.line_note self.old }
+    {
+        self.lines = self.lines.wrapping_add(1);
     }
-}
 
-// n more at i.
-pub fn add(account: &mut [u64], i: usize, n: u64)
-    ensures { account.new ≡ is.added account.old i n }
-{
-    let v = std::num::wrapping_add_u64(get(account, i), n);
-    put(account, i, v);
-}
-
-// A line of the recording.
-pub fn line(account: &mut [u64])
-    ensures { account.new ≡ is.line_note account.old }
-{
-    add(account, LINES, 1);
-}
-
-// It is a call.
-pub fn call(account: &mut [u64])
-    ensures { account.new ≡ is.call_note account.old }
-{
-    let line = get(account, LINES);
-    put(account, CALL, line);
-    put(account, READ, 0);
-}
-
-// The call was played.
-pub fn played(account: &mut [u64])
-    ensures { account.new ≡ is.played_note account.old }
-{
-    add(account, CALLS, 1);
-}
-
-// It is no call that the book knows.
-pub fn bad(account: &mut [u64])
-    ensures { account.new ≡ is.bad_note account.old }
-{
-    add(account, BAD, 1);
-}
-
-// An answer differs, is one too many, or is missing.
-pub fn differs(account: &mut [u64])
-    ensures { account.new ≡ is.differ_note account.old }
-{
-    let first = get(account, FIRST);
-    let line = get(account, CALL);
-    add(account, DIFFER, 1);
-    if first == 0 {
-        put(account, FIRST, line);
-        return;
+    // It is a call, with these words.
+    pub fn call(&mut self, words: &[u8])
+        ensures { self.new ≡ is.call_note self.old words.now }
+    {
+        self.call = Some(self.lines);
+        self.read = 0;
+        self.words = Words::of(words);
     }
-}
 
-// An answer was compared, and the book's answers up to `next` with it.
-pub fn answered(account: &mut [u64], same: bool, next: usize)
-    ensures { account.new ≡ is.answer_note account.old same next }
-{
-    add(account, ANSWERS, 1);
-    put(account, READ, next as u64);
-    if same {
-        return;
+    // The call was played.
+    pub fn played(&mut self)
+        ensures { self.new ≡ is.played_note self.old }
+    {
+        self.calls = self.calls.wrapping_add(1);
     }
-    differs(account);
-}
 
-// The verdict.
-pub fn passes(account: &[u64]) -> bool
-    ensures { result ≡ is.passed account.now }
-{
-    if get(account, CALLS) == 0 {
-        return false;
+    // It is no call that the book knows.
+    pub fn bad(&mut self)
+        ensures { self.new ≡ is.bad_note self.old }
+    {
+        self.bad = self.bad.wrapping_add(1);
     }
-    if get(account, FIRST) != 0 {
-        return false;
+
+    // An answer differs, is one too many, or is missing.
+    pub fn differs(&mut self)
+        ensures { self.new ≡ is.differ_note self.old }
+    {
+        self.differ = self.differ.wrapping_add(1);
+        self.first = self.first.or(self.call);
     }
-    if get(account, DIFFER) != 0 {
-        return false;
+
+    // An answer was compared, and the book's answers up to `next` with it.
+    pub fn answered(&mut self, is_same: bool, next: usize)
+        ensures { self.new ≡ is.answer_note self.old is_same next }
+    {
+        self.answers = self.answers.wrapping_add(1);
+        self.read = next;
+        if !is_same {
+            self.differs();
+        }
     }
-    get(account, BAD) == 0
+
+    // The verdict.
+    pub fn passes(&self) -> bool
+        ensures { result ≡ is.passed self.now }
+    {
+        self.calls != 0 && self.first.is_none() && self.differ == 0 && self.bad == 0
+    }
 }

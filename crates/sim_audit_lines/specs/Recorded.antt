@@ -1,72 +1,53 @@
 -- The lines of a recorded run: calls behind `>`, answers, remarks; and whether a recorded answer says what the book says.
-use Rattle.std.specs.Prelude.{ℕ, zero, suc, ◌+◌, ◌-◌, Bool, true, cond, List, [], ◌∷◌, eqb, ltb, length, get_or}
-use Prim.Native.Char.{code}
-use Prim.Native.String.{String, [] as none, ◌∷◌ as ◌then◌}
-use Rattle.sim_spelling.specs.Spelling.{part_of, same_text}
-
--- the bytes of a text of ASCII characters
-abbrev pub bytes : String → List ℕ
-bytes none = []
-bytes (c then s) = code c ∷ bytes s
+use Rattle.std.specs.Prelude.{◌≡◌, ℕ, ◌-◌, ◌<◌, Bool, true, false, ◌||◌, ◌==◌, if◌then◌else◌, eqb, List, [], ◌∷◌, length, take, slice_index, codes, Option, MatchOption}
+use Rattle.std.specs.List.{suffix_len, starts_with}
+use Rattle.std.specs.Str.{bytes_eq}
+use Rattle.sim_audit_lines.specs.declared.LineKind.{LineKind}
+use Rattle.sim_audit_lines.specs.declared.LineKind.TheVariants.{Call, Answer, Remark}
 
 -- ---- What a line is
 
-abbrev pub call_line : ℕ
-call_line = 1
-
-abbrev pub answer_line : ℕ
-answer_line = 2
-
--- a blank line, or one that begins with #
-abbrev pub remark_line : ℕ
-remark_line = 3
-
 -- space, tab, carriage return
-unfoldable pub blank : ℕ → Bool
-blank b = cond (eqb b 32) true (cond (eqb b 9) true (eqb b 13))
+abbrev pub blank : ℕ → Bool
+blank b = b == 32 || b == 9 || b == 13
 
--- how many of the first n bytes stand before the blanks at their end
-unfoldable pub trimmed_to : List ℕ → ℕ → ℕ
-trimmed_to s zero = 0
-trimmed_to s (suc n) = cond (blank (get_or s n 0)) (trimmed_to s n) (suc n)
+-- where its last byte stands that is no blank
+abbrev pub IsLastMark : List ℕ → Option ℕ → Type 0
+IsLastMark s place =
+    MatchOption place
+    ((k : ℕ) → k < length s → blank (slice_index s k) ≡ true)
+    (λ i. (i < length s) × (blank (slice_index s i) ≡ false) × ((k : ℕ) → i < k → k < length s → blank (slice_index s k) ≡ true))
 
-abbrev pub trimmed : List ℕ → ℕ
-trimmed s = trimmed_to s (length s)
+-- a line without the blanks at its end
+abbrev pub trimmed : List ℕ → List ℕ
+trimmed s = take (length s - suffix_len blank s) s
 
--- `>` is 62, `#` is 35
-unfoldable pub line_kind : List ℕ → ℕ
-line_kind s = cond (eqb (trimmed s) 0) remark_line (cond (eqb (get_or s 0 0) 62) call_line (cond (eqb (get_or s 0 0) 35) remark_line answer_line))
+-- what a line is by its first byte: `>` is 62, `#` is 35
+abbrev pub kind_by : List ℕ → LineKind
+kind_by [] = Remark
+kind_by (b ∷ s) = if b == 62 then Call else (if b == 35 then Remark else Answer)
 
--- ---- The lines of a text, each with a line end (10) behind it
+-- a blank line is a remark
+abbrev pub line_kind : List ℕ → LineKind
+line_kind s = kind_by (trimmed s)
 
--- the first line end from i on, of n; the end of the text where there is none
-unfoldable pub end_from : List ℕ → (i n : ℕ) → ℕ
-end_from s i zero = i
-end_from s i (suc n) = cond (eqb (get_or s i 0) 10) i (end_from s (i + 1) n)
+-- ---- The lines of a text
 
--- the end of the line that begins at i, and the line
-abbrev pub line_end : List ℕ → ℕ → ℕ
-line_end s i = end_from s i (length s - i)
-
--- the place behind a line end
-abbrev pub behind : List ℕ → ℕ → ℕ
-behind s e = cond (ltb e (length s)) (e + 1) e
+-- each has a line end (10) behind it
+abbrev pub ends_line : ℕ → Bool
+ends_line b = b == 10
 
 -- ---- Does a recorded answer say what the book says?
 
 -- the words that document 02 adds to an answer stand at its end; the first of them is one of these
-unfoldable pub added : List ℕ → ℕ → Bool
-added s i = cond (same_text (part_of s i (i + 6)) (bytes " time=")) true (cond (same_text (part_of s i (i + 6)) (bytes " kind=")) true (same_text (part_of s i (i + 6)) (bytes " more=")))
-
--- the first place from i on, of n, where they begin
-unfoldable pub added_from : List ℕ → (i n : ℕ) → ℕ
-added_from s i zero = i
-added_from s i (suc n) = cond (added s i) i (added_from s (i + 1) n)
+unfoldable pub added : List ℕ → Bool
+added s = starts_with eqb s (codes " time=") || starts_with eqb s (codes " kind=") || starts_with eqb s (codes " more=")
 
 -- a line of the book without them
 abbrev pub plain : List ℕ → List ℕ
-plain b = part_of b 0 (added_from b 0 (length b))
+plain [] = []
+plain (b ∷ s) = if added (b ∷ s) then [] else (b ∷ plain s)
 
 -- the recorded line r, without blanks at its end, is the book's line b, or b without the words that document 02 adds
 unfoldable pub agreed : (r b : List ℕ) → Bool
-agreed r b = cond (same_text (part_of r 0 (trimmed r)) b) true (same_text (part_of r 0 (trimmed r)) (plain b))
+agreed r b = bytes_eq (trimmed r) b || bytes_eq (trimmed r) (plain b)

@@ -1,95 +1,49 @@
-// A call of a recorded run, played on the tables of the audit's own network: its answers go to a text, from its first byte on.
+// A call of a recorded run, played on the tables of the audit's own network: its answers go to a page.
 #![tactic(auto)]
 
-use sim_openings::Opening;
-use sim_script::calls;
-use sim_session::lines::{Parsed, SKIPPED, Session};
+use sim_figures::Figures;
+use sim_lend::Network;
+use sim_printer::Printer;
+use sim_session::lines::{Line, Session};
 use sim_session::{lines, opens};
 
-// The run behind a line that is skipped, or bad.
-fn passed(text: &mut [u8], r: Session, which: u64) -> Session {
-    let mut next = r;
-    if which == SKIPPED {
-        return next;
-    }
-    next.used = sim_answers::bad(text, r.used, r.lines);
-    next
-}
-
-// The run behind an opening.
-fn begun(text: &mut [u8], r: Session, number: u64) -> Session {
-    let mut next = r;
-    next.used = sim_answers::done(text, r.used, b"open", number);
-    if number == 0 {
-        next.opened = true;
-    }
-    next
-}
-
-// An opening.
-fn opened(
-    o: Opening,
-    r: Session,
-    room: &[u8],
-    setup: &mut [u64],
-    net: &mut [u64],
-    names: &mut [u8],
-    tills: &mut [u64],
-    words: &mut [u64],
-    keys: &mut [u32],
-    prices: &mut [u64],
-    seen: &mut [u64],
-    waiting: &[u64],
-    rings: &mut [u64],
-    rules: &[u64],
-    blocks: &[u64],
-    log: &mut [u64],
-    out: &[u64],
-    text: &mut [u8],
-) -> Session {
-    let number = opens::opened(
-        o, room, out, setup, net, names, tills, words, keys, prices, seen, waiting, rings, rules,
-        blocks, log,
-    );
-    begun(text, r, number)
-}
-
-// A call of the recording, played: an opening, a call on the network that is open, or neither. The answers are the first bytes of `text`.
+// A line of the recording, played: an opening, a call on the network that is open, or neither. The answers go to `page`.
 pub fn act(
-    p: Parsed,
-    o: Opening,
+    network: &mut Network<'_>,
+    line: Line<'_>,
     r: Session,
-    room: &[u8],
-    setup: &mut [u64],
-    net: &mut [u64],
-    names: &mut [u8],
-    tills: &mut [u64],
-    words: &mut [u64],
-    keys: &mut [u32],
-    prices: &mut [u64],
-    seen: &mut [u64],
-    waiting: &mut [u64],
-    rings: &mut [u64],
-    rules: &mut [u64],
-    blocks: &mut [u64],
-    log: &mut [u64],
-    out: &mut [u64],
+    figures: &mut Figures,
     due: &mut [u64],
-    text: &mut [u8],
+    page: &mut Printer,
 ) -> Session {
-    let which = lines::verdict(p, o, r);
-    let v = p.v;
-    if lines::passes(which) {
-        return passed(text, r, which);
+    let lent = Network {
+        setup: network.setup,
+        net: network.net,
+        names: network.names,
+        tills: network.tills,
+        words: network.words,
+        keys: network.keys,
+        prices: network.prices,
+        seen: network.seen,
+        waiting: network.waiting,
+        rings: network.rings,
+        rules: network.rules,
+        blocks: network.blocks,
+        log: network.log,
+        out: network.out,
+    };
+    match line {
+        Line::Skipped => r,
+        Line::Bad => {
+            sim_answers::bad(page, r.lines);
+            r
+        }
+        Line::Open { opening, fresh } => {
+            lines::begun(page, r, opens::opened(opening, fresh, lent))
+        }
+        Line::Call(call) => {
+            sim_acts::call(lent, call, r, figures, due, page);
+            r
+        }
     }
-    if which == calls::OPEN {
-        return opened(
-            o, r, room, setup, net, names, tills, words, keys, prices, seen, waiting, rings, rules,
-            blocks, log, out, text,
-        );
-    }
-    sim_acts::call(
-        which, v, r, room, setup, net, names, tills, words, keys, prices, seen, waiting, rings,
-        rules, blocks, log, out, due, text,
-    )
 }

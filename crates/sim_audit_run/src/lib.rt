@@ -1,52 +1,51 @@
 // An audit: the calls of a recorded run are played on a network of its own, and every recorded answer is compared with the book's.
 #![tactic(auto)]
 
+use sim_audit_account::Account;
+use sim_figures::Figures;
+use sim_lend::Network;
+use sim_printer::Printer;
 use sim_session::{input, lines, system};
 use std::io::Read;
 use std::rt::{Clock, Env, Files};
 
-// No run has more lines.
-const TURNS: u64 = 18446744073709551615;
-
-// A whole audit: line after line, to the end of what the reader gives, and the page.
+// A whole audit: line after line, to the end of what the reader gives (no run has more than 2^64), and the page.
 fn run<R: Clock, S: Read>(
     rt: &R,
     from: &mut S,
     piece: &mut [u8],
     line: &mut [u8],
     room: &mut [u8],
-    setup: &mut [u64],
-    net: &mut [u64],
-    names: &mut [u8],
-    tills: &mut [u64],
-    words: &mut [u64],
-    keys: &mut [u32],
-    prices: &mut [u64],
-    seen: &mut [u64],
-    waiting: &mut [u64],
-    rings: &mut [u64],
-    rules: &mut [u64],
-    blocks: &mut [u64],
-    log: &mut [u64],
-    out: &mut [u64],
+    network: &mut Network<'_>,
+    figures: &mut Figures,
     due: &mut [u64],
-    text: &mut [u8],
-    account: &mut [u64],
+    page: &mut Printer,
+    account: &mut Account,
+    sides: &mut sim_audit_figures::Figures,
 ) {
     let mut i = input::start(false, 0);
     let mut r = lines::fresh(rt);
-    let mut left = TURNS;
-    while 0 < left {
-        let t = sim_audit_turn::next(rt, from, piece, line, room, out, text, account, i, r);
-        let after = sim_audit_play::act(
-            t.parsed, t.opening, t.session, room, setup, net, names, tills, words, keys, prices,
-            seen, waiting, rings, rules, blocks, log, out, due, text,
+    for _ in 0..u64::MAX {
+        let t = sim_audit_turn::next(
+            rt,
+            from,
+            piece,
+            line,
+            room,
+            network.out,
+            page,
+            account,
+            sides,
+            i,
+            r,
         );
+        r = sim_audit_play::act(network, t.line, t.session, figures, due, page);
         i = t.input;
-        r = after;
-        left = lines::remaining(left, i.ended);
+        if i.ended {
+            break;
+        }
     }
-    sim_audit_page::finish(text, r.used, account);
+    sim_audit_page::finish(page.as_slice(), account, sides);
 }
 
 // Bytes of a line: the hexadecimal digits of 65,536 wire bytes, and 4,096 more.
@@ -59,9 +58,6 @@ const PIECE: usize = 65536;
 
 // Bytes of the book's answers to one call.
 const TEXT: usize = 524288;
-
-// Figures of the account and of its page.
-const ACCOUNT: usize = 16384;
 
 // The largest sizes: tills, slots, types, regions.
 const TILLS: usize = ask_tables::MOST_TILLS as usize;
@@ -80,21 +76,23 @@ fn on_tables<R: Clock, S: Read>(rt: &R, from: &mut S) {
     let mut line = [0u8; LINE];
     let mut room = [0u8; ROOM];
     let mut text = [0u8; TEXT];
-    let mut account = [0u64; ACCOUNT];
-    let mut setup = [0u64; ask_tables::SETUP_WIDTH];
-    let mut net = [0u64; ask_tables::NET_WIDTH];
-    let mut names = [0u8; ask_rows::NAMES_WIDTH];
-    let mut tills = [0u64; TILLS * ask_tables::TILL_WIDTH];
-    let mut words = [0u64; ask_tables::LINKS];
-    let mut keys = [0u32; ask_tables::LINKS * ask_tables::LINK_KEY_WIDTH as usize];
-    let mut prices = [0u64; REGIONS * REGIONS * ask_rows::LINK_WIDTH + TILLS];
-    let mut seen = [0u64; TILLS + TILLS * SLOTS];
-    let mut waiting = [0u64; SLOTS * table_waiting::WIDTH];
-    let mut rings = [0u64; TYPES * table_rings::SCOPES * table_rings::SIZE];
-    let mut rules = [0u64; fault_rules::SLOTS * fault_rules::WIDTH];
-    let mut blocks = [0u64; fault_blocks::SLOTS * fault_blocks::WIDTH];
-    let mut log = [0u64; table_log::RECORDS + SLOTS * table_delivery::WIDTH];
-    let mut out = [0u64; SLOTS * call_flush_pass::ROW];
+    let mut network = Network {
+        setup: &mut [0; ask_tables::SETUP_WIDTH],
+        net: &mut [0; ask_tables::NET_WIDTH],
+        names: &mut [0; ask_rows::NAMES_WIDTH],
+        tills: &mut [0; TILLS * ask_tables::TILL_WIDTH],
+        words: &mut [0; ask_tables::LINKS],
+        keys: &mut [0; ask_tables::LINKS * ask_tables::LINK_KEY_WIDTH as usize],
+        prices: &mut [0; REGIONS * REGIONS * ask_rows::LINK_WIDTH + TILLS],
+        seen: &mut [0; TILLS + TILLS * SLOTS],
+        waiting: &mut [0; SLOTS * table_waiting::WIDTH],
+        rings: &mut [0; TYPES * table_rings::SCOPES * table_rings::SIZE],
+        rules: &mut [0; fault_rules::SLOTS * fault_rules::WIDTH],
+        blocks: &mut [0; fault_blocks::SLOTS * fault_blocks::WIDTH],
+        log: &mut [0; table_log::RECORDS + SLOTS * table_delivery::WIDTH],
+        out: &mut [0; SLOTS * call_flush_pass::ROW],
+    };
+    let mut figures = sim_figures::none();
     let mut due = [0u64; sim_notes::WIDTH];
     run(
         rt,
@@ -102,23 +100,12 @@ fn on_tables<R: Clock, S: Read>(rt: &R, from: &mut S) {
         &mut piece,
         &mut line,
         &mut room,
-        &mut setup,
-        &mut net,
-        &mut names,
-        &mut tills,
-        &mut words,
-        &mut keys,
-        &mut prices,
-        &mut seen,
-        &mut waiting,
-        &mut rings,
-        &mut rules,
-        &mut blocks,
-        &mut log,
-        &mut out,
+        &mut network,
+        &mut figures,
         &mut due,
-        &mut text,
-        &mut account,
+        &mut Printer::new(&mut text),
+        &mut Account::new(),
+        &mut sim_audit_figures::Figures::new(),
     );
 }
 
@@ -149,10 +136,8 @@ fn named<R: Files + Env + Clock>(rt: &R, k: usize) {
 
 // The audits of the recordings that the words from k on name, one after the other.
 fn each<R: Files + Env + Clock>(rt: &R, k: usize, words: usize) {
-    let mut i = k;
-    while i < words {
+    for i in k..words {
         named(rt, i);
-        i += 1;
     }
 }
 
@@ -163,7 +148,7 @@ const FILES: usize = 2;
 pub fn is_asked(rt: &impl Env) -> bool {
     let mut word = [0u8; 16];
     let n = system::arg(rt, 1, &mut word);
-    sim_spelling::words::same(sim_spelling::words::part(&word, 0, n), b"audit")
+    word.get(..n) == Some(b"audit".as_slice())
 }
 
 // What the words behind `audit` ask for: the audit of each file that they name, or of standard input.

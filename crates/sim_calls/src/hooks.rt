@@ -1,80 +1,62 @@
 // Hooks that write a counter, so that limits can be tried.
-use sim_outcome::{Outcome, bad, done};
-use sim_script::calls;
+use ask_tables::{FAULT_WORDS, INSTALLED, MOST_TILLS, RULES, SEQUENCE, TILLS, cell, put};
+use sim_lend::Network;
+use sim_outcome::{Outcome, done};
+use sim_printer::Printer;
+use sim_script::Hook;
 
 // The question that a till beyond the opening's meets.
 const NO_TILL: u64 = 4;
 
 // The fired count of a rule; no rule, no change.
 fn set_fired(rules: &mut [u64], n: u64, id: u64, to: u64) {
-    let mut row: usize = 0;
-    let mut i: u64 = 0;
-    while i < n {
-        if ask_tables::cell(rules, row) == id {
-            ask_tables::put(
-                rules,
-                std::num::wrapping_add_usize(row, fault_rules::FIRED),
-                to,
-            );
+    let rows = rules.chunks_exact_mut(fault_rules::WIDTH);
+    for row in rows.take(n as usize) {
+        if cell(row, 0) == id {
+            put(row, fault_rules::FIRED, to);
             return;
         }
-        row = std::num::wrapping_add_usize(row, fault_rules::WIDTH);
-        i += 1;
     }
 }
 
 // The word count of a link.
 fn set_words(words: &mut [u64], tills: u64, from: u64, to: u64, n: u64) -> u64 {
-    if tills <= from {
+    if tills <= from || tills <= to || MOST_TILLS < tills {
         return NO_TILL;
     }
-    if tills <= to {
-        return NO_TILL;
-    }
-    if ask_tables::MOST_TILLS < tills {
-        return NO_TILL;
-    }
-    ask_tables::put(words, (from * ask_tables::MOST_TILLS + to) as usize, n);
+    put(words, (from * MOST_TILLS + to) as usize, n);
     0
 }
 
-pub fn hook(
-    which: u64,
-    v: [u64; 8],
-    setup: &[u64],
-    net: &mut [u64],
-    words: &mut [u64],
-    rules: &mut [u64],
-    text: &mut [u8],
-    used: usize,
-) -> Outcome {
-    match which {
-        calls::SET_FIRED => {
-            set_fired(rules, ask_tables::cell(net, ask_tables::RULES), v[0], v[1]);
-            done(text, used, b"setfired", 0)
+// Writes a counter.
+pub fn hook(network: Network<'_>, hook: Hook, page: &mut Printer) -> Outcome {
+    let Network {
+        setup,
+        net,
+        words,
+        rules,
+        ..
+    } = network;
+    match hook {
+        Hook::Fired { rule, count } => {
+            set_fired(rules, cell(net, RULES), rule, count);
+            done(page, "setfired", 0)
         }
-        calls::SET_WORDS => {
-            let number = set_words(
-                words,
-                ask_tables::cell(setup, ask_tables::TILLS),
-                v[0],
-                v[1],
-                v[2],
-            );
-            done(text, used, b"setwords", number)
+        Hook::Words { from, to, count } => {
+            let number = set_words(words, cell(setup, TILLS), from, to, count);
+            done(page, "setwords", number)
         }
-        calls::SET_FAULT => {
-            ask_tables::put(net, ask_tables::FAULT_WORDS, v[0]);
-            done(text, used, b"setwords", 0)
+        Hook::FaultWords { count } => {
+            put(net, FAULT_WORDS, count);
+            done(page, "setwords", 0)
         }
-        calls::SET_SEQUENCE => {
-            ask_tables::put(net, ask_tables::SEQUENCE, v[0]);
-            done(text, used, b"setseq", 0)
+        Hook::Sequence { last } => {
+            put(net, SEQUENCE, last);
+            done(page, "setseq", 0)
         }
-        calls::SET_RULES => {
-            ask_tables::put(net, ask_tables::INSTALLED, v[0]);
-            done(text, used, b"setrules", 0)
+        Hook::Installed { count } => {
+            put(net, INSTALLED, count);
+            done(page, "setrules", 0)
         }
-        _ => bad(used),
     }
 }

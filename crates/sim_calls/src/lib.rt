@@ -5,6 +5,6 @@ mod engine_calls;
 mod hooks;
 mod readings;
 
-pub use engine_calls::engine;
+pub use engine_calls::{change, install, passage};
 pub use hooks::hook;
-pub use readings::{reading, state};
+pub use readings::{single, state, table};

@@ -1,91 +1,48 @@
 // The calls that read a network.
-use sim_outcome::{Outcome, bad, done, told, valued};
-use sim_script::calls;
+use ask_tables::{BLOCKS, FAULT_WORDS, RULES, TILLS, TYPES, cell};
+use call_reply::Value;
+use call_till::Marks;
+use call_waiting::Copied;
+use sim_lend::Network;
+use sim_outcome::{Outcome, done, told, valued};
+use sim_printer::Printer;
+use sim_script::{Single, Table};
 
-fn is_blocked(
-    v: [u64; 8],
-    setup: &[u64],
-    net: &[u64],
-    blocks: &[u64],
-    text: &mut [u8],
-    used: usize,
-) -> Outcome {
-    let r = call_block::is_blocked(setup, net, blocks, v[0], v[1], v[2]);
-    valued(text, used, b"isblocked", b"isblocked ", r.number, r.value)
-}
-
-fn fired(
-    id: u64,
-    setup: &[u64],
-    net: &[u64],
-    rules: &[u64],
-    text: &mut [u8],
-    used: usize,
-) -> Outcome {
-    let r = call_rule::fired(setup, net, rules, id);
-    if r.number == 0 {
-        if r.found == 0 {
-            let u = sim_answers::say(text, used, b"fired gone\n");
-            return told(u, 0);
-        }
+// How often a rule fired, or that it is gone.
+fn fired(page: &mut Printer, r: Value) -> Outcome {
+    if r.number == 0 && r.found == 0 {
+        page.text(b"fired gone\n");
+        return told(0);
     }
-    valued(text, used, b"fired", b"fired ", r.number, r.value)
+    valued(page, "fired", "fired ", r.number, r.value)
 }
 
-fn transit(
-    t: u64,
-    setup: &[u64],
-    net: &[u64],
-    waiting: &[u64],
-    text: &mut [u8],
-    used: usize,
-) -> Outcome {
-    let r = call_waiting::in_transit(setup, net, waiting, t);
-    valued(text, used, b"transit", b"transit ", r.number, r.value)
-}
-
-fn next(setup: &[u64], net: &[u64], waiting: &[u64], text: &mut [u8], used: usize) -> Outcome {
-    let r = call_waiting::next_time(setup, net, waiting);
-    if r.number == 0 {
-        if r.found == 0 {
-            let u = sim_answers::say(text, used, b"next -\n");
-            return told(u, 0);
-        }
+// The time of the first copy, or that there is none.
+fn next(page: &mut Printer, r: Value) -> Outcome {
+    if r.number == 0 && r.found == 0 {
+        page.text(b"next -\n");
+        return told(0);
     }
-    valued(text, used, b"next", b"next ", r.number, r.value)
+    valued(page, "next", "next ", r.number, r.value)
 }
 
 // The marks of a till, through the output.
-fn seen_by(
-    t: u64,
-    setup: &[u64],
-    seen: &[u64],
-    out: &mut [u64],
-    text: &mut [u8],
-    used: usize,
-) -> Outcome {
-    let r = call_till::marks_of(setup, seen, t, out);
+fn seen_by(t: u64, setup: &[u64], seen: &[u64], out: &mut [u64], page: &mut Printer) -> Outcome {
+    let r = Marks::from(call_till::marks_of(setup, seen, t, out));
     if r.number != 0 {
-        return done(text, used, b"seen", r.number);
+        return done(page, "seen", r.number);
     }
-    let a = sim_answers::labelled(text, used, b"seen ", t);
-    let b = sim_answers::labelled(text, a, b" ", r.count);
-    let c = sim_answers::ids(text, b, out, r.count as usize);
-    let d = sim_answers::say(text, c, b"\n");
-    told(d, 0)
+    page.print(format_args!("seen {t} {}", r.count));
+    sim_answers::ids(page, sim_lend::part(out, r.count as usize));
+    page.text(b"\n");
+    told(0)
 }
 
 // The marks of every till.
-fn all_seen(setup: &[u64], seen: &[u64], out: &mut [u64], text: &mut [u8], used: usize) -> usize {
-    let n = ask_tables::cell(setup, ask_tables::TILLS);
-    let mut u = used;
-    let mut t: u64 = 0;
-    while t < n {
-        let o = seen_by(t, setup, seen, out, text, u);
-        u = o.used;
-        t += 1;
+fn all_seen(setup: &[u64], seen: &[u64], out: &mut [u64], page: &mut Printer) {
+    for t in 0..cell(setup, TILLS) {
+        seen_by(t, setup, seen, out, page);
     }
-    u
 }
 
 // The waiting copies, through the output.
@@ -94,147 +51,97 @@ fn waiting_list(
     net: &[u64],
     waiting: &[u64],
     out: &mut [u64],
-    text: &mut [u8],
-    used: usize,
+    page: &mut Printer,
 ) -> Outcome {
-    let r = call_waiting::waiting_copies(setup, net, waiting, out);
+    let r = Copied::from(call_waiting::waiting_copies(setup, net, waiting, out));
     if r.number != 0 {
-        return done(text, used, b"waiting", r.number);
+        return done(page, "waiting", r.number);
     }
-    let a = sim_answers::ended(text, used, b"waiting ", r.copies);
-    let b = sim_answers::copies(text, a, out, r.copies as usize);
-    told(b, 0)
-}
-
-// A table by itself.
-fn table(
-    which: u64,
-    setup: &[u64],
-    net: &[u64],
-    tills: &[u64],
-    words: &[u64],
-    rings: &[u64],
-    rules: &[u64],
-    blocks: &[u64],
-    text: &mut [u8],
-    used: usize,
-) -> usize {
-    match which {
-        calls::TILLS => sim_answers::tills(
-            text,
-            used,
-            tills,
-            ask_tables::cell(setup, ask_tables::TILLS),
-        ),
-        calls::BLOCKS => sim_answers::blocks(
-            text,
-            used,
-            blocks,
-            ask_tables::cell(net, ask_tables::BLOCKS),
-        ),
-        calls::RULES => sim_answers::rules(
-            text,
-            used,
-            rules,
-            ask_tables::cell(net, ask_tables::RULES),
-        ),
-        calls::WORDS => sim_answers::words(
-            text,
-            used,
-            words,
-            ask_tables::cell(net, ask_tables::FAULT_WORDS),
-        ),
-        _ => sim_answers::rings(
-            text,
-            used,
-            rings,
-            ask_tables::cell(setup, ask_tables::TYPES),
-        ),
-    }
-}
-
-// Tills, blocks, rules, words and rings.
-fn tables(
-    setup: &[u64],
-    net: &[u64],
-    tills: &[u64],
-    words: &[u64],
-    rings: &[u64],
-    rules: &[u64],
-    blocks: &[u64],
-    text: &mut [u8],
-    used: usize,
-) -> usize {
-    let a = sim_answers::tills(
-        text,
-        used,
-        tills,
-        ask_tables::cell(setup, ask_tables::TILLS),
-    );
-    let b = sim_answers::blocks(text, a, blocks, ask_tables::cell(net, ask_tables::BLOCKS));
-    let c = sim_answers::rules(text, b, rules, ask_tables::cell(net, ask_tables::RULES));
-    let d = sim_answers::words(
-        text,
-        c,
-        words,
-        ask_tables::cell(net, ask_tables::FAULT_WORDS),
-    );
-    sim_answers::rings(text, d, rings, ask_tables::cell(setup, ask_tables::TYPES))
+    page.print(format_args!("waiting {}\n", r.copies));
+    sim_answers::copies(page, out, r.copies as usize);
+    told(0)
 }
 
 // The tables, the marks of every till, and the waiting copies.
-pub fn state(
-    setup: &[u64],
-    net: &[u64],
-    tills: &[u64],
-    words: &[u64],
-    seen: &[u64],
-    waiting: &[u64],
-    rings: &[u64],
-    rules: &[u64],
-    blocks: &[u64],
-    out: &mut [u64],
-    text: &mut [u8],
-    used: usize,
-) -> Outcome {
-    let a = tables(setup, net, tills, words, rings, rules, blocks, text, used);
-    let b = all_seen(setup, seen, out, text, a);
-    waiting_list(setup, net, waiting, out, text, b)
+pub fn state(network: Network<'_>, page: &mut Printer) -> Outcome {
+    let Network {
+        setup,
+        net,
+        tills,
+        words,
+        seen,
+        waiting,
+        rings,
+        rules,
+        blocks,
+        out,
+        ..
+    } = network;
+    sim_answers::tills(page, tills, cell(setup, TILLS) as usize);
+    sim_answers::blocks(page, blocks, cell(net, BLOCKS) as usize);
+    sim_answers::rules(page, rules, cell(net, RULES) as usize);
+    sim_answers::words(page, words, cell(net, FAULT_WORDS));
+    sim_answers::rings(page, rings, cell(setup, TYPES) as usize);
+    all_seen(setup, seen, out, page);
+    waiting_list(setup, net, waiting, out, page)
 }
 
-pub fn reading(
-    which: u64,
-    v: [u64; 8],
-    setup: &[u64],
-    net: &[u64],
-    tills: &[u64],
-    words: &[u64],
-    seen: &[u64],
-    waiting: &[u64],
-    rings: &[u64],
-    rules: &[u64],
-    blocks: &[u64],
-    out: &mut [u64],
-    text: &mut [u8],
-    used: usize,
-) -> Outcome {
-    match which {
-        calls::IS_BLOCKED => is_blocked(v, setup, net, blocks, text, used),
-        calls::FIRED => fired(v[0], setup, net, rules, text, used),
-        calls::TRANSIT => transit(v[0], setup, net, waiting, text, used),
-        calls::NEXT => next(setup, net, waiting, text, used),
-        calls::WAITING => waiting_list(setup, net, waiting, out, text, used),
-        calls::SEEN => seen_by(v[0], setup, seen, out, text, used),
-        calls::SEEN_ALL => {
-            let u = all_seen(setup, seen, out, text, used);
-            told(u, 0)
+// A table by itself.
+pub fn table(network: Network<'_>, table: Table, page: &mut Printer) -> Outcome {
+    let Network {
+        setup,
+        net,
+        tills,
+        words,
+        rings,
+        rules,
+        blocks,
+        ..
+    } = network;
+    match table {
+        Table::Tills => sim_answers::tills(page, tills, cell(setup, TILLS) as usize),
+        Table::Blocks => sim_answers::blocks(page, blocks, cell(net, BLOCKS) as usize),
+        Table::Rules => sim_answers::rules(page, rules, cell(net, RULES) as usize),
+        Table::Words => sim_answers::words(page, words, cell(net, FAULT_WORDS)),
+        Table::Rings => sim_answers::rings(page, rings, cell(setup, TYPES) as usize),
+    }
+    told(0)
+}
+
+// A reading of one answer or one list.
+pub fn single(network: Network<'_>, reading: Single, page: &mut Printer) -> Outcome {
+    let Network {
+        setup,
+        net,
+        seen,
+        waiting,
+        rules,
+        blocks,
+        out,
+        ..
+    } = network;
+    match reading {
+        Single::IsBlocked { from, to, at } => {
+            let r = Value::from(call_block::is_blocked(setup, net, blocks, from, to, at));
+            valued(page, "isblocked", "isblocked ", r.number, r.value)
         }
-        calls::TILLS | calls::BLOCKS | calls::RULES | calls::WORDS | calls::RINGS => {
-            let u = table(
-                which, setup, net, tills, words, rings, rules, blocks, text, used,
-            );
-            told(u, 0)
+        Single::Fired { rule } => {
+            let r = Value::from(call_rule::fired(setup, net, rules, rule));
+            fired(page, r)
         }
-        _ => bad(used),
+        Single::Transit { till } => {
+            let r = Value::from(call_waiting::in_transit(setup, net, waiting, till));
+            valued(page, "transit", "transit ", r.number, r.value)
+        }
+        Single::Next => {
+            let r = Value::from(call_waiting::next_time(setup, net, waiting));
+            next(page, r)
+        }
+        Single::Waiting => waiting_list(setup, net, waiting, out, page),
+        Single::Seen { till } => seen_by(till, setup, seen, out, page),
+        Single::AllSeen => {
+            all_seen(setup, seen, out, page);
+            told(0)
+        }
     }
 }

@@ -1,85 +1,124 @@
 -- What the checklist compares: of each comparison the two figures that should be the same. Figures wrap at 2^64.
-use Rattle.std.specs.Prelude.{ℕ, zero, suc, ◌+◌, ◌-◌, ◌%◌, ◌^◌, Bool, cond, List, ◌==◌, nat_le, slice_index}
-use Rattle.sim_figures.specs.Figures.{log_at, first_at, last_at, recipients_at, five_at, down_marks_at, flush_marks_at, standing_at, said_rows_at, said_delivered_at, said_dropped_at, handled_at, late_at, landed_at, dropped_at, waiting_at, logged, class_row, sent_of, lost_from_of, transit_of, till_row}
+use Rattle.std.specs.Prelude.{ℕ, ◌-◌, Bool, cond, not, List, [], ◌∷◌, ◌==◌, nat_le, take, fold, count_by}
+use Rattle.sim_figures.specs.declared.Five.{Five}
+use Rattle.sim_figures.specs.declared.Kinds.{Kinds}
+use Rattle.sim_figures.specs.declared.Tally.{Tally}
+use Rattle.sim_figures.specs.declared.ClassFigures.{ClassFigures}
+use Rattle.sim_figures.specs.declared.TillFigures.{TillFigures}
+use Rattle.sim_figures.specs.declared.Figures.{Figures}
+use Rattle.sim_figures.specs.Figures as figures
+use Rattle.sim_figures.specs.Figures.{plus}
 use Rattle.sim_comparison.specs.declared.Pair.{Pair}
+use Rattle.sim_comparison.specs.declared.Column.{Column}
+use Rattle.sim_comparison.specs.declared.Column.TheVariants.{Partition, Loss, Fault, LostFrom, Transit}
+use Rattle.sim_comparison.specs.declared.Counted.{Counted}
+use Rattle.sim_comparison.specs.declared.Counted.TheVariants.{Deliveries, Bytes}
 
 abbrev pub pair : ℕ → ℕ → Pair
 pair a b = record { left = a; right = b }
 
-abbrev pub plus : ℕ → ℕ → ℕ
-plus a b = (a + b) % 2 ^ 64
+-- the five counts together
+abbrev pub five_together : Five → ℕ
+five_together f = plus (plus (plus (plus f.sent f.deduplicated) f.partition) f.loss) f.fault
 
--- n figures from b on, together
-unfoldable pub sum_of : List ℕ → ℕ → ℕ → ℕ
-sum_of l b zero = 0
-sum_of l b (suc n) = plus (sum_of l b n) (slice_index l (b + n))
+abbrev pub both_of : Kinds → ℕ
+both_of k = plus k.originals k.echoes
 
--- a figure of the first n tills, together
-unfoldable pub column_of : List ℕ → ℕ → ℕ → ℕ
-column_of l of zero = 0
-column_of l of (suc t) = plus (column_of l of t) (slice_index l (till_row t + of))
+-- a figure of every till, together
+abbrev pub till_figure : Column → TillFigures → ℕ
+till_figure Partition t = t.sent.partition
+till_figure Loss t = t.sent.loss
+till_figure Fault t = t.sent.fault
+till_figure LostFrom t = t.lost_from
+till_figure Transit t = t.transit
+
+unfoldable pub column_of : Figures → Column → ℕ
+column_of l of = fold (λ sum t. plus sum (till_figure of t)) 0 l.of_tills
+
+-- the calls that any question refused
+unfoldable pub refused_sum : Figures → ℕ
+refused_sum l = fold plus 0 l.refused
 
 -- ---- A. the five counts; recipients other than the sender
 
-abbrev pub counts_of : List ℕ → Pair
-counts_of l = pair (sum_of l five_at 5) (slice_index l recipients_at)
+abbrev pub counts_of : Figures → Pair
+counts_of l = pair (five_together l.five) l.recipients
 
 -- ---- B. marks set by sent originals, without those that went; marks that stand
 
-abbrev pub marks_of : List ℕ → Pair
-marks_of l = pair (slice_index l five_at - plus (slice_index l down_marks_at) (slice_index l flush_marks_at)) (slice_index l standing_at)
+abbrev pub marks_of : Figures → Pair
+marks_of l = pair (l.five.sent - plus l.down_marks l.flush_marks) l.standing
 
 -- the left one is at most the right one: marks gone in flushes; originals dropped by flushes
-abbrev pub cleared_of : List ℕ → Pair
-cleared_of l = pair (slice_index l flush_marks_at) (slice_index l dropped_at)
+abbrev pub cleared_of : Figures → Pair
+cleared_of l = pair l.flush_marks l.dropped.originals
 
 -- ---- C. partition, loss and fault; recipients without deduplicated and sent. Copies that flushes dropped; their own counts
 
-abbrev pub at_accept_of : List ℕ → Pair
-at_accept_of l = pair (sum_of l (five_at + 2) 3) (slice_index l recipients_at - plus (slice_index l five_at) (slice_index l (five_at + 1)))
+abbrev pub at_accept_of : Figures → Pair
+at_accept_of l = pair (plus (plus l.five.partition l.five.loss) l.five.fault) (l.recipients - plus l.five.sent l.five.deduplicated)
 
-abbrev pub flush_drops_of : List ℕ → Pair
-flush_drops_of l = pair (plus (slice_index l dropped_at) (slice_index l (dropped_at + 1))) (slice_index l said_dropped_at)
+abbrev pub flush_drops_of : Figures → Pair
+flush_drops_of l = pair (both_of l.dropped) l.said.dropped
 
--- a column of the table by sender, cause c; its whole
-abbrev pub cause_of : List ℕ → ℕ → Pair
-cause_of l c = pair (column_of l (sent_of + 2 + c) 65) (slice_index l (five_at + 2 + c))
+-- a column of the table by sender, of each cause; its whole
+abbrev pub partitions_of : Figures → Pair
+partitions_of l = pair (column_of l Partition) l.five.partition
 
-abbrev pub sender_drops_of : List ℕ → Pair
-sender_drops_of l = pair (column_of l lost_from_of 65) (plus (slice_index l dropped_at) (slice_index l (dropped_at + 1)))
+abbrev pub losses_of : Figures → Pair
+losses_of l = pair (column_of l Loss) l.five.loss
+
+abbrev pub faults_of : Figures → Pair
+faults_of l = pair (column_of l Fault) l.five.fault
+
+abbrev pub sender_drops_of : Figures → Pair
+sender_drops_of l = pair (column_of l LostFrom) (both_of l.dropped)
 
 -- ---- D. copies that wait, landed or were dropped; copies scheduled: originals as sent, all by the sequences given, echoes what is left
 
-abbrev pub placed_of : List ℕ → ℕ → ℕ
-placed_of l kind = plus (plus (slice_index l (landed_at + kind)) (slice_index l (dropped_at + kind))) (slice_index l (waiting_at + kind))
+abbrev pub placed_originals : Figures → ℕ
+placed_originals l = plus (plus l.landed.originals l.dropped.originals) l.waiting.originals
 
-abbrev pub originals_of : List ℕ → Pair
-originals_of l = pair (placed_of l 0) (slice_index l five_at)
+abbrev pub placed_echoes : Figures → ℕ
+placed_echoes l = plus (plus l.landed.echoes l.dropped.echoes) l.waiting.echoes
 
-abbrev pub echoes_of : List ℕ → Pair
-echoes_of l = pair (placed_of l 1) (slice_index l last_at - slice_index l first_at - slice_index l five_at)
+abbrev pub scheduled_of : Figures → ℕ
+scheduled_of l = l.last - l.first
 
-abbrev pub copies_of : List ℕ → Pair
-copies_of l = pair (sum_of l landed_at 6) (slice_index l last_at - slice_index l first_at)
+abbrev pub originals_of : Figures → Pair
+originals_of l = pair (placed_originals l) l.five.sent
+
+abbrev pub echoes_of : Figures → Pair
+echoes_of l = pair (placed_echoes l) (scheduled_of l - l.five.sent)
+
+abbrev pub copies_of : Figures → Pair
+copies_of l = pair (plus (plus (both_of l.landed) (both_of l.dropped)) (both_of l.waiting)) (scheduled_of l)
 
 -- in transit, the slips of every till together; originals that wait
-abbrev pub in_transit_of : List ℕ → Pair
-in_transit_of l = pair (column_of l transit_of 65) (slice_index l waiting_at)
+abbrev pub in_transit_of : Figures → Pair
+in_transit_of l = pair (column_of l Transit) l.waiting.originals
 
 -- ---- E. rows; the flushes' own count. Rows out of order; none. Rows with a handler; delivered. A class's figure from the rows; the log's
 
-abbrev pub rows_of : List ℕ → Pair
-rows_of l = pair (plus (slice_index l landed_at) (slice_index l (landed_at + 1))) (slice_index l said_rows_at)
+abbrev pub rows_of : Figures → Pair
+rows_of l = pair (both_of l.landed) l.said.rows
 
-abbrev pub order_of : List ℕ → Pair
-order_of l = pair (slice_index l late_at) 0
+abbrev pub order_of : Figures → Pair
+order_of l = pair l.late 0
 
-abbrev pub delivered_of : List ℕ → Pair
-delivered_of l = pair (slice_index l handled_at) (slice_index l said_delivered_at)
+abbrev pub delivered_of : Figures → Pair
+delivered_of l = pair l.handled l.said.delivered
 
--- of is 0 for deliveries, 1 for bytes; without a log there is nothing to compare
-unfoldable pub class_of : List ℕ → ℕ → ℕ → Pair
-class_of l of k = pair (slice_index l (class_row k + of)) (cond (slice_index l log_at == 0) (slice_index l (class_row k + of)) (slice_index l (class_row k + of + logged)))
+-- without a log there is nothing to compare
+abbrev pub tally_figure : Counted → Tally → ℕ
+tally_figure Deliveries t = t.deliveries
+tally_figure Bytes t = t.bytes
+
+abbrev pub class_pair : (log : ℕ) → Counted → ClassFigures → Pair
+class_pair log of c = pair (tally_figure of c.rows) (cond (log == 0) (tally_figure of c.rows) (tally_figure of c.logged))
+
+abbrev pub class_of : Figures → Counted → ℕ → Pair
+class_of l of k = class_pair l.log of (figures.class_of l k)
 
 -- ---- Do they agree?
 
@@ -89,30 +128,28 @@ agreed p = p.left == p.right
 abbrev pub within : Pair → Bool
 within p = nat_le p.left p.right
 
--- 1 where they do not
-abbrev pub differs : Bool → ℕ
-differs b = cond b 0 1
+-- how many of some comparisons differ
+abbrev pub differing : List Bool → ℕ
+differing = count_by not
 
-unfoldable pub classes_differ : List ℕ → ℕ → ℕ → ℕ
-classes_differ l of zero = 0
-classes_differ l of (suc k) = plus (classes_differ l of k) (differs (agreed (class_of l of k)))
+-- of the eight classes
+unfoldable pub classes_differ : Figures → Counted → ℕ
+classes_differ l of = count_by (λ c. not (agreed (class_pair l.log of c))) (take 8 l.classes)
 
-unfoldable pub senders_differ : List ℕ → ℕ
-senders_differ l =
-    plus (plus (plus (differs (agreed (cause_of l 0))) (differs (agreed (cause_of l 1)))) (differs (agreed (cause_of l 2)))) (differs (agreed (sender_drops_of l)))
+unfoldable pub senders_differ : Figures → ℕ
+senders_differ l = differing (agreed (partitions_of l) ∷ agreed (losses_of l) ∷ agreed (faults_of l) ∷ agreed (sender_drops_of l) ∷ [])
 
-unfoldable pub accepts_differ : List ℕ → ℕ
+unfoldable pub accepts_differ : Figures → ℕ
 accepts_differ l =
-    plus (plus (plus (plus (differs (agreed (counts_of l))) (differs (agreed (marks_of l)))) (differs (within (cleared_of l)))) (differs (agreed (at_accept_of l)))) (differs (agreed (flush_drops_of l)))
+    differing (agreed (counts_of l) ∷ agreed (marks_of l) ∷ within (cleared_of l) ∷ agreed (at_accept_of l) ∷ agreed (flush_drops_of l) ∷ [])
 
-unfoldable pub copies_differ : List ℕ → ℕ
-copies_differ l =
-    plus (plus (plus (differs (agreed (originals_of l))) (differs (agreed (echoes_of l)))) (differs (agreed (copies_of l)))) (differs (agreed (in_transit_of l)))
+unfoldable pub copies_differ : Figures → ℕ
+copies_differ l = differing (agreed (originals_of l) ∷ agreed (echoes_of l) ∷ agreed (copies_of l) ∷ agreed (in_transit_of l) ∷ [])
 
-unfoldable pub rows_differ : List ℕ → ℕ
-rows_differ l = plus (plus (differs (agreed (rows_of l))) (differs (agreed (order_of l)))) (differs (agreed (delivered_of l)))
+unfoldable pub rows_differ : Figures → ℕ
+rows_differ l = differing (agreed (rows_of l) ∷ agreed (order_of l) ∷ agreed (delivered_of l) ∷ [])
 
 -- how many comparisons differ
-unfoldable pub differ_of : List ℕ → ℕ
+unfoldable pub differ_of : Figures → ℕ
 differ_of l =
-    plus (plus (plus (plus (plus (accepts_differ l) (senders_differ l)) (copies_differ l)) (rows_differ l)) (classes_differ l 0 8)) (classes_differ l 1 8)
+    plus (plus (plus (plus (accepts_differ l) (senders_differ l)) (plus (copies_differ l) (rows_differ l))) (classes_differ l Deliveries)) (classes_differ l Bytes)

@@ -1,300 +1,391 @@
 // What the checklist compares with what, from the figures of a run, and how many comparisons differ.
 #![tactic(auto)]
 
-ghost use Rattle.std.specs.Prelude.{◌≡◌, ◌+◌, ◌-◌, ◌≤◌};
+ghost use Rattle.std.specs.Prelude.{◌≡◌};
 ghost use Rattle.sim_comparison.specs.Compared as is;
 
-use sim_figures::{
-    DOWN_MARKS, DROPPED, FIRST, FIVE, FLUSH_MARKS, HANDLED, LANDED, LAST, LATE, LOG, LOGGED,
-    LOST_FROM, RECIPIENTS, SAID_DELIVERED, SAID_DROPPED, SAID_ROWS, SENT, STANDING, TRANSIT,
-    WAITING, class_row, get, till_row,
-};
+use sim_figures::{ClassFigures, Figures, Five, Kinds, MOST_CLASSES, Tally, TillFigures};
 
 // Two figures that should be the same.
-#[derive(Clone, Copy)]
+#[derive(Clone, Copy, PartialEq)]
 pub struct Pair {
     pub left: u64,
     pub right: u64,
 }
 
-// Rows of tills, the shared one with them.
-const TILLS: u64 = sim_figures::MOST_TILLS + 1;
-
-const CLASSES: u64 = 8;
-
-fn plus(a: u64, b: u64) -> u64
-    ensures { result ≡ is.plus a b }
-{
-    std::num::wrapping_add_u64(a, b)
-}
-
-// What is left of a without b; 0 where b is more.
-fn less(a: u64, b: u64) -> u64
-    ensures { result ≡ a - b }
-{
-    if b < a { a - b } else { 0 }
-}
-
-// The n figures from b on, together.
-pub fn sum(figures: &[u64], b: usize, n: usize) -> u64
-    requires { b + n ≤ 65536 }
-    ensures { result ≡ is.sum_of figures.now b n }
-{
-    let mut total: u64 = 0;
-    let mut i: usize = 0;
-    while i < n {
-        total = plus(total, get(figures, b + i));
-        i += 1;
+impl Pair {
+    pub fn agrees(self) -> bool
+        ensures { result ≡ is.agreed self }
+    {
+        self.left == self.right
     }
-    total
+
+    pub fn is_within(self) -> bool
+        ensures { result ≡ is.within self }
+    {
+        self.left <= self.right
+    }
+}
+
+// A figure of a till that the tills' rows have together.
+#[derive(Clone, Copy)]
+pub enum Column {
+    Partition,
+    Loss,
+    Fault,
+    LostFrom,
+    Transit,
+}
+
+impl Column {
+    fn of(self, till: &TillFigures) -> u64
+        ensures { result ≡ is.till_figure self till.now }
+    {
+        match self {
+            Column::Partition => till.sent.partition,
+            Column::Loss => till.sent.loss,
+            Column::Fault => till.sent.fault,
+            Column::LostFrom => till.lost_from,
+            Column::Transit => till.transit,
+        }
+    }
+}
+
+// What is counted of a class.
+#[derive(Clone, Copy)]
+pub enum Counted {
+    Deliveries,
+    Bytes,
+}
+
+impl Counted {
+    fn of(self, tally: Tally) -> u64
+        ensures { result ≡ is.tally_figure self tally }
+    {
+        match self {
+            Counted::Deliveries => tally.deliveries,
+            Counted::Bytes => tally.bytes,
+        }
+    }
+}
+
+// The five counts together.
+fn together(five: Five) -> u64
+    ensures { result ≡ is.five_together five }
+{
+    five.sent
+        .wrapping_add(five.deduplicated)
+        .wrapping_add(five.partition)
+        .wrapping_add(five.loss)
+        .wrapping_add(five.fault)
+}
+
+// Originals and echoes together.
+fn both(kinds: Kinds) -> u64
+    ensures { result ≡ is.both_of kinds }
+{
+    kinds.originals.wrapping_add(kinds.echoes)
 }
 
 // A figure of every till, together.
-pub fn column(figures: &[u64], of: usize) -> u64
-    requires { of ≤ 65536 }
-    ensures { result ≡ is.column_of figures.now of 65 }
+#[tactic(auto, unfolding(crate::specs::Compared::column_of))]
+pub fn total(figures: &Figures, of: Column) -> u64
+    ensures { result ≡ is.column_of figures.now of }
 {
-    let mut total: u64 = 0;
-    let mut t: u64 = 0;
-    while t < TILLS {
-        total = plus(total, get(figures, till_row(t) + of));
-        t += 1;
-    }
-    total
+    figures
+        .of_tills
+        .iter()
+        .fold(0, |sum: u64, till| sum.wrapping_add(of.of(till)))
 }
 
-pub fn counts(figures: &[u64]) -> Pair
+// The calls that any question refused.
+#[tactic(auto, unfolding(crate::specs::Compared::refused_sum))]
+pub fn refused(figures: &Figures) -> u64
+    ensures { result ≡ is.refused_sum figures.now }
+{
+    figures
+        .refused
+        .iter()
+        .fold(0, |sum: u64, n| sum.wrapping_add(*n))
+}
+
+pub fn counts(figures: &Figures) -> Pair
     ensures { result ≡ is.counts_of figures.now }
 {
     Pair {
-        left: sum(figures, FIVE, 5),
-        right: get(figures, RECIPIENTS),
+        left: together(figures.five),
+        right: figures.recipients,
     }
 }
 
-pub fn marks(figures: &[u64]) -> Pair
+pub fn marks(figures: &Figures) -> Pair
     ensures { result ≡ is.marks_of figures.now }
 {
-    let gone = plus(get(figures, DOWN_MARKS), get(figures, FLUSH_MARKS));
+    let gone = figures.down_marks.wrapping_add(figures.flush_marks);
     Pair {
-        left: less(get(figures, FIVE), gone),
-        right: get(figures, STANDING),
+        left: figures.five.sent.saturating_sub(gone),
+        right: figures.standing,
     }
 }
 
-pub fn cleared(figures: &[u64]) -> Pair
+pub fn cleared(figures: &Figures) -> Pair
     ensures { result ≡ is.cleared_of figures.now }
 {
     Pair {
-        left: get(figures, FLUSH_MARKS),
-        right: get(figures, DROPPED),
+        left: figures.flush_marks,
+        right: figures.dropped.originals,
     }
 }
 
-pub fn at_accept(figures: &[u64]) -> Pair
+pub fn at_accept(figures: &Figures) -> Pair
     ensures { result ≡ is.at_accept_of figures.now }
 {
-    let had = plus(get(figures, FIVE), get(figures, FIVE + 1));
+    let five = figures.five;
+    let had = five.sent.wrapping_add(five.deduplicated);
     Pair {
-        left: sum(figures, FIVE + 2, 3),
-        right: less(get(figures, RECIPIENTS), had),
+        left: five
+            .partition
+            .wrapping_add(five.loss)
+            .wrapping_add(five.fault),
+        right: figures.recipients.saturating_sub(had),
     }
 }
 
-pub fn flush_drops(figures: &[u64]) -> Pair
+pub fn flush_drops(figures: &Figures) -> Pair
     ensures { result ≡ is.flush_drops_of figures.now }
 {
     Pair {
-        left: plus(get(figures, DROPPED), get(figures, DROPPED + 1)),
-        right: get(figures, SAID_DROPPED),
+        left: both(figures.dropped),
+        right: figures.said.dropped,
     }
 }
 
-// Partition is cause 0, loss 1, fault 2.
-pub fn cause(figures: &[u64], c: usize) -> Pair
-    requires { c ≤ 2 }
-    ensures { result ≡ is.cause_of figures.now c }
+// The partitions of every till, and those of the run.
+pub fn partitions(figures: &Figures) -> Pair
+    ensures { result ≡ is.partitions_of figures.now }
 {
     Pair {
-        left: column(figures, SENT + 2 + c),
-        right: get(figures, FIVE + 2 + c),
+        left: total(figures, Column::Partition),
+        right: figures.five.partition,
     }
 }
 
-pub fn sender_drops(figures: &[u64]) -> Pair
+// The losses of every till, and those of the run.
+pub fn losses(figures: &Figures) -> Pair
+    ensures { result ≡ is.losses_of figures.now }
+{
+    Pair {
+        left: total(figures, Column::Loss),
+        right: figures.five.loss,
+    }
+}
+
+// What fault rules dropped of every till, and of the run.
+pub fn faults(figures: &Figures) -> Pair
+    ensures { result ≡ is.faults_of figures.now }
+{
+    Pair {
+        left: total(figures, Column::Fault),
+        right: figures.five.fault,
+    }
+}
+
+// What flushes dropped, by the tills that sent it, and in all.
+pub fn sender_drops(figures: &Figures) -> Pair
     ensures { result ≡ is.sender_drops_of figures.now }
 {
     Pair {
-        left: column(figures, LOST_FROM),
-        right: plus(get(figures, DROPPED), get(figures, DROPPED + 1)),
+        left: total(figures, Column::LostFrom),
+        right: both(figures.dropped),
     }
 }
 
-fn placed(figures: &[u64], kind: usize) -> u64
-    requires { kind ≤ 1 }
-    ensures { result ≡ is.placed_of figures.now kind }
+// The originals that landed, were dropped or wait.
+fn placed_originals(figures: &Figures) -> u64
+    ensures { result ≡ is.placed_originals figures.now }
 {
-    let moved = plus(get(figures, LANDED + kind), get(figures, DROPPED + kind));
-    plus(moved, get(figures, WAITING + kind))
+    let moved = figures
+        .landed
+        .originals
+        .wrapping_add(figures.dropped.originals);
+    moved.wrapping_add(figures.waiting.originals)
 }
 
-pub fn originals(figures: &[u64]) -> Pair
+// The echoes that did.
+fn placed_echoes(figures: &Figures) -> u64
+    ensures { result ≡ is.placed_echoes figures.now }
+{
+    let moved = figures.landed.echoes.wrapping_add(figures.dropped.echoes);
+    moved.wrapping_add(figures.waiting.echoes)
+}
+
+pub fn originals(figures: &Figures) -> Pair
     ensures { result ≡ is.originals_of figures.now }
 {
     Pair {
-        left: placed(figures, 0),
-        right: get(figures, FIVE),
+        left: placed_originals(figures),
+        right: figures.five.sent,
     }
 }
 
-pub fn echoes(figures: &[u64]) -> Pair
+// The copies that were given a sequence.
+fn scheduled(figures: &Figures) -> u64
+    ensures { result ≡ is.scheduled_of figures.now }
+{
+    figures.last.saturating_sub(figures.first)
+}
+
+pub fn echoes(figures: &Figures) -> Pair
     ensures { result ≡ is.echoes_of figures.now }
 {
-    let all = less(get(figures, LAST), get(figures, FIRST));
     Pair {
-        left: placed(figures, 1),
-        right: less(all, get(figures, FIVE)),
+        left: placed_echoes(figures),
+        right: scheduled(figures).saturating_sub(figures.five.sent),
     }
 }
 
-pub fn copies(figures: &[u64]) -> Pair
+pub fn copies(figures: &Figures) -> Pair
     ensures { result ≡ is.copies_of figures.now }
 {
+    let moved = both(figures.landed).wrapping_add(both(figures.dropped));
     Pair {
-        left: sum(figures, LANDED, 6),
-        right: less(get(figures, LAST), get(figures, FIRST)),
+        left: moved.wrapping_add(both(figures.waiting)),
+        right: scheduled(figures),
     }
 }
 
-pub fn in_transit(figures: &[u64]) -> Pair
+pub fn in_transit(figures: &Figures) -> Pair
     ensures { result ≡ is.in_transit_of figures.now }
 {
     Pair {
-        left: column(figures, TRANSIT),
-        right: get(figures, WAITING),
+        left: total(figures, Column::Transit),
+        right: figures.waiting.originals,
     }
 }
 
-pub fn rows(figures: &[u64]) -> Pair
+pub fn rows(figures: &Figures) -> Pair
     ensures { result ≡ is.rows_of figures.now }
 {
     Pair {
-        left: plus(get(figures, LANDED), get(figures, LANDED + 1)),
-        right: get(figures, SAID_ROWS),
+        left: both(figures.landed),
+        right: figures.said.rows,
     }
 }
 
-pub fn order(figures: &[u64]) -> Pair
+pub fn order(figures: &Figures) -> Pair
     ensures { result ≡ is.order_of figures.now }
 {
     Pair {
-        left: get(figures, LATE),
+        left: figures.late,
         right: 0,
     }
 }
 
-pub fn delivered(figures: &[u64]) -> Pair
+pub fn delivered(figures: &Figures) -> Pair
     ensures { result ≡ is.delivered_of figures.now }
 {
     Pair {
-        left: get(figures, HANDLED),
-        right: get(figures, SAID_DELIVERED),
+        left: figures.handled,
+        right: figures.said.delivered,
     }
 }
 
-// Deliveries (of is 0) or bytes (1) of a class.
-pub fn class(figures: &[u64], of: usize, k: u64) -> Pair
-    requires { of ≤ 1 }
+// A class's figure from the rows and the log's; a run without a log has none to compare.
+fn class_pair(log: u64, of: Counted, class: &ClassFigures) -> Pair
+    ensures { result ≡ is.class_pair log of «class».now }
+{
+    let left = of.of(class.rows);
+    Pair {
+        left,
+        right: if log == 0 { left } else { of.of(class.logged) },
+    }
+}
+
+// Deliveries or bytes of a class.
+pub fn class(figures: &Figures, of: Counted, k: u64) -> Pair
     ensures { result ≡ is.class_of figures.now of k }
 {
-    let b = class_row(k) + of;
-    let n = get(figures, b);
-    if get(figures, LOG) == 0 {
-        return Pair { left: n, right: n };
-    }
-    let m = get(figures, b + LOGGED);
-    Pair { left: n, right: m }
-}
-
-pub fn agrees(p: Pair) -> bool
-    ensures { result ≡ is.agreed p }
-{
-    p.left == p.right
-}
-
-pub fn is_within(p: Pair) -> bool
-    ensures { result ≡ is.within p }
-{
-    p.left <= p.right
-}
-
-// 1 where a comparison does not agree.
-fn differs(same: bool) -> u64
-    ensures { result ≡ is.differs same }
-{
-    if same {
-        return 0;
-    }
-    1
+    class_pair(figures.log, of, figures.class(k))
 }
 
 // How many of the eight classes differ.
-pub fn classes_differ(figures: &[u64], of: usize) -> u64
-    requires { of ≤ 1 }
-    ensures { result ≡ is.classes_differ figures.now of 8 }
+#[tactic(auto, unfolding(crate::specs::Compared::classes_differ))]
+pub fn classes_differ(figures: &Figures, of: Counted) -> u64
+    ensures { result ≡ is.classes_differ figures.now of }
 {
-    let mut n: u64 = 0;
-    let mut k: u64 = 0;
-    while k < CLASSES {
-        n = plus(n, differs(agrees(class(figures, of, k))));
-        k += 1;
-    }
-    n
+    let log = figures.log;
+    let classes = figures.classes[..MOST_CLASSES as usize].iter();
+    classes
+        .filter(|class| !class_pair(log, of, class).agrees())
+        .count() as u64
 }
 
-pub fn senders_differ(figures: &[u64]) -> u64
+// How many of some comparisons differ.
+fn differing(agree: &[bool]) -> u64
+    ensures { result ≡ is.differing agree.now }
+{
+    agree.iter().filter(|same| !**same).count() as u64
+}
+
+#[tactic(auto, unfolding(crate::specs::Compared::senders_differ))]
+pub fn senders_differ(figures: &Figures) -> u64
     ensures { result ≡ is.senders_differ figures.now }
 {
-    let a = differs(agrees(cause(figures, 0)));
-    let b = plus(a, differs(agrees(cause(figures, 1))));
-    let c = plus(b, differs(agrees(cause(figures, 2))));
-    plus(c, differs(agrees(sender_drops(figures))))
+    differing(&[
+        partitions(figures).agrees(),
+        losses(figures).agrees(),
+        faults(figures).agrees(),
+        sender_drops(figures).agrees(),
+    ])
 }
 
-fn accepts_differ(figures: &[u64]) -> u64
+#[tactic(auto, unfolding(crate::specs::Compared::accepts_differ))]
+fn accepts_differ(figures: &Figures) -> u64
     ensures { result ≡ is.accepts_differ figures.now }
 {
-    let a = differs(agrees(counts(figures)));
-    let b = plus(a, differs(agrees(marks(figures))));
-    let c = plus(b, differs(is_within(cleared(figures))));
-    let d = plus(c, differs(agrees(at_accept(figures))));
-    plus(d, differs(agrees(flush_drops(figures))))
+    differing(&[
+        counts(figures).agrees(),
+        marks(figures).agrees(),
+        cleared(figures).is_within(),
+        at_accept(figures).agrees(),
+        flush_drops(figures).agrees(),
+    ])
 }
 
-fn copies_differ(figures: &[u64]) -> u64
+#[tactic(auto, unfolding(crate::specs::Compared::copies_differ))]
+fn copies_differ(figures: &Figures) -> u64
     ensures { result ≡ is.copies_differ figures.now }
 {
-    let a = differs(agrees(originals(figures)));
-    let b = plus(a, differs(agrees(echoes(figures))));
-    let c = plus(b, differs(agrees(copies(figures))));
-    plus(c, differs(agrees(in_transit(figures))))
+    differing(&[
+        originals(figures).agrees(),
+        echoes(figures).agrees(),
+        copies(figures).agrees(),
+        in_transit(figures).agrees(),
+    ])
 }
 
-fn rows_differ(figures: &[u64]) -> u64
+#[tactic(auto, unfolding(crate::specs::Compared::rows_differ))]
+fn rows_differ(figures: &Figures) -> u64
     ensures { result ≡ is.rows_differ figures.now }
 {
-    let a = differs(agrees(rows(figures)));
-    let b = plus(a, differs(agrees(order(figures))));
-    plus(b, differs(agrees(delivered(figures))))
+    differing(&[
+        rows(figures).agrees(),
+        order(figures).agrees(),
+        delivered(figures).agrees(),
+    ])
 }
 
 // How many comparisons differ.
-pub fn differ(figures: &[u64]) -> u64
+#[tactic(auto, unfolding(crate::specs::Compared::differ_of))]
+pub fn differ(figures: &Figures) -> u64
     ensures { result ≡ is.differ_of figures.now }
 {
-    let a = plus(accepts_differ(figures), senders_differ(figures));
-    let b = plus(a, copies_differ(figures));
-    let c = plus(b, rows_differ(figures));
-    let d = plus(c, classes_differ(figures, 0));
-    plus(d, classes_differ(figures, 1))
+    let calls = accepts_differ(figures).wrapping_add(senders_differ(figures));
+    let moved = copies_differ(figures).wrapping_add(rows_differ(figures));
+    let deliveries = classes_differ(figures, Counted::Deliveries);
+    let bytes = classes_differ(figures, Counted::Bytes);
+    calls
+        .wrapping_add(moved)
+        .wrapping_add(deliveries)
+        .wrapping_add(bytes)
 }

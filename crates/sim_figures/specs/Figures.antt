@@ -1,135 +1,108 @@
--- The figures of a run: a list of numbers, each at a named place.
-use Rattle.std.specs.Prelude.{ℕ, ◌+◌, ◌*◌, ◌%◌, ◌^◌, min, List, slice_index, slice_set}
+-- The figures of a run, a record; the rows of its tills, classes and questions; what is added to them. Figures wrap at 2^64.
+use Rattle.std.specs.Prelude.{ℕ, ◌+◌, ◌%◌, ◌^◌, min, cond, ◌==◌, List, replicate, slice_index, slice_index_or, slice_set}
+use Rattle.sim_figures.specs.declared.Five.{Five}
+use Rattle.sim_figures.specs.declared.Said.{Said}
+use Rattle.sim_figures.specs.declared.Kinds.{Kinds}
+use Rattle.sim_figures.specs.declared.Tally.{Tally}
+use Rattle.sim_figures.specs.declared.ClassFigures.{ClassFigures}
+use Rattle.sim_figures.specs.declared.TillFigures.{TillFigures}
+use Rattle.sim_figures.specs.declared.Figures.{Figures}
 
--- ---- Of the whole run
+abbrev pub plus : ℕ → ℕ → ℕ
+plus a b = (a + b) % 2 ^ 64
 
--- tills of the opening, slots of its log, the sequence at the opening and the last one given
-abbrev pub tills_at : ℕ
-tills_at = 0
+-- ---- Every figure 0
 
-abbrev pub log_at : ℕ
-log_at = 1
+abbrev pub no_five : Five
+no_five = record { sent = 0; deduplicated = 0; partition = 0; loss = 0; fault = 0 }
 
-abbrev pub first_at : ℕ
-first_at = 2
+abbrev pub no_copies : Kinds
+no_copies = record { originals = 0; echoes = 0 }
 
-abbrev pub last_at : ℕ
-last_at = 3
+abbrev pub no_tally : Tally
+no_tally = record { deliveries = 0; bytes = 0 }
 
--- accepted messages, the recipients other than the sender of each, and from five_at on sent, deduplicated, partition, loss, fault
-abbrev pub accepts_at : ℕ
-accepts_at = 4
+abbrev pub no_class : ClassFigures
+no_class = record { rows = no_tally; logged = no_tally }
 
-abbrev pub recipients_at : ℕ
-recipients_at = 5
+abbrev pub no_till : TillFigures
+no_till = record { mask = 0; sent = no_five; received = 0; lost_to = 0; lost_from = 0; transit = 0 }
 
-abbrev pub five_at : ℕ
-five_at = 6
+abbrev pub no_figures : Figures
+no_figures = record {
+  tills = 0;
+  log = 0;
+  first = 0;
+  last = 0;
+  accepts = 0;
+  recipients = 0;
+  five = no_five;
+  down_marks = 0;
+  flush_marks = 0;
+  standing = 0;
+  flushes = 0;
+  said = record { rows = 0; delivered = 0; dropped = 0 };
+  handled = 0;
+  late = 0;
+  time = 0;
+  sequence = 0;
+  landed = no_copies;
+  dropped = no_copies;
+  waiting = no_copies;
+  refused = replicate 26 0;
+  classes = replicate 9 no_class;
+  of_tills = replicate 65 no_till;
+}
 
--- seen marks that take-downs and flushes took away, and those that stand at the end
-abbrev pub down_marks_at : ℕ
-down_marks_at = 11
-
-abbrev pub flush_marks_at : ℕ
-flush_marks_at = 12
-
-abbrev pub standing_at : ℕ
-standing_at = 13
-
--- flushes, and what they said themselves: rows, delivered, dropped
-abbrev pub flushes_at : ℕ
-flushes_at = 14
-
-abbrev pub said_rows_at : ℕ
-said_rows_at = 15
-
-abbrev pub said_delivered_at : ℕ
-said_delivered_at = 16
-
-abbrev pub said_dropped_at : ℕ
-said_dropped_at = 17
-
--- rows with a handler; rows that stand out of order; time and sequence of the flush's last row
-abbrev pub handled_at : ℕ
-handled_at = 18
-
-abbrev pub late_at : ℕ
-late_at = 19
-
-abbrev pub time_at : ℕ
-time_at = 20
-
-abbrev pub sequence_at : ℕ
-sequence_at = 21
-
--- copies that landed, that a flush dropped, that wait: originals, then echoes
-abbrev pub landed_at : ℕ
-landed_at = 22
-
-abbrev pub dropped_at : ℕ
-dropped_at = 24
-
-abbrev pub waiting_at : ℕ
-waiting_at = 26
-
--- refused calls by their number; those beyond 24, document 02's last question, share the last place
-abbrev pub refused_at : ℕ
-refused_at = 28
+-- ---- Rows: refused calls by their number, those beyond 24, the last question, share the last row; a class beyond 7 shares the last row; a till
+-- ---- beyond 63 shares the last row
 
 abbrev pub most_numbers : ℕ
 most_numbers = 25
 
-abbrev pub refused_place : ℕ → ℕ
-refused_place number = refused_at + min number most_numbers
+abbrev pub refused_row : ℕ → ℕ
+refused_row number = min number most_numbers
 
--- ---- A row a class: deliveries and bytes counted from the rows, then those of the log. A class beyond 7 shares the last row
-
-abbrev pub class_rows : ℕ
-class_rows = 54
-
-abbrev pub class_width : ℕ
-class_width = 4
-
-abbrev pub logged : ℕ
-logged = 2
+abbrev pub refused_of : Figures → ℕ → ℕ
+refused_of l number = slice_index l.refused (refused_row number)
 
 abbrev pub class_row : ℕ → ℕ
-class_row k = class_rows + min k 8 * class_width
+class_row k = min k 8
 
--- ---- A row a till: its shard mask; as sender from sent_of on the five counts; landed at it; flush drops on the way to it, and of
--- ---- what it sent; waiting for it. A till beyond 63 shares the last row
+abbrev pub class_of : Figures → ℕ → ClassFigures
+class_of l k = slice_index_or l.classes (class_row k) no_class
 
-abbrev pub till_rows : ℕ
-till_rows = 90
-
-abbrev pub till_width : ℕ
-till_width = 10
-
-abbrev pub mask_of : ℕ
-mask_of = 0
-
-abbrev pub sent_of : ℕ
-sent_of = 1
-
-abbrev pub received_of : ℕ
-received_of = 6
-
-abbrev pub lost_to_of : ℕ
-lost_to_of = 7
-
-abbrev pub lost_from_of : ℕ
-lost_from_of = 8
-
-abbrev pub transit_of : ℕ
-transit_of = 9
+abbrev pub with_class : Figures → ℕ → ClassFigures → Figures
+with_class l k r = record l { classes = slice_set l.classes (class_row k) r }
 
 abbrev pub till_row : ℕ → ℕ
-till_row t = till_rows + min t 64 * till_width
+till_row t = min t 64
 
--- how many figures there are
-abbrev pub size : ℕ
-size = till_rows + 65 * till_width
+abbrev pub till_of : Figures → ℕ → TillFigures
+till_of l t = slice_index_or l.of_tills (till_row t) no_till
 
--- n more at place i; figures wrap at 2^64
-unfoldable pub added : List ℕ → ℕ → ℕ → List ℕ
-added l i n = slice_set l i ((slice_index l i + n) % 2 ^ 64)
+abbrev pub with_till : Figures → ℕ → TillFigures → Figures
+with_till l t r = record l { of_tills = slice_set l.of_tills (till_row t) r }
+
+-- ---- Added up
+
+abbrev pub five_added : Five → Five → Five
+five_added a b =
+    record {
+      sent = plus a.sent b.sent;
+      deduplicated = plus a.deduplicated b.deduplicated;
+      partition = plus a.partition b.partition;
+      loss = plus a.loss b.loss;
+      fault = plus a.fault b.fault;
+    }
+
+abbrev pub said_added : Said → Said → Said
+said_added a b = record { rows = plus a.rows b.rows; delivered = plus a.delivered b.delivered; dropped = plus a.dropped b.dropped }
+
+abbrev pub tally_added : Tally → Tally → Tally
+tally_added a b = record { deliveries = plus a.deliveries b.deliveries; bytes = plus a.bytes b.bytes }
+
+-- one copy more: an original, or an echo where the flag is 0
+abbrev pub counted : Kinds → ℕ → Kinds
+counted k original =
+    cond (original == 0) (record { originals = k.originals; echoes = plus k.echoes 1 }) (record { originals = plus k.originals 1; echoes = k.echoes })

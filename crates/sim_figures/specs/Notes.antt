@@ -1,26 +1,30 @@
 -- What each note does to the figures.
-use Rattle.std.specs.Prelude.{ℕ, zero, suc, ◌+◌, min, Bool, true, false, cond, List, length, drop, replicate, ◌==◌, nat_le, nat_lt, slice_index, slice_set}
+use Rattle.std.specs.Prelude.{ℕ, zero, suc, ◌+◌, min, Bool, false, true, cond, not, List, length, drop, ◌==◌, nat_le, nat_lt, slice_index, slice_set}
 use Rattle.fault_rule.specs.Rule.{has}
 use Rattle.table_waiting.specs.declared.Copy.{Copy}
 use Rattle.table_waiting.specs.Waiting as waiting
-use Rattle.sim_figures.specs.Figures.{tills_at, log_at, first_at, last_at, accepts_at, recipients_at, five_at, down_marks_at, flush_marks_at, standing_at, flushes_at, said_rows_at, said_delivered_at, said_dropped_at, handled_at, late_at, time_at, sequence_at, landed_at, dropped_at, waiting_at, refused_place, logged, class_row, mask_of, sent_of, received_of, lost_to_of, lost_from_of, transit_of, till_row, added}
+use Rattle.sim_figures.specs.declared.Five.{Five}
+use Rattle.sim_figures.specs.declared.Said.{Said}
+use Rattle.sim_figures.specs.declared.Tally.{Tally}
+use Rattle.sim_figures.specs.declared.Figures.{Figures}
+use Rattle.sim_figures.specs.Figures.{plus, no_figures, refused_row, refused_of, class_of, with_class, till_of, with_till, five_added, said_added, tally_added, counted}
 
 -- ---- Shard masks, as the opening, the take-downs and the bring-ups give them
 
-unfoldable pub masked : List ℕ → List ℕ → ℕ → List ℕ
+abbrev pub up_note : Figures → ℕ → ℕ → Figures
+up_note l t mask = with_till l t (record (till_of l t) { mask = mask })
+
+unfoldable pub masked : Figures → List ℕ → ℕ → Figures
 masked l masks zero = l
-masked l masks (suc t) = slice_set (masked l masks t) (till_row t + mask_of) (slice_index masks t)
+masked l masks (suc t) = up_note (masked l masks t) t (slice_index masks t)
 
 -- all figures 0, then the opening's
-unfoldable pub opened_note : List ℕ → ℕ → List ℕ → ℕ → ℕ → List ℕ
-opened_note l tills masks log sequence =
-    masked (slice_set (slice_set (slice_set (slice_set (replicate (length l) 0) tills_at tills) log_at log) first_at sequence) last_at sequence) masks (min tills (length masks))
+unfoldable pub opened_note : ℕ → List ℕ → ℕ → ℕ → Figures
+opened_note tills masks log sequence =
+    masked (record no_figures { tills = tills; log = log; first = sequence; last = sequence }) masks (min tills (length masks))
 
-unfoldable pub down_note : List ℕ → ℕ → ℕ → List ℕ
-down_note l t gone = added (slice_set l (till_row t + mask_of) 0) down_marks_at gone
-
-unfoldable pub up_note : List ℕ → ℕ → ℕ → List ℕ
-up_note l t mask = slice_set l (till_row t + mask_of) mask
+unfoldable pub down_note : Figures → ℕ → ℕ → Figures
+down_note l t gone = record (up_note l t 0) { down_marks = plus l.down_marks gone }
 
 -- ---- Accept
 
@@ -29,97 +33,89 @@ abbrev pub global : ℕ
 global = 16
 
 -- is t a recipient other than the sender: any till for a global entry, else one whose mask holds the shard?
-unfoldable pub receives : List ℕ → ℕ → ℕ → ℕ → Bool
+unfoldable pub receives : Figures → ℕ → ℕ → ℕ → Bool
 receives l from scope t =
-    cond (t == from) false (cond (scope == global) true (cond (nat_lt scope 64) (has (slice_index l (till_row t + mask_of)) scope) false))
+    cond (t == from) false (cond (scope == global) true (cond (nat_lt scope 64) (has (till_of l t).mask scope) false))
 
 abbrev pub bit : Bool → ℕ
 bit b = cond b 1 0
 
 -- how many of the first n tills are
-unfoldable pub recipients_of : List ℕ → ℕ → ℕ → ℕ → ℕ
+unfoldable pub recipients_of : Figures → ℕ → ℕ → ℕ → ℕ
 recipients_of l from scope zero = 0
 recipients_of l from scope (suc n) = recipients_of l from scope n + bit (receives l from scope n)
 
 -- a payload that does not open has none
-unfoldable pub counted_of : List ℕ → ℕ → ℕ → ℕ → ℕ
-counted_of l from scope opens = cond (opens == 0) 0 (recipients_of l from scope (slice_index l tills_at))
+unfoldable pub counted_of : Figures → ℕ → ℕ → Bool → ℕ
+counted_of l from scope opens = cond opens (recipients_of l from scope l.tills) 0
 
-unfoldable pub five_added : List ℕ → ℕ → ℕ → ℕ → ℕ → ℕ → ℕ → List ℕ
-five_added l b sent deduplicated partition loss fault =
-    added (added (added (added (added l b sent) (b + 1) deduplicated) (b + 2) partition) (b + 3) loss) (b + 4) fault
+unfoldable pub accepted_note : Figures → ℕ → ℕ → Bool → Five → ℕ → Figures
+accepted_note l from scope opens five sequence =
+    let l₁ = record l { accepts = plus l.accepts 1; recipients = plus l.recipients (counted_of l from scope opens); five = five_added l.five five; last = sequence } in
+    with_till l₁ from (record (till_of l from) { sent = five_added (till_of l from).sent five })
 
-unfoldable pub accepted_note : List ℕ → ℕ → ℕ → ℕ → ℕ → ℕ → ℕ → ℕ → ℕ → ℕ → List ℕ
-accepted_note l from scope opens sent deduplicated partition loss fault sequence =
-    let l₁ = added (added l accepts_at 1) recipients_at (counted_of l from scope opens) in
-    let l₂ = five_added l₁ five_at sent deduplicated partition loss fault in
-    slice_set (five_added l₂ (till_row from + sent_of) sent deduplicated partition loss fault) last_at sequence
-
-unfoldable pub refused_note : List ℕ → ℕ → List ℕ
-refused_note l number = added l (refused_place number) 1
+unfoldable pub refused_note : Figures → ℕ → Figures
+refused_note l number = record l { refused = slice_set l.refused (refused_row number) (plus (refused_of l number) 1) }
 
 -- ---- Copies
 
--- originals are kind 0, echoes 1
-unfoldable pub kind_of : ℕ → ℕ
-kind_of original = cond (original == 0) 1 0
+-- does a row stand behind the one before it, by time, then sequence?
+unfoldable pub behind : ℕ → ℕ → ℕ → ℕ → Bool
+behind time sequence time' sequence' = cond (nat_lt time time') true (cond (time == time') (nat_lt sequence sequence') false)
 
--- 1 where a row does not stand behind the one before it, by time, then sequence
-unfoldable pub late : ℕ → ℕ → ℕ → ℕ → ℕ
-late time sequence time' sequence' = cond (nat_lt time time') 0 (cond (time == time') (cond (nat_lt sequence sequence') 0 1) 1)
-
-unfoldable pub order_note : List ℕ → ℕ → ℕ → List ℕ
+unfoldable pub order_note : Figures → ℕ → ℕ → Figures
 order_note l time sequence =
-    slice_set (slice_set (added l late_at (late (slice_index l time_at) (slice_index l sequence_at) time sequence)) time_at time) sequence_at sequence
+    record l { late = plus l.late (bit (not (behind l.time l.sequence time sequence))); time = time; sequence = sequence }
 
-unfoldable pub class_note : List ℕ → ℕ → ℕ → List ℕ
-class_note l class wire = added (added l (class_row class) 1) (class_row class + 1) wire
+unfoldable pub class_note : Figures → ℕ → ℕ → Figures
+class_note l class wire = with_class l class (record (class_of l class) { rows = tally_added (class_of l class).rows (record { deliveries = 1; bytes = wire }) })
 
--- 1 where a handler takes the row
-unfoldable pub taken : ℕ → ℕ → ℕ
-taken gossip host = cond (gossip == 0) (cond (host == 0) 0 1) 1
+-- does a handler take the row?
+abbrev pub taken : ℕ → ℕ → Bool
+taken gossip host = cond (gossip == 0) (not (host == 0)) true
 
-unfoldable pub landed_note : List ℕ → Copy → ℕ → ℕ → List ℕ
-landed_note l c gossip host =
-    let l₁ = added (added l (till_row c.delivery.to + received_of) 1) (landed_at + kind_of c.original) 1 in
-    let l₂ = order_note (added l₁ handled_at (taken gossip host)) c.delivery.time c.sequence in
-    class_note l₂ c.delivery.class c.delivery.wire
+unfoldable pub landed_note : Figures → Copy → Bool → Figures
+landed_note l c handled =
+    let l₁ = with_till l c.delivery.to (record (till_of l c.delivery.to) { received = plus (till_of l c.delivery.to).received 1 }) in
+    let l₂ = record l₁ { landed = counted l.landed c.original; handled = plus l.handled (bit handled) } in
+    class_note (order_note l₂ c.delivery.time c.sequence) c.delivery.class c.delivery.wire
 
-unfoldable pub dropped_note : List ℕ → Copy → List ℕ
+unfoldable pub dropped_note : Figures → Copy → Figures
 dropped_note l c =
-    added (added (added l (dropped_at + kind_of c.original) 1) (till_row c.delivery.to + lost_to_of) 1) (till_row c.delivery.from + lost_from_of) 1
+    let l₁ = record l { dropped = counted l.dropped c.original } in
+    let l₂ = with_till l₁ c.delivery.to (record (till_of l₁ c.delivery.to) { lost_to = plus (till_of l₁ c.delivery.to).lost_to 1 }) in
+    with_till l₂ c.delivery.from (record (till_of l₂ c.delivery.from) { lost_from = plus (till_of l₂ c.delivery.from).lost_from 1 })
 
-unfoldable pub waiting_note : List ℕ → Copy → List ℕ
-waiting_note l c = added l (waiting_at + kind_of c.original) 1
+unfoldable pub waiting_note : Figures → Copy → Figures
+waiting_note l c = record l { waiting = counted l.waiting c.original }
 
 -- so many in transit to a till, as the reading says
-unfoldable pub transit_note : List ℕ → ℕ → ℕ → List ℕ
-transit_note l t n = added l (till_row t + transit_of) n
+unfoldable pub transit_note : Figures → ℕ → ℕ → Figures
+transit_note l t n = with_till l t (record (till_of l t) { transit = plus (till_of l t).transit n })
 
 -- a row's words are a copy's and its two handlers'; words that reach past the table's end are no note
-unfoldable pub row_note : List ℕ → List ℕ → ℕ → List ℕ
+unfoldable pub row_note : Figures → List ℕ → ℕ → Figures
 row_note l out b =
     cond (nat_le (b + (waiting.width + 2)) (length out))
-    (landed_note l (waiting.read (drop b out)) (slice_index out (b + waiting.width)) (slice_index out (b + (waiting.width + 1))))
+    (landed_note l (waiting.read (drop b out)) (taken (slice_index out (b + waiting.width)) (slice_index out (b + (waiting.width + 1)))))
     l
 
-unfoldable pub drop_note : List ℕ → List ℕ → ℕ → List ℕ
+unfoldable pub drop_note : Figures → List ℕ → ℕ → Figures
 drop_note l copies b = cond (nat_le (b + waiting.width) (length copies)) (dropped_note l (waiting.read (drop b copies))) l
 
-unfoldable pub wait_note : List ℕ → List ℕ → ℕ → List ℕ
+unfoldable pub wait_note : Figures → List ℕ → ℕ → Figures
 wait_note l copies b = cond (nat_le (b + waiting.width) (length copies)) (waiting_note l (waiting.read (drop b copies))) l
 
 -- ---- A flush's end: its own counts, the marks that went; the next flush begins a new order
 
-unfoldable pub flushed_note : List ℕ → ℕ → ℕ → ℕ → ℕ → List ℕ
-flushed_note l rows delivered dropped gone =
-    let l₁ = added (added (added (added l flushes_at 1) said_rows_at rows) said_delivered_at delivered) said_dropped_at dropped in
-    slice_set (slice_set (added l₁ flush_marks_at gone) time_at 0) sequence_at 0
+unfoldable pub flushed_note : Figures → Said → ℕ → Figures
+flushed_note l said gone =
+    record l { flushes = plus l.flushes 1; said = said_added l.said said; flush_marks = plus l.flush_marks gone; time = 0; sequence = 0 }
 
 -- ---- The log's tallies of a class, where it is drained and at the end; the marks that stand at the end
 
-unfoldable pub tallied_note : List ℕ → ℕ → ℕ → ℕ → List ℕ
-tallied_note l class deliveries bytes = added (added l (class_row class + logged) deliveries) (class_row class + (logged + 1)) bytes
+unfoldable pub tallied_note : Figures → ℕ → Tally → Figures
+tallied_note l class tally = with_class l class (record (class_of l class) { logged = tally_added (class_of l class).logged tally })
 
-unfoldable pub standing_note : List ℕ → ℕ → List ℕ
-standing_note l marks = slice_set l standing_at marks
+unfoldable pub standing_note : Figures → ℕ → Figures
+standing_note l marks = record l { standing = marks }

@@ -1,103 +1,34 @@
-// The figures of a run, the first SIZE numbers of a lent table, for the checklist that is filled in from it.
+// The figures of a run, for the checklist that is filled in from them.
 //
-// After each accepted call the caller takes a note: opened, accepted, row and dropped for each due copy of a flush and then
+// After each accepted call the caller takes a note: opened, accepted, row and drops for each due copy of a flush and then
 // flushed, went_down, came_up, tallied for each class before a drain; refused for a call that a number refused. At the end it
 // notes what stands: waits for each waiting copy, tallied for each class, stands for the marks. The checklist is printed from the figures.
 // Recipients are counted by the masks kept here, from the calls' arguments; never from the network's tables.
 #![tactic(auto)]
 
-ghost use Rattle.std.specs.Prelude.{◌≡◌, ◌+◌, ◌≤◌, min, length, replicate, nat_le, slice_index, slice_set};
+ghost use Rattle.std.specs.Prelude.{◌≡◌, ◌+◌, ◌≤◌, min, length, nat_le};
 ghost use Rattle.sim_figures.specs.Figures as at;
 ghost use Rattle.sim_figures.specs.Notes as note;
 
+use table_rows::Row;
 use table_waiting::Copy;
 
-// How many tills, classes and numbers of questions have places of their own; a later one shares the place behind them.
+// How many tills, classes and numbers of questions have rows of their own; a later one shares the row behind them.
 pub const MOST_TILLS: u64 = 64;
 
-const MOST_CLASSES: u64 = 8;
+pub const MOST_CLASSES: u64 = 8;
 
 pub const MOST_NUMBERS: u64 = 25;
 
-// The places of numbers, that of 0 with them.
+// The rows of tills, of classes and of numbers, that of 0 with these.
+pub const TILLS: usize = MOST_TILLS as usize + 1;
+
+pub const CLASSES: usize = MOST_CLASSES as usize + 1;
+
 pub const NUMBERS: usize = MOST_NUMBERS as usize + 1;
 
 // A scope that is no shard.
 const GLOBAL: u64 = 16;
-
-// The places: of the whole run,
-pub const TILLS: usize = 0;
-
-pub const LOG: usize = 1;
-
-pub const FIRST: usize = 2;
-
-pub const LAST: usize = 3;
-
-pub const ACCEPTS: usize = 4;
-
-pub const RECIPIENTS: usize = 5;
-
-// sent, deduplicated, partition, loss, fault
-pub const FIVE: usize = 6;
-
-pub const DOWN_MARKS: usize = 11;
-
-pub const FLUSH_MARKS: usize = 12;
-
-pub const STANDING: usize = 13;
-
-pub const FLUSHES: usize = 14;
-
-pub const SAID_ROWS: usize = 15;
-
-pub const SAID_DELIVERED: usize = 16;
-
-pub const SAID_DROPPED: usize = 17;
-
-pub const HANDLED: usize = 18;
-
-pub const LATE: usize = 19;
-
-const TIME: usize = 20;
-
-const SEQUENCE: usize = 21;
-
-// originals, then echoes
-pub const LANDED: usize = 22;
-
-pub const DROPPED: usize = 24;
-
-pub const WAITING: usize = 26;
-
-pub const REFUSED: usize = 28;
-
-// of a class: deliveries and bytes of the rows, then of the log,
-const CLASS_ROWS: usize = REFUSED + NUMBERS;
-
-const CLASS_WIDTH: usize = 4;
-
-pub const LOGGED: usize = 2;
-
-// of a till.
-pub const TILL_ROWS: usize = CLASS_ROWS + 9 * CLASS_WIDTH;
-
-pub const TILL_WIDTH: usize = 10;
-
-const MASK: usize = 0;
-
-pub const SENT: usize = 1;
-
-pub const RECEIVED: usize = 6;
-
-pub const LOST_TO: usize = 7;
-
-pub const LOST_FROM: usize = 8;
-
-pub const TRANSIT: usize = 9;
-
-// How many figures there are.
-pub const SIZE: usize = TILL_ROWS + 65 * TILL_WIDTH;
 
 // Where a row has its handlers.
 const GOSSIP: usize = table_waiting::WIDTH;
@@ -107,381 +38,484 @@ const HOST: usize = table_waiting::WIDTH + 1;
 // How many words a row has.
 const ROW: usize = table_waiting::WIDTH + 2;
 
-// The figure at i; 0 past the end.
-pub fn get(figures: &[u64], i: usize) -> u64
-    ensures { result ≡ slice_index figures.now i }
-{
-    if i < figures.len() {
-        return figures[i];
-    }
-    0
+// What became of a message's recipients.
+#[derive(Clone, Copy)]
+pub struct Five {
+    pub sent: u64,
+    pub deduplicated: u64,
+    pub partition: u64,
+    pub loss: u64,
+    pub fault: u64,
 }
 
-fn put(figures: &mut [u64], i: usize, n: u64)
-    ensures { figures.new ≡ slice_set figures.old i n }
-{
-    if i < figures.len() {
-        figures[i] = n;
-        return;
-    }
+// What a flush says of itself: rows, delivered and dropped copies.
+#[derive(Clone, Copy)]
+pub struct Said {
+    pub rows: u64,
+    pub delivered: u64,
+    pub dropped: u64,
 }
 
-// n more at i.
-fn add(figures: &mut [u64], i: usize, n: u64)
-    ensures { figures.new ≡ at.added figures.old i n }
-{
-    let v = std::num::wrapping_add_u64(get(figures, i), n);
-    put(figures, i, v);
+// Copies of both kinds.
+#[derive(Clone, Copy)]
+pub struct Kinds {
+    pub originals: u64,
+    pub echoes: u64,
 }
 
-// n, but no more than most.
-pub fn least(n: u64, most: u64) -> u64
-    ensures is { result ≡ min n most }
-    ensures within { result ≤ most }
-{
-    if n < most {
-        return n;
-    }
-    most
+// Deliveries and their bytes.
+#[derive(Clone, Copy)]
+pub struct Tally {
+    pub deliveries: u64,
+    pub bytes: u64,
 }
 
-pub fn till_row(t: u64) -> usize
-    ensures is { result ≡ at.till_row t }
-    ensures within { result ≤ at.size }
-{
-    TILL_ROWS + least(t, MOST_TILLS) as usize * TILL_WIDTH
+// Of a class: by the rows, and by the log.
+#[derive(Clone, Copy)]
+pub struct ClassFigures {
+    pub rows: Tally,
+    pub logged: Tally,
 }
 
-pub fn class_row(class: u64) -> usize
-    ensures is { result ≡ at.class_row class }
-    ensures within { result ≤ at.size }
-{
-    CLASS_ROWS + least(class, MOST_CLASSES) as usize * CLASS_WIDTH
+// Of a till: its shard mask; as sender the five counts; landed at it; flush drops on the way to it, and of what it sent; waiting for it.
+#[derive(Clone, Copy)]
+pub struct TillFigures {
+    pub mask: u64,
+    pub sent: Five,
+    pub received: u64,
+    pub lost_to: u64,
+    pub lost_from: u64,
+    pub transit: u64,
 }
+
+// Of a run.
+#[derive(Clone, Copy)]
+pub struct Figures {
+    // Tills of the opening, slots of its log, the sequence at the opening and the last one given.
+    pub tills: u64,
+    pub log: u64,
+    pub first: u64,
+    pub last: u64,
+    // Accepted messages, the recipients other than the sender of each, and what became of these.
+    pub accepts: u64,
+    pub recipients: u64,
+    pub five: Five,
+    // Seen marks that take-downs and flushes took away, and those that stand at the end.
+    pub down_marks: u64,
+    pub flush_marks: u64,
+    pub standing: u64,
+    // Flushes, and what they said themselves.
+    pub flushes: u64,
+    pub said: Said,
+    // Rows with a handler; rows that stand out of order; time and sequence of the flush's last row.
+    pub handled: u64,
+    pub late: u64,
+    pub time: u64,
+    pub sequence: u64,
+    // Copies that landed, that a flush dropped, that wait.
+    pub landed: Kinds,
+    pub dropped: Kinds,
+    pub waiting: Kinds,
+    // Refused calls by their number.
+    pub refused: [u64; NUMBERS],
+    pub classes: [ClassFigures; CLASSES],
+    pub of_tills: [TillFigures; TILLS],
+}
+
+const NO_FIVE: Five = Five {
+    sent: 0,
+    deduplicated: 0,
+    partition: 0,
+    loss: 0,
+    fault: 0,
+};
+
+const NO_COPIES: Kinds = Kinds {
+    originals: 0,
+    echoes: 0,
+};
+
+const NO_TALLY: Tally = Tally {
+    deliveries: 0,
+    bytes: 0,
+};
+
+const NO_CLASS: ClassFigures = ClassFigures {
+    rows: NO_TALLY,
+    logged: NO_TALLY,
+};
+
+const NO_TILL: TillFigures = TillFigures {
+    mask: 0,
+    sent: NO_FIVE,
+    received: 0,
+    lost_to: 0,
+    lost_from: 0,
+    transit: 0,
+};
 
 // Every figure 0.
-fn clear(figures: &mut [u64])
-    ensures { figures.new ≡ replicate (length figures.old) 0 }
+pub fn none() -> Figures
+    ensures { result ≡ at.no_figures }
 {
-    let mut i: usize = 0;
-    while i < figures.len() {
-        figures[i] = 0;
-        i += 1;
+    Figures {
+        tills: 0,
+        log: 0,
+        first: 0,
+        last: 0,
+        accepts: 0,
+        recipients: 0,
+        five: NO_FIVE,
+        down_marks: 0,
+        flush_marks: 0,
+        standing: 0,
+        flushes: 0,
+        said: Said {
+            rows: 0,
+            delivered: 0,
+            dropped: 0,
+        },
+        handled: 0,
+        late: 0,
+        time: 0,
+        sequence: 0,
+        landed: NO_COPIES,
+        dropped: NO_COPIES,
+        waiting: NO_COPIES,
+        refused: [0; NUMBERS],
+        classes: [NO_CLASS; CLASSES],
+        of_tills: [NO_TILL; TILLS],
     }
 }
 
-fn put_masks(figures: &mut [u64], masks: &[u64], n: usize)
-    requires { n ≤ length masks.now }
-    ensures { figures.new ≡ note.masked figures.old masks.now n }
+// The row of a till.
+fn till_row(t: u64) -> usize
+    ensures is { result ≡ at.till_row t }
+    ensures within { result ≤ 64 }
 {
-    let mut t: usize = 0;
-    while t < n {
-        put(figures, till_row(t as u64) + MASK, masks[t]);
-        t += 1;
+    t.min(MOST_TILLS) as usize
+}
+
+// The row of a class.
+fn class_row(class: u64) -> usize
+    ensures is { result ≡ at.class_row «class» }
+    ensures within { result ≤ 8 }
+{
+    class.min(MOST_CLASSES) as usize
+}
+
+// The row of a question.
+fn refused_row(number: u64) -> usize
+    ensures is { result ≡ at.refused_row number }
+    ensures within { result ≤ 25 }
+{
+    number.min(MOST_NUMBERS) as usize
+}
+
+impl Five {
+    fn add(&mut self, more: Five)
+        ensures { self.new ≡ at.five_added self.old more }
+    {
+        self.sent = self.sent.wrapping_add(more.sent);
+        self.deduplicated = self.deduplicated.wrapping_add(more.deduplicated);
+        self.partition = self.partition.wrapping_add(more.partition);
+        self.loss = self.loss.wrapping_add(more.loss);
+        self.fault = self.fault.wrapping_add(more.fault);
     }
 }
 
-// A new run: tills, a shard mask for each, slots of the log, the sequence at the opening.
-pub fn opened(figures: &mut [u64], tills: u64, masks: &[u64], log: u64, sequence: u64)
-    ensures { figures.new ≡ note.opened_note figures.old tills masks.now log sequence }
-{
-    clear(figures);
-    put(figures, TILLS, tills);
-    put(figures, LOG, log);
-    put(figures, FIRST, sequence);
-    put(figures, LAST, sequence);
-    let n = least(tills, masks.len() as u64);
-    put_masks(figures, masks, n as usize);
-}
-
-// A till is down; gone is how many marks went with it.
-pub fn went_down(figures: &mut [u64], t: u64, gone: u64)
-    ensures { figures.new ≡ note.down_note figures.old t gone }
-{
-    put(figures, till_row(t) + MASK, 0);
-    add(figures, DOWN_MARKS, gone);
-}
-
-// A till is up, with these shards.
-pub fn came_up(figures: &mut [u64], t: u64, mask: u64)
-    ensures { figures.new ≡ note.up_note figures.old t mask }
-{
-    put(figures, till_row(t) + MASK, mask);
-}
-
-// Is t a recipient other than the sender?
-fn receives(figures: &[u64], from: u64, scope: u64, t: u64) -> bool
-    ensures { result ≡ note.receives figures.now from scope t }
-{
-    if t == from {
-        return false;
+impl Said {
+    fn add(&mut self, more: Said)
+        ensures { self.new ≡ at.said_added self.old more }
+    {
+        self.rows = self.rows.wrapping_add(more.rows);
+        self.delivered = self.delivered.wrapping_add(more.delivered);
+        self.dropped = self.dropped.wrapping_add(more.dropped);
     }
-    if scope == GLOBAL {
-        return true;
-    }
-    if scope < 64 {
-        return fault_rule::has(get(figures, till_row(t) + MASK), scope);
-    }
-    false
 }
 
-fn bit(b: bool) -> u64
-    ensures is { result ≡ note.bit b }
-    ensures within { result ≤ 1 }
-{
-    if b {
-        return 1;
-    }
-    0
-}
-
-// How many of the first n tills are recipients other than the sender.
-fn recipients(figures: &[u64], from: u64, scope: u64, n: u64) -> u64
-    ensures { result ≡ note.recipients_of figures.now from scope n }
-{
-    let mut count: u64 = 0;
-    let mut t: u64 = 0;
-    while t < n {
-        count += bit(receives(figures, from, scope, t));
-        t += 1;
-    }
-    count
-}
-
-// The recipients of a message; none where the payload does not open.
-fn counted(figures: &[u64], from: u64, scope: u64, opens: u64) -> u64
-    ensures { result ≡ note.counted_of figures.now from scope opens }
-{
-    if opens == 0 {
-        return 0;
-    }
-    recipients(figures, from, scope, get(figures, TILLS))
-}
-
-// The five counts, added from place b on.
-fn add_five(
-    figures: &mut [u64],
-    b: usize,
-    sent: u64,
-    deduplicated: u64,
-    partition: u64,
-    loss: u64,
-    fault: u64,
-)
-    requires { b ≤ at.size + 1 }
-    ensures { figures.new ≡ note.five_added figures.old b sent deduplicated partition loss fault }
-{
-    add(figures, b, sent);
-    add(figures, b + 1, deduplicated);
-    add(figures, b + 2, partition);
-    add(figures, b + 3, loss);
-    add(figures, b + 4, fault);
-}
-
-// A message that no number refused: its arguments, its five counts, and the last sequence given then.
-pub fn accepted(
-    figures: &mut [u64],
-    from: u64,
-    scope: u64,
-    opens: u64,
-    sent: u64,
-    deduplicated: u64,
-    partition: u64,
-    loss: u64,
-    fault: u64,
-    sequence: u64,
-)
-    ensures { figures.new ≡ note.accepted_note figures.old from scope opens sent deduplicated partition loss fault sequence }
-{
-    let n = counted(figures, from, scope, opens);
-    add(figures, ACCEPTS, 1);
-    add(figures, RECIPIENTS, n);
-    add_five(figures, FIVE, sent, deduplicated, partition, loss, fault);
-    add_five(
-        figures,
-        till_row(from) + SENT,
-        sent,
-        deduplicated,
-        partition,
-        loss,
-        fault,
-    );
-    put(figures, LAST, sequence);
-}
-
-pub fn refused_at(number: u64) -> usize
-    ensures is { result ≡ at.refused_place number }
-    ensures within { result ≤ at.size }
-{
-    REFUSED + least(number, MOST_NUMBERS) as usize
-}
-
-// A call that this number refused.
-pub fn refused(figures: &mut [u64], number: u64)
-    ensures { figures.new ≡ note.refused_note figures.old number }
-{
-    add(figures, refused_at(number), 1);
-}
-
-// 0 for an original, 1 for an echo.
-fn kind(original: u64) -> usize
-    ensures is { result ≡ note.kind_of original }
-    ensures within { result ≤ 1 }
-{
-    if original == 0 {
-        return 1;
-    }
-    0
-}
-
-// 1 where a row does not stand behind the one before it.
-fn late(time: u64, sequence: u64, next_time: u64, next_sequence: u64) -> u64
-    ensures { result ≡ note.late time sequence next_time next_sequence }
-{
-    if time < next_time {
-        return 0;
-    }
-    if time == next_time {
-        if sequence < next_sequence {
-            return 0;
+impl Kinds {
+    // One copy more: an original's flag is not 0.
+    fn count(&mut self, original: u64)
+        ensures { self.new ≡ at.counted self.old original }
+    {
+        if original == 0 {
+            self.echoes = self.echoes.wrapping_add(1);
+        } else {
+            self.originals = self.originals.wrapping_add(1);
         }
-        return 1;
     }
-    1
 }
 
-fn note_order(figures: &mut [u64], time: u64, sequence: u64)
-    ensures { figures.new ≡ note.order_note figures.old time sequence }
-{
-    let n = late(get(figures, TIME), get(figures, SEQUENCE), time, sequence);
-    add(figures, LATE, n);
-    put(figures, TIME, time);
-    put(figures, SEQUENCE, sequence);
-}
-
-fn note_class(figures: &mut [u64], class: u64, wire: u64)
-    ensures { figures.new ≡ note.class_note figures.old class wire }
-{
-    let b = class_row(class);
-    add(figures, b, 1);
-    add(figures, b + 1, wire);
-}
-
-// 1 where a handler takes the row.
-fn taken(gossip: u64, host: u64) -> u64
-    ensures { result ≡ note.taken gossip host }
-{
-    if gossip == 0 {
-        if host == 0 {
-            return 0;
-        }
-        return 1;
+impl Tally {
+    fn add(&mut self, more: Tally)
+        ensures { self.new ≡ at.tally_added self.old more }
+    {
+        self.deliveries = self.deliveries.wrapping_add(more.deliveries);
+        self.bytes = self.bytes.wrapping_add(more.bytes);
     }
-    1
 }
 
-fn note_landed(figures: &mut [u64], c: Copy, gossip: u64, host: u64)
-    ensures { figures.new ≡ note.landed_note figures.old c gossip host }
+// Does a row stand behind the one before it, by time, then sequence?
+#[tactic(auto, unfolding(crate::specs::Notes::behind))]
+fn is_behind(time: u64, sequence: u64, next_time: u64, next_sequence: u64) -> bool
+    ensures { result ≡ note.behind time sequence next_time next_sequence }
 {
-    let d = c.delivery;
-    add(figures, till_row(d.to) + RECEIVED, 1);
-    add(figures, LANDED + kind(c.original), 1);
-    add(figures, HANDLED, taken(gossip, host));
-    note_order(figures, d.time, c.sequence);
-    note_class(figures, d.class, d.wire);
-}
-
-fn note_dropped(figures: &mut [u64], c: Copy)
-    ensures { figures.new ≡ note.dropped_note figures.old c }
-{
-    let d = c.delivery;
-    add(figures, DROPPED + kind(c.original), 1);
-    add(figures, till_row(d.to) + LOST_TO, 1);
-    add(figures, till_row(d.from) + LOST_FROM, 1);
-}
-
-fn note_waiting(figures: &mut [u64], c: Copy)
-    ensures { figures.new ≡ note.waiting_note figures.old c }
-{
-    add(figures, WAITING + kind(c.original), 1);
+    time < next_time || (time == next_time && sequence < next_sequence)
 }
 
 // Has the table n words from b on?
 fn has_words(table: &[u64], b: usize, n: usize) -> bool
-    requires { n ≤ at.size }
+    requires { n ≤ 64 }
     ensures { result ≡ nat_le (b + n) (length table.now) }
 {
-    if table.len() < n {
-        return false;
+    n <= table.len() && b <= table.len() - n
+}
+
+impl Figures {
+    // A till's figures.
+    pub fn till(&self, t: u64) -> &TillFigures
+        ensures { result.now ≡ at.till_of self.now t }
+    {
+        &self.of_tills[till_row(t)]
     }
-    b <= table.len() - n
-}
 
-// A row of a flush, whose words start at b.
-pub fn row(figures: &mut [u64], out: &[u64], b: usize)
-    ensures { figures.new ≡ note.row_note figures.old out.now b }
-{
-    if !has_words(out, b, ROW) {
-        return;
+    // A class's figures.
+    pub fn class(&self, class: u64) -> &ClassFigures
+        ensures { result.now ≡ at.class_of self.now «class» }
+    {
+        &self.classes[class_row(class)]
     }
-    let c = table_waiting::get(out, b);
-    note_landed(figures, c, out[b + GOSSIP], out[b + HOST]);
-}
 
-// A due copy that a flush dropped, whose words start at b of the same table, behind the figures.
-pub fn dropped(figures: &mut [u64], b: usize)
-    ensures { figures.new ≡ note.drop_note figures.old figures.old b }
-{
-    if !has_words(figures, b, table_waiting::WIDTH) {
-        return;
+    // How many calls a question refused.
+    pub fn refused_by(&self, number: u64) -> u64
+        ensures { result ≡ at.refused_of self.now number }
+    {
+        self.refused[refused_row(number)]
     }
-    let c = table_waiting::get(figures, b);
-    note_dropped(figures, c);
-}
 
-// A copy that waits at the end, whose words start at b.
-pub fn waits(figures: &mut [u64], copies: &[u64], b: usize)
-    ensures { figures.new ≡ note.wait_note figures.old copies.now b }
-{
-    if !has_words(copies, b, table_waiting::WIDTH) {
-        return;
+    fn set_mask(&mut self, t: u64, mask: u64)
+        ensures { self.new ≡ note.up_note self.old t mask }
+    {
+        self.of_tills[till_row(t)].mask = mask;
     }
-    let c = table_waiting::get(copies, b);
-    note_waiting(figures, c);
-}
 
-// The end of a flush: its own counts, and how many marks went.
-pub fn flushed(figures: &mut [u64], rows: u64, delivered: u64, dropped: u64, gone: u64)
-    ensures { figures.new ≡ note.flushed_note figures.old rows delivered dropped gone }
-{
-    add(figures, FLUSHES, 1);
-    add(figures, SAID_ROWS, rows);
-    add(figures, SAID_DELIVERED, delivered);
-    add(figures, SAID_DROPPED, dropped);
-    add(figures, FLUSH_MARKS, gone);
-    put(figures, TIME, 0);
-    put(figures, SEQUENCE, 0);
-}
+    fn set_masks(&mut self, masks: &[u64], n: usize)
+        requires { n ≤ length masks.now }
+        ensures { self.new ≡ note.masked self.old masks.now n }
+    {
+        for t in 0..n {
+            self.set_mask(t as u64, masks[t]);
+        }
+    }
 
-// The log's tallies of a class, as a drain takes them away or as they stand at the end.
-pub fn tallied(figures: &mut [u64], class: u64, deliveries: u64, bytes: u64)
-    ensures { figures.new ≡ note.tallied_note figures.old class deliveries bytes }
-{
-    let b = class_row(class);
-    add(figures, b + LOGGED, deliveries);
-    add(figures, b + (LOGGED + 1), bytes);
-}
+    // A new run: tills, a shard mask for each, slots of the log, the sequence at the opening.
+    #[tactic(auto, unfolding(crate::specs::Notes::opened_note))]
+    pub fn opened(&mut self, tills: u64, masks: &[u64], log: u64, sequence: u64)
+        ensures { self.new ≡ note.opened_note tills masks.now log sequence }
+    {
+        *self = Figures {
+            tills,
+            log,
+            first: sequence,
+            last: sequence,
+            ..none()
+        };
+        self.set_masks(masks, tills.min(masks.len() as u64) as usize);
+    }
 
-// How many are in transit to a till at the end, as the reading says.
-pub fn in_transit(figures: &mut [u64], t: u64, n: u64)
-    ensures { figures.new ≡ note.transit_note figures.old t n }
-{
-    add(figures, till_row(t) + TRANSIT, n);
-}
+    // A till is down; gone is how many marks went with it.
+    #[tactic(auto, unfolding(crate::specs::Notes::down_note))]
+    pub fn went_down(&mut self, t: u64, gone: u64)
+        ensures { self.new ≡ note.down_note self.old t gone }
+    {
+        self.set_mask(t, 0);
+        self.down_marks = self.down_marks.wrapping_add(gone);
+    }
 
-// How many marks stand at the end.
-pub fn stands(figures: &mut [u64], marks: u64)
-    ensures { figures.new ≡ note.standing_note figures.old marks }
-{
-    put(figures, STANDING, marks);
+    // A till is up, with these shards.
+    pub fn came_up(&mut self, t: u64, mask: u64)
+        ensures { self.new ≡ note.up_note self.old t mask }
+    {
+        self.set_mask(t, mask);
+    }
+
+    // Is t a recipient other than the sender?
+    #[tactic(auto, unfolding(crate::specs::Notes::receives))]
+    fn receives(&self, from: u64, scope: u64, t: u64) -> bool
+        ensures { result ≡ note.receives self.now from scope t }
+    {
+        if t == from {
+            return false;
+        }
+        if scope == GLOBAL {
+            return true;
+        }
+        scope < 64 && fault_rule::has(self.of_tills[till_row(t)].mask, scope)
+    }
+
+    // How many of the first n tills are recipients other than the sender.
+    fn recipients_among(&self, from: u64, scope: u64, n: u64) -> u64
+        ensures { result ≡ note.recipients_of self.now from scope n }
+    {
+        let mut count = 0;
+        for t in 0..n {
+            count += u64::from(self.receives(from, scope, t));
+        }
+        count
+    }
+
+    // The recipients of a message; none where the payload does not open.
+    #[tactic(auto, unfolding(crate::specs::Notes::counted_of))]
+    fn counted(&self, from: u64, scope: u64, opens: bool) -> u64
+        ensures { result ≡ note.counted_of self.now from scope opens }
+    {
+        if opens {
+            self.recipients_among(from, scope, self.tills)
+        } else {
+            0
+        }
+    }
+
+    // A message that no number refused: its arguments, its five counts, and the last sequence given then.
+    #[tactic(auto, unfolding(crate::specs::Notes::accepted_note))]
+    pub fn accepted(&mut self, from: u64, scope: u64, opens: bool, five: Five, sequence: u64)
+        ensures { self.new ≡ note.accepted_note self.old from scope opens five sequence }
+    {
+        let n = self.counted(from, scope, opens);
+        self.accepts = self.accepts.wrapping_add(1);
+        self.recipients = self.recipients.wrapping_add(n);
+        self.five.add(five);
+        self.of_tills[till_row(from)].sent.add(five);
+        self.last = sequence;
+    }
+
+    // A call that this number refused.
+    #[tactic(auto, unfolding(crate::specs::Notes::refused_note))]
+    pub fn refused(&mut self, number: u64)
+        ensures { self.new ≡ note.refused_note self.old number }
+    {
+        let count = &mut self.refused[refused_row(number)];
+        *count = count.wrapping_add(1);
+    }
+
+    #[tactic(auto, unfolding(crate::specs::Notes::order_note))]
+    fn note_order(&mut self, time: u64, sequence: u64)
+        ensures { self.new ≡ note.order_note self.old time sequence }
+    {
+        let late = !is_behind(self.time, self.sequence, time, sequence);
+        self.late = self.late.wrapping_add(u64::from(late));
+        self.time = time;
+        self.sequence = sequence;
+    }
+
+    #[tactic(auto, unfolding(crate::specs::Notes::class_note))]
+    fn note_class(&mut self, class: u64, bytes: u64)
+        ensures { self.new ≡ note.class_note self.old «class» bytes }
+    {
+        let tally = Tally {
+            deliveries: 1,
+            bytes,
+        };
+        self.classes[class_row(class)].rows.add(tally);
+    }
+
+    #[tactic(auto, unfolding(crate::specs::Notes::landed_note))]
+    fn note_landed(&mut self, c: Copy, taken: bool)
+        ensures { self.new ≡ note.landed_note self.old c taken }
+    {
+        let d = c.delivery;
+        let till = &mut self.of_tills[till_row(d.to)];
+        till.received = till.received.wrapping_add(1);
+        self.landed.count(c.original);
+        self.handled = self.handled.wrapping_add(u64::from(taken));
+        self.note_order(d.time, c.sequence);
+        self.note_class(d.class, d.wire);
+    }
+
+    #[tactic(auto, unfolding(crate::specs::Notes::dropped_note))]
+    fn note_dropped(&mut self, c: Copy)
+        ensures { self.new ≡ note.dropped_note self.old c }
+    {
+        let d = c.delivery;
+        self.dropped.count(c.original);
+        let to = &mut self.of_tills[till_row(d.to)];
+        to.lost_to = to.lost_to.wrapping_add(1);
+        let from = &mut self.of_tills[till_row(d.from)];
+        from.lost_from = from.lost_from.wrapping_add(1);
+    }
+
+    // A row of a flush, whose words start at b.
+    #[tactic(auto, unfolding(crate::specs::Notes::row_note))]
+    pub fn row(&mut self, out: &[u64], b: usize)
+        ensures { self.new ≡ note.row_note self.old out.now b }
+    {
+        if !has_words(out, b, ROW) {
+            return;
+        }
+        let c = Copy::get(out, b);
+        let taken = out[b + GOSSIP] != 0 || out[b + HOST] != 0;
+        self.note_landed(c, taken);
+    }
+
+    // A due copy that a flush dropped, whose words start at b.
+    #[tactic(auto, unfolding(crate::specs::Notes::drop_note))]
+    pub fn drops(&mut self, copies: &[u64], b: usize)
+        ensures { self.new ≡ note.drop_note self.old copies.now b }
+    {
+        if !has_words(copies, b, table_waiting::WIDTH) {
+            return;
+        }
+        let c = Copy::get(copies, b);
+        self.note_dropped(c);
+    }
+
+    // A copy that waits at the end, whose words start at b.
+    #[tactic(auto, unfolding(crate::specs::Notes::wait_note, crate::specs::Notes::waiting_note))]
+    pub fn waits(&mut self, copies: &[u64], b: usize)
+        ensures { self.new ≡ note.wait_note self.old copies.now b }
+    {
+        if !has_words(copies, b, table_waiting::WIDTH) {
+            return;
+        }
+        let c = Copy::get(copies, b);
+        self.waiting.count(c.original);
+    }
+
+    // The end of a flush: its own counts, and how many marks went.
+    #[tactic(auto, unfolding(crate::specs::Notes::flushed_note))]
+    pub fn flushed(&mut self, said: Said, gone: u64)
+        ensures { self.new ≡ note.flushed_note self.old said gone }
+    {
+        self.flushes = self.flushes.wrapping_add(1);
+        self.said.add(said);
+        self.flush_marks = self.flush_marks.wrapping_add(gone);
+        self.time = 0;
+        self.sequence = 0;
+    }
+
+    // The log's tallies of a class, as a drain takes them away or as they stand at the end.
+    #[tactic(auto, unfolding(crate::specs::Notes::tallied_note))]
+    pub fn tallied(&mut self, class: u64, tally: Tally)
+        ensures { self.new ≡ note.tallied_note self.old «class» tally }
+    {
+        self.classes[class_row(class)].logged.add(tally);
+    }
+
+    // How many are in transit to a till at the end, as the reading says.
+    #[tactic(auto, unfolding(crate::specs::Notes::transit_note))]
+    pub fn in_transit(&mut self, t: u64, n: u64)
+        ensures { self.new ≡ note.transit_note self.old t n }
+    {
+        let till = &mut self.of_tills[till_row(t)];
+        till.transit = till.transit.wrapping_add(n);
+    }
+
+    // How many marks stand at the end.
+    #[tactic(auto, unfolding(crate::specs::Notes::standing_note))]
+    pub fn stands(&mut self, marks: u64)
+        ensures { self.new ≡ note.standing_note self.old marks }
+    {
+        self.standing = marks;
+    }
 }

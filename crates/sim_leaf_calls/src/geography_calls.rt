@@ -1,8 +1,13 @@
 // Regions, links, times on the wire, link keys and latencies.
+use call_reply::Value;
 use link_geography::{Cost, Link};
 use math_time::Time;
+use rand_streams::Cursor;
+use sim_answers::Hexes;
+use sim_lend::Network;
 use sim_outcome::{Outcome, bad, done, told, valued};
-use sim_script::calls;
+use sim_printer::Printer;
+use sim_script::{Geography, Latency, Message};
 
 // Questions 4, 6, 7 and 8.
 const NO_TILL: u64 = 4;
@@ -45,13 +50,8 @@ fn no_link() -> Link {
 
 // What the plan has for two regions.
 fn link_in(prices: &[u64], regions: u64, a: u64, b: u64) -> Link {
-    if ask_tables::MOST_REGIONS < regions {
-        return no_link();
-    }
-    if ask_tables::MOST_REGIONS <= a {
-        return no_link();
-    }
-    if ask_tables::MOST_REGIONS <= b {
+    let most = ask_tables::MOST_REGIONS;
+    if most < regions || most <= a || most <= b {
         return no_link();
     }
     link_prices::link_between(prices, regions, a, b)
@@ -76,25 +76,24 @@ fn is_planned(setup: &[u64]) -> bool {
     ask_tables::cell(setup, ask_tables::PLANNED) != 0
 }
 
-fn region_call(t: u64, setup: &[u64], text: &mut [u8], used: usize) -> Outcome {
+fn region_call(t: u64, setup: &[u64], page: &mut Printer) -> Outcome {
     if !is_planned(setup) {
-        let u = sim_answers::say(text, used, b"region -\n");
-        return told(u, 0);
+        page.text(b"region -\n");
+        return told(0);
     }
-    let u = sim_answers::ended(text, used, b"region ", region(setup, t));
-    told(u, 0)
+    page.print(format_args!("region {}\n", region(setup, t)));
+    told(0)
 }
 
-fn link_call(v: [u64; 8], setup: &[u64], prices: &[u64], text: &mut [u8], used: usize) -> Outcome {
+fn link_call(from: u64, to: u64, setup: &[u64], prices: &[u64], page: &mut Printer) -> Outcome {
     if !is_planned(setup) {
-        let u = sim_answers::say(text, used, b"link -\n");
-        return told(u, 0);
+        page.text(b"link -\n");
+        return told(0);
     }
-    let l = link(setup, prices, v[0], v[1]);
+    let l = link(setup, prices, from, to);
     let base = l.base;
-    let a = sim_answers::labelled(text, used, b"link base=", base.ns);
-    let b = sim_answers::ended(text, a, b" rate=", l.rate);
-    told(b, 0)
+    page.print(format_args!("link base={} rate={}\n", base.ns, l.rate));
+    told(0)
 }
 
 fn too_long(bytes: u64) -> u64 {
@@ -105,66 +104,58 @@ fn too_long(bytes: u64) -> u64 {
 }
 
 fn transmission_call(
-    v: [u64; 8],
+    from: u64,
+    to: u64,
+    bytes: u64,
     setup: &[u64],
     prices: &[u64],
-    text: &mut [u8],
-    used: usize,
+    page: &mut Printer,
 ) -> Outcome {
-    let number = too_long(v[2]);
+    let number = too_long(bytes);
     if !is_planned(setup) {
-        return valued(text, used, b"transmission", b"transmission ", number, 0);
+        return valued(page, "transmission", "transmission ", number, 0);
     }
-    let l = link(setup, prices, v[0], v[1]);
-    let ns = wire_time(v[2], l.rate);
-    valued(text, used, b"transmission", b"transmission ", number, ns)
+    let l = link(setup, prices, from, to);
+    let ns = wire_time(bytes, l.rate);
+    valued(page, "transmission", "transmission ", number, ns)
 }
 
-fn wire_call(v: [u64; 8], text: &mut [u8], used: usize) -> Outcome {
-    let ns = wire_time(v[1], v[0]);
-    valued(text, used, b"wire", b"wire ", too_long(v[1]), ns)
+fn key_call(from: u64, to: u64, setup: &[u64], page: &mut Printer) -> Outcome {
+    let seed = ask_tables::cell(setup, ask_tables::SEED);
+    let key = rand_streams::link_key(seed, low(from), low(to));
+    page.print(format_args!("linkkey {}\n", Hexes(key)));
+    told(0)
 }
 
-fn key_call(v: [u64; 8], setup: &[u64], text: &mut [u8], used: usize) -> Outcome {
-    let key = rand_streams::link_key(
-        ask_tables::cell(setup, ask_tables::SEED),
-        low(v[0]),
-        low(v[1]),
-    );
-    let a = sim_answers::say(text, used, b"linkkey ");
-    let b = sim_answers::hexes(text, a, key);
-    let c = sim_answers::say(text, b, b"\n");
-    told(c, 0)
+// Has every till 32 bits?
+fn are_tills(call: Geography) -> bool {
+    match call {
+        Geography::Region { till } => till <= LAST,
+        Geography::Link { from, to }
+        | Geography::LinkKey { from, to }
+        | Geography::Transmission { from, to, .. } => from <= LAST && to <= LAST,
+        Geography::Wire { .. } => true,
+    }
 }
 
 // Regions, links and keys; tills of any 32 bits.
-pub fn geography_call(
-    which: u64,
-    v: [u64; 8],
-    setup: &[u64],
-    prices: &[u64],
-    text: &mut [u8],
-    used: usize,
-) -> Outcome {
-    if which == calls::WIRE {
-        return wire_call(v, text, used);
+pub fn geography(network: Network<'_>, call: Geography, page: &mut Printer) -> Outcome {
+    let Network { setup, prices, .. } = network;
+    if !are_tills(call) {
+        return bad();
     }
-    if LAST < v[0] {
-        return bad(used);
+    match call {
+        Geography::Region { till } => region_call(till, setup, page),
+        Geography::Link { from, to } => link_call(from, to, setup, prices, page),
+        Geography::Transmission { from, to, bytes } => {
+            transmission_call(from, to, bytes, setup, prices, page)
+        }
+        Geography::Wire { rate, bytes } => {
+            let ns = wire_time(bytes, rate);
+            valued(page, "wire", "wire ", too_long(bytes), ns)
+        }
+        Geography::LinkKey { from, to } => key_call(from, to, setup, page),
     }
-    if which == calls::REGION {
-        return region_call(v[0], setup, text, used);
-    }
-    if LAST < v[1] {
-        return bad(used);
-    }
-    if which == calls::LINK {
-        return link_call(v, setup, prices, text, used);
-    }
-    if which == calls::LINK_KEY {
-        return key_call(v, setup, text, used);
-    }
-    transmission_call(v, setup, prices, text, used)
 }
 
 fn no_cost() -> Cost {
@@ -179,16 +170,8 @@ fn cost(setup: &[u64], prices: &[u64], from: u64, to: u64, bytes: u64) -> Cost {
     let regions = ask_tables::cell(setup, ask_tables::REGIONS);
     let a = region(setup, from);
     let b = region(setup, to);
-    if ask_tables::MOST_REGIONS < regions {
-        return no_cost();
-    }
-    if ask_tables::MOST_REGIONS <= a {
-        return no_cost();
-    }
-    if ask_tables::MOST_REGIONS <= b {
-        return no_cost();
-    }
-    if LONGEST_WIRE < bytes {
+    let most = ask_tables::MOST_REGIONS;
+    if most < regions || most <= a || most <= b || LONGEST_WIRE < bytes {
         return no_cost();
     }
     let latency = Time::from_nanos(ask_tables::cell(setup, ask_tables::LATENCY));
@@ -223,92 +206,55 @@ fn sampled(setup: &[u64], key: [u32; 8], count: u64, c: Cost) -> Delay {
     if !link_latency::fraction_admitted(fraction) {
         return none;
     }
-    let r = link_latency::sample_latency(rand_streams::at(key, count), base, fraction, spike, wire);
-    let t = r.latency;
-    let next = r.next;
+    let mut cursor = Cursor::at(key, count);
+    let t = link_latency::sample_latency(&mut cursor, base, fraction, spike, wire);
     Delay {
         ns: t.ns,
-        count: next.count,
+        count: cursor.count,
     }
 }
 
-fn sample(setup: &[u64], prices: &[u64], key: [u32; 8], count: u64, v: [u64; 8]) -> Delay {
-    sampled(setup, key, count, cost(setup, prices, v[2], v[3], v[4]))
-}
-
-// As many samples as word 5 says, each behind the one before.
-fn samples(
-    v: [u64; 8],
-    key: [u32; 8],
-    setup: &[u64],
-    prices: &[u64],
-    text: &mut [u8],
-    used: usize,
-) -> usize {
-    let mut u = used;
-    let mut count = v[1];
-    let mut left = v[5];
-    while 0 < left {
-        let s = sample(setup, prices, key, count, v);
-        u = sim_answers::labelled(text, u, b" ", s.ns);
+// Samples on a stream record of its own, each behind the one before.
+pub fn latency(network: Network<'_>, call: Latency, page: &mut Printer) -> Outcome {
+    let Network { setup, prices, .. } = network;
+    if LAST < call.from || LAST < call.to {
+        return bad();
+    }
+    if LONGEST_WIRE < call.bytes {
+        return done(page, "latency", TOO_LONG);
+    }
+    if MOST_WORDS <= call.count {
+        return done(page, "latency", WORDS_SPENT);
+    }
+    page.text(b"latency");
+    let mut count = call.count;
+    for _ in 0..call.times {
+        let cost = cost(setup, prices, call.from, call.to, call.bytes);
+        let s = sampled(setup, call.key, count, cost);
+        page.print(format_args!(" {}", s.ns));
         count = s.count;
-        left -= 1;
     }
-    sim_answers::ended(text, u, b" words=", count)
-}
-
-// Samples on a stream record of its own: key, word count, from, to, bytes, how many.
-pub fn latency(
-    v: [u64; 8],
-    key: &[u8],
-    setup: &[u64],
-    prices: &[u64],
-    text: &mut [u8],
-    used: usize,
-) -> Outcome {
-    if LAST < v[2] {
-        return bad(used);
-    }
-    if LAST < v[3] {
-        return bad(used);
-    }
-    if LONGEST_WIRE < v[4] {
-        return done(text, used, b"latency", TOO_LONG);
-    }
-    if MOST_WORDS <= v[1] {
-        return done(text, used, b"latency", WORDS_SPENT);
-    }
-    let a = sim_answers::say(text, used, b"latency");
-    let b = samples(v, sim_spelling::bytes::key_of(key), setup, prices, text, a);
-    told(b, 0)
+    page.print(format_args!(" words={count}\n"));
+    told(0)
 }
 
 // Stops a block at that time, or a down till?
-fn is_stopped(setup: &[u64], net: &[u64], tills: &[u64], blocks: &[u64], v: [u64; 8]) -> bool {
-    let blocked = call_block::is_blocked(setup, net, blocks, v[0], v[1], v[2]);
-    if blocked.value == 1 {
-        return true;
-    }
-    let from = call_till::is_down(setup, tills, v[0]);
-    if from.value == 1 {
-        return true;
-    }
-    let to = call_till::is_down(setup, tills, v[1]);
-    to.value == 1
+fn is_stopped(setup: &[u64], net: &[u64], tills: &[u64], blocks: &[u64], m: Message) -> bool {
+    let blocked = Value::from(call_block::is_blocked(setup, net, blocks, m.from, m.to, m.at));
+    let from = Value::from(call_till::is_down(setup, tills, m.from));
+    let to = Value::from(call_till::is_down(setup, tills, m.to));
+    blocked.value == 1 || from.value == 1 || to.value == 1
 }
 
 // The questions of a message from till to till: 4, 6, 7 and 8.
-fn should_refusal(v: [u64; 8], tills: u64, count: u64) -> u64 {
-    if tills <= v[0] {
+fn should_refusal(m: Message, tills: u64, count: u64) -> u64 {
+    if tills <= m.from || tills <= m.to {
         return NO_TILL;
     }
-    if tills <= v[1] {
-        return NO_TILL;
-    }
-    if LONGEST_WIRE < v[3] {
+    if LONGEST_WIRE < m.bytes {
         return TOO_LONG;
     }
-    if LATEST < v[2] {
+    if LATEST < m.at {
         return TOO_LATE;
     }
     if MOST_WORDS <= count {
@@ -329,25 +275,22 @@ fn lost(setup: &[u64], key: [u32; 8], count: u64) -> Loss {
         return Loss { hit: true, count };
     }
     let rate = math_float::of_any(ask_tables::cell(setup, ask_tables::LOSS));
-    let h = rand_draw::hits(rand_streams::at(key, count), rate);
-    let next = h.next;
+    let mut c = Cursor::at(key, count);
+    let hit = rand_draw::hits(&mut c, rate);
     Loss {
-        hit: h.hit,
-        count: next.count,
+        hit,
+        count: c.count,
     }
 }
 
-fn unsent(text: &mut [u8], used: usize, count: u64) -> Outcome {
-    let u = sim_answers::ended(text, used, b"should - words=", count);
-    told(u, 0)
+fn unsent(page: &mut Printer, count: u64) -> Outcome {
+    page.print(format_args!("should - words={count}\n"));
+    told(0)
 }
 
 // The place of a link's word count.
 fn place(from: u64, to: u64) -> usize {
-    if ask_tables::MOST_TILLS <= from {
-        return ask_tables::LINKS;
-    }
-    if ask_tables::MOST_TILLS <= to {
+    if ask_tables::MOST_TILLS <= from || ask_tables::MOST_TILLS <= to {
         return ask_tables::LINKS;
     }
     (from * ask_tables::MOST_TILLS + to) as usize
@@ -355,50 +298,45 @@ fn place(from: u64, to: u64) -> usize {
 
 // The draws of a message that nothing stops: loss, then latency.
 fn drawn(
-    v: [u64; 8],
+    m: Message,
     setup: &[u64],
     prices: &[u64],
     words: &mut [u64],
-    text: &mut [u8],
-    used: usize,
+    page: &mut Printer,
 ) -> Outcome {
-    let at = place(v[0], v[1]);
-    let key = rand_streams::link_key(
-        ask_tables::cell(setup, ask_tables::SEED),
-        low(v[0]),
-        low(v[1]),
-    );
+    let at = place(m.from, m.to);
+    let seed = ask_tables::cell(setup, ask_tables::SEED);
+    let key = rand_streams::link_key(seed, low(m.from), low(m.to));
     let l = lost(setup, key, ask_tables::cell(words, at));
     if l.hit {
         ask_tables::put(words, at, l.count);
-        return unsent(text, used, l.count);
+        return unsent(page, l.count);
     }
-    let s = sampled(setup, key, l.count, cost(setup, prices, v[0], v[1], v[3]));
+    let cost = cost(setup, prices, m.from, m.to, m.bytes);
+    let s = sampled(setup, key, l.count, cost);
     ask_tables::put(words, at, s.count);
-    let a = sim_answers::labelled(text, used, b"should ", s.ns);
-    let b = sim_answers::ended(text, a, b" words=", s.count);
-    told(b, 0)
+    page.print(format_args!("should {} words={}\n", s.ns, s.count));
+    told(0)
 }
 
 // Would a message be delivered? Its draws move the link's own stream.
-pub fn should(
-    v: [u64; 8],
-    setup: &[u64],
-    net: &[u64],
-    tills: &[u64],
-    words: &mut [u64],
-    prices: &[u64],
-    blocks: &[u64],
-    text: &mut [u8],
-    used: usize,
-) -> Outcome {
-    let count = ask_tables::cell(words, place(v[0], v[1]));
-    let number = should_refusal(v, ask_tables::cell(setup, ask_tables::TILLS), count);
+pub fn should(network: Network<'_>, m: Message, page: &mut Printer) -> Outcome {
+    let Network {
+        setup,
+        net,
+        tills,
+        words,
+        prices,
+        blocks,
+        ..
+    } = network;
+    let count = ask_tables::cell(words, place(m.from, m.to));
+    let number = should_refusal(m, ask_tables::cell(setup, ask_tables::TILLS), count);
     if number != 0 {
-        return done(text, used, b"should", number);
+        return done(page, "should", number);
     }
-    if is_stopped(setup, net, tills, blocks, v) {
-        return unsent(text, used, count);
+    if is_stopped(setup, net, tills, blocks, m) {
+        return unsent(page, count);
     }
-    drawn(v, setup, prices, words, text, used)
+    drawn(m, setup, prices, words, page)
 }

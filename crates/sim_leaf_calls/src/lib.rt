@@ -4,5 +4,5 @@
 mod draw_calls;
 mod geography_calls;
 
-pub use draw_calls::draws;
-pub use geography_calls::{geography_call, latency, should};
+pub use draw_calls::{digest, draws, seconds};
+pub use geography_calls::{geography, latency, should};

@@ -1,43 +1,45 @@
-// Front parts of tables, to lend, and a text put to the front of a buffer.
+// The tables of a simulated network, front parts of tables, to lend, and a text put to the front of a buffer.
 #![tactic(auto)]
 
 ghost use Rattle.std.specs.Prelude.{◌≡◌, take};
 
-// The first n words, or all where there are fewer.
-pub fn front(s: &mut [u64], n: usize) -> &mut [u64] {
-    if n < s.len() {
-        return &mut s[0..n];
-    }
-    s
+// The tables of a network, and room for the rows and the lists that its calls give out.
+#[derive(Drop)]
+pub struct Network<'a> {
+    pub setup: &'a mut [u64],
+    pub net: &'a mut [u64],
+    pub names: &'a mut [u8],
+    pub tills: &'a mut [u64],
+    pub words: &'a mut [u64],
+    pub keys: &'a mut [u32],
+    pub prices: &'a mut [u64],
+    pub seen: &'a mut [u64],
+    pub waiting: &'a mut [u64],
+    pub rings: &'a mut [u64],
+    pub rules: &'a mut [u64],
+    pub blocks: &'a mut [u64],
+    pub log: &'a mut [u64],
+    pub out: &'a mut [u64],
 }
 
-// The first n words of 32 bits, or all where there are fewer.
-pub fn front32(s: &mut [u32], n: usize) -> &mut [u32] {
-    if n < s.len() {
-        return &mut s[0..n];
-    }
-    s
+// The first n cells, or all where there are fewer.
+pub fn front<T>(s: &mut [T], n: usize) -> &mut [T]
+    ensures { result.now ≡ take n s.old }
+{
+    let most = n.min(s.len());
+    &mut s[..most]
 }
 
-// The first n words, to read.
-pub fn part(s: &[u64], n: usize) -> &[u64]
+// The first n cells, to read.
+pub fn part<T>(s: &[T], n: usize) -> &[T]
     ensures { result.now ≡ take n s.now }
 {
-    if n < s.len() {
-        return &s[0..n];
-    }
-    s
+    math_parts::front(s, n)
 }
 
 // As much of the text as the buffer holds; how many bytes.
 pub fn copied(buf: &mut [u8], text: &[u8]) -> usize {
-    let mut i: usize = 0;
-    while i < text.len() {
-        if buf.len() <= i {
-            return i;
-        }
-        buf[i] = text[i];
-        i += 1;
-    }
-    i
+    let n = text.len().min(buf.len());
+    buf[..n].copy_from_slice(&text[..n]);
+    n
 }

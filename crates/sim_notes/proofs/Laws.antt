@@ -1,5 +1,5 @@
 -- A note is its parts in a row: each law takes the equation of every part, over plain lists.
-use Rattle.std.proofs.Common.{◌≡◌, ℕ, ◌+◌, ◌-◌, ◌*◌, ◌%◌, ◌^◌, ◌<◌, ◌≤◌, min, List, get_or, take, sym, refl, ap, ◌∙◌, add-one, arith, le-ltb, lt-ltb, eq-eqb, ne_eqb}
+use Rattle.std.proofs.Common.{◌≡◌, ℕ, ◌+◌, ◌-◌, ◌*◌, ◌%◌, ◌^◌, ◌<◌, ◌≤◌, min, List, get_or, take, sym, refl, ap, ◌∙◌, add-one, arith, le-ltb, lt-ltb, eq-eqb, ne_eqb, eqb, not}
 use Rattle.table_waiting.specs.Waiting as waiting
 use Rattle.spec_network.specs.Opening.{most_tills, most_classes, most_slots}
 use Rattle.spec_network.specs.Tables.{cell, sequence_at, waiting_at}
@@ -7,10 +7,14 @@ use Rattle.call_reply.specs.declared.Value.{Value}
 use Rattle.call_waiting.specs.Call.{Reads, DoesTransit}
 use Rattle.call_log.specs.Call.{DoesTally}
 use Rattle.call_log.specs.declared.Tallied.{Tallied}
+use Rattle.sim_script.specs.declared.calls.Call.{Call}
+use Rattle.sim_figures.specs.declared.Five.{Five}
+use Rattle.sim_figures.specs.declared.Tally.{Tally}
+use Rattle.sim_figures.specs.declared.Figures.{Figures}
 use Rattle.sim_figures.specs.Notes.{opened_note, down_note, up_note, accepted_note, refused_note, row_note, drop_note, wait_note, transit_note, flushed_note, tallied_note, standing_note}
 use Rattle.spec_network.specs.Lending.{no_tables}
-use Rattle.sim_notes.specs.Noted.{accept_line, flush_line, flush_rows_line, down_line, up_line, drain_line, last_number, total_of, marks_in, tally_in, class_tallied, tallies_of, log_words, tallies_note}
-use Rattle.sim_notes.specs.Noted.{before_note, sequence_of, row_width, copies_at, Noted, noted, due_note, due_notes, rows_words, flush_note, accept_note, taken_note, after_note, opening_note, waits_of, transit_in, till_transit, transits_of, wait_words, transits_note, end_note}
+use Rattle.sim_notes.specs.Noted.{last_number, total_of, marks_in, tally_in, class_tallied, tallies_of, log_words, tallies_note}
+use Rattle.sim_notes.specs.Noted.{tally_figures, said_in, five_in, sequence_of, row_width, Noted, noted, due_note, due_notes, rows_words, flush_note, taken_note, after_note, opening_note, waits_of, transit_in, till_transit, transits_of, wait_words, transits_note, end_note}
 
 -- ---- Marks
 
@@ -33,205 +37,153 @@ total_end setup seen total t n k a b ek en e =
 
 -- ---- Tallies
 
-pub class_noted : (d d' setup log : List ℕ) (k : ℕ) (r : Tallied) → DoesTally setup log k r → d' ≡ tallied_note d k r.deliveries r.bytes → d' ≡ class_tallied d setup log k
+pub class_noted : (d d' : Figures) (setup log : List ℕ) (k : ℕ) (r : Tallied) → DoesTally setup log k r → d' ≡ tallied_note d k (tally_figures r) → d' ≡ class_tallied d setup log k
 unfolding DoesTally class_tallied tally_in
-class_noted d d' setup log k r does e = e ∙ ap (λ (t : Tallied). tallied_note d k t.deliveries t.bytes) (does no_tables).0
+class_noted d d' setup log k r does e = e ∙ ap (λ (t : Tallied). tallied_note d k (tally_figures t)) (does no_tables).0
 
-pub tallies_none : (d setup log : List ℕ) → d ≡ tallies_of d setup log 0
+pub tallies_none : (d : Figures) (setup log : List ℕ) → d ≡ tallies_of d setup log 0
 unfolding tallies_of
 tallies_none d setup log = refl
 
-pub tallies_more : (d e e' setup log : List ℕ) (k : ℕ) → e ≡ tallies_of d setup log k → e' ≡ class_tallied e setup log k → e' ≡ tallies_of d setup log (k + 1)
+pub tallies_more : (d e e' : Figures) (setup log : List ℕ) (k : ℕ) → e ≡ tallies_of d setup log k → e' ≡ class_tallied e setup log k → e' ≡ tallies_of d setup log (k + 1)
 unfolding tallies_of
 tallies_more d e e' setup log k p q = rw add-one (whole p q)
   where
     whole : e ≡ tallies_of d setup log k → e' ≡ class_tallied e setup log k → e' ≡ class_tallied (tallies_of d setup log k) setup log k
     whole p q = cc
 
-pub tallies_end : (d e setup log : List ℕ) (k : ℕ) → k ≤ most_classes → most_classes ≤ k → e ≡ tallies_of d setup log k → e ≡ tallies_of d setup log most_classes
+pub tallies_end : (d e : Figures) (setup log : List ℕ) (k : ℕ) → k ≤ most_classes → most_classes ≤ k → e ≡ tallies_of d setup log k → e ≡ tallies_of d setup log most_classes
 tallies_end d e setup log k a b p =
     let same : k ≡ most_classes = omega arith in
     p ∙ ap (λ (x : ℕ). tallies_of d setup log x) same
 
-pub tallied : (d e setup log part : List ℕ) (n : ℕ) → n ≡ log_words setup → part ≡ take n log → e ≡ tallies_of d setup part most_classes → e ≡ tallies_note d setup log
+pub tallied : (d e : Figures) (setup log part : List ℕ) (n : ℕ) → n ≡ log_words setup → part ≡ take n log → e ≡ tallies_of d setup part most_classes → e ≡ tallies_note d setup log
 unfolding tallies_note
 tallied d e setup log part n en ep e₁ = e₁ ∙ ap (λ (x : List ℕ). tallies_of d setup x most_classes) (ep ∙ ap (λ (x : ℕ). take x log) en)
-
-pub drain_before : (d e setup log : List ℕ) (which : ℕ) → which ≡ drain_line → e ≡ tallies_note d setup log → e ≡ before_note d which setup log
-unfolding before_note
-drain_before d e setup log which h p = simp (eq-eqb which drain_line h) p
-
-pub other_before : (d setup log : List ℕ) (which : ℕ) → (which ≡ drain_line → ⊥) → d ≡ before_note d which setup log
-unfolding before_note
-other_before d setup log which h = simp (ne_eqb which drain_line h)
 
 -- ---- A flush
 
 pub landed :
-    (d d' out : List ℕ) (at row q r : ℕ) → q ≡ get_or d (at + sequence_of) 0 → r ≡ get_or out (row + sequence_of) 0 → q ≡ r → d' ≡ row_note d out row
-    → noted d' (row + row_width) ≡ due_note (noted d row) out at
+    (d d' : Figures) (due out : List ℕ) (at row q r : ℕ) → q ≡ get_or due (at + sequence_of) 0 → r ≡ get_or out (row + sequence_of) 0 → q ≡ r → d' ≡ row_note d out row
+    → noted d' (row + row_width) ≡ due_note (noted d row) due out at
 unfolding due_note
-landed d d' out at row q r eq er same e =
-    simp (eq-eqb (get_or d (at + sequence_of) 0) (get_or out (row + sequence_of) 0) (sym eq ∙ (same ∙ er))) (ap (λ (x : List ℕ). noted x (row + row_width)) e)
+landed d d' due out at row q r eq er same e =
+    simp (eq-eqb (get_or due (at + sequence_of) 0) (get_or out (row + sequence_of) 0) (sym eq ∙ (same ∙ er))) (ap (λ (x : Figures). noted x (row + row_width)) e)
 
 pub lost :
-    (d d' out : List ℕ) (at row q r : ℕ) → q ≡ get_or d (at + sequence_of) 0 → r ≡ get_or out (row + sequence_of) 0 → (q ≡ r → ⊥) → d' ≡ drop_note d d at
-    → noted d' row ≡ due_note (noted d row) out at
+    (d d' : Figures) (due out : List ℕ) (at row q r : ℕ) → q ≡ get_or due (at + sequence_of) 0 → r ≡ get_or out (row + sequence_of) 0 → (q ≡ r → ⊥) → d' ≡ drop_note d due at
+    → noted d' row ≡ due_note (noted d row) due out at
 unfolding due_note
-lost d d' out at row q r eq er other e =
-    simp (ne_eqb (get_or d (at + sequence_of) 0) (get_or out (row + sequence_of) 0) (λ same. other (eq ∙ (same ∙ sym er)))) (ap (λ (x : List ℕ). noted x row) e)
+lost d d' due out at row q r eq er other e =
+    simp (ne_eqb (get_or due (at + sequence_of) 0) (get_or out (row + sequence_of) 0) (λ same. other (eq ∙ (same ∙ sym er)))) (ap (λ (x : Figures). noted x row) e)
 
-pub due_none : (d out : List ℕ) → noted d 0 ≡ due_notes d out 0
+pub due_none : (d : Figures) (due out : List ℕ) → noted d 0 ≡ due_notes d due out 0
 unfolding due_notes
-due_none d out = refl
+due_none d due out = refl
 
 pub due_more :
-    (d e e' out : List ℕ) (row row' i : ℕ) → noted e row ≡ due_notes d out i → noted e' row' ≡ due_note (noted e row) out (copies_at + i * waiting.width)
-    → noted e' row' ≡ due_notes d out (i + 1)
+    (d e e' : Figures) (due out : List ℕ) (row row' i : ℕ) → noted e row ≡ due_notes d due out i → noted e' row' ≡ due_note (noted e row) due out (i * waiting.width)
+    → noted e' row' ≡ due_notes d due out (i + 1)
 unfolding due_notes
-due_more d e e' out row row' i p q = rw add-one (whole p q)
+due_more d e e' due out row row' i p q = rw add-one (whole p q)
   where
     whole :
-        noted e row ≡ due_notes d out i → noted e' row' ≡ due_note (noted e row) out (copies_at + i * waiting.width)
-        → noted e' row' ≡ due_note (due_notes d out i) out (copies_at + i * waiting.width)
-    whole p q = q ∙ ap (λ (x : Noted). due_note x out (copies_at + i * waiting.width)) p
+        noted e row ≡ due_notes d due out i → noted e' row' ≡ due_note (noted e row) due out (i * waiting.width)
+        → noted e' row' ≡ due_note (due_notes d due out i) due out (i * waiting.width)
+    whole p q = q ∙ ap (λ (x : Noted). due_note x due out (i * waiting.width)) p
 
-pub due_end : (d e out : List ℕ) (row i n : ℕ) → i ≤ n → n ≤ i → noted e row ≡ due_notes d out i → e ≡ (due_notes d out n).held
-due_end d e out row i n a b p =
+pub due_end : (d e : Figures) (due out : List ℕ) (row i n : ℕ) → i ≤ n → n ≤ i → noted e row ≡ due_notes d due out i → e ≡ (due_notes d due out n).held
+due_end d e due out row i n a b p =
     let same : i ≡ n = omega arith in
-    ap (λ (x : Noted). x.held) (p ∙ ap (λ (x : ℕ). due_notes d out x) same)
+    ap (λ (x : Noted). x.held) (p ∙ ap (λ (x : ℕ). due_notes d due out x) same)
 
 pub flushes :
-    (d e e' out part counts : List ℕ) (n w gone : ℕ) → n ≡ min (get_or counts 3 0) most_slots → w ≡ rows_words (get_or counts 0 0) → part ≡ take w out → e ≡ (due_notes d part n).held
-    → e' ≡ flushed_note e (get_or counts 0 0) (get_or counts 1 0) (get_or counts 2 0) gone → e' ≡ flush_note d counts gone out
+    (d e e' : Figures) (due out part counts : List ℕ) (n w gone : ℕ) → n ≡ min (get_or counts 3 0) most_slots → w ≡ rows_words (get_or counts 0 0) → part ≡ take w out → e ≡ (due_notes d due part n).held
+    → e' ≡ flushed_note e (said_in counts) gone → e' ≡ flush_note d due counts gone out
 unfolding flush_note
-flushes d e e' out part counts n w gone en ew ep p q = cc
-
--- ---- A line that no number refused
-
-pub accepts :
-    (d e v counts net : List ℕ) (q : ℕ) → q ≡ get_or net sequence_at 0
-    → e ≡ accepted_note d (get_or v 0 0) (get_or v 4 0) (get_or v 6 0) (get_or counts 0 0) (get_or counts 1 0) (get_or counts 2 0) (get_or counts 3 0) (get_or counts 4 0) q
-    → e ≡ accept_note d v counts net
-unfolding accept_note
-accepts d e v counts net q eq p = cc
-
-pub took_accept : (d e v counts net out : List ℕ) (which gone : ℕ) → which ≡ accept_line → e ≡ accept_note d v counts net → e ≡ taken_note d which v counts gone net out
-unfolding taken_note
-took_accept d e v counts net out which gone h p = simp (eq-eqb which accept_line h) p
-
-pub took-flush :
-    (d e v counts net out : List ℕ) (which gone : ℕ) → (which ≡ accept_line → ⊥) → which ≡ flush_line → e ≡ flush_note d counts gone out → e ≡ taken_note d which v counts gone net out
-unfolding taken_note
-took-flush d e v counts net out which gone n h p = simp (ne_eqb which accept_line n, eq-eqb which flush_line h) p
-
-pub took-rows :
-    (d e v counts net out : List ℕ) (which gone : ℕ) → (which ≡ accept_line → ⊥) → (which ≡ flush_line → ⊥) → which ≡ flush_rows_line → e ≡ flush_note d counts gone out
-    → e ≡ taken_note d which v counts gone net out
-unfolding taken_note
-took-rows d e v counts net out which gone n m h p = simp (ne_eqb which accept_line n, ne_eqb which flush_line m, eq-eqb which flush_rows_line h) p
-
-pub took-down :
-    (d e v counts net out : List ℕ) (which gone : ℕ) → (which ≡ accept_line → ⊥) → (which ≡ flush_line → ⊥) → (which ≡ flush_rows_line → ⊥) → which ≡ down_line
-    → e ≡ down_note d (get_or v 0 0) gone → e ≡ taken_note d which v counts gone net out
-unfolding taken_note
-took-down d e v counts net out which gone n m k h p = simp (ne_eqb which accept_line n, ne_eqb which flush_line m, ne_eqb which flush_rows_line k, eq-eqb which down_line h) p
-
-pub took-up :
-    (d e v counts net out : List ℕ) (which gone : ℕ) → (which ≡ accept_line → ⊥) → (which ≡ flush_line → ⊥) → (which ≡ flush_rows_line → ⊥) → (which ≡ down_line → ⊥) → which ≡ up_line
-    → e ≡ up_note d (get_or v 0 0) (get_or v 1 0) → e ≡ taken_note d which v counts gone net out
-unfolding taken_note
-took-up d e v counts net out which gone n m k j h p =
-    simp (ne_eqb which accept_line n, ne_eqb which flush_line m, ne_eqb which flush_rows_line k, ne_eqb which down_line j, eq-eqb which up_line h) p
-
-pub took-none :
-    (d v counts net out : List ℕ) (which gone : ℕ) → (which ≡ accept_line → ⊥) → (which ≡ flush_line → ⊥) → (which ≡ flush_rows_line → ⊥) → (which ≡ down_line → ⊥)
-    → (which ≡ up_line → ⊥) → d ≡ taken_note d which v counts gone net out
-unfolding taken_note
-took-none d v counts net out which gone n m k j i =
-    simp (ne_eqb which accept_line n, ne_eqb which flush_line m, ne_eqb which flush_rows_line k, ne_eqb which down_line j, ne_eqb which up_line i)
+flushes d e e' due out part counts n w gone en ew ep p q = cc
 
 -- ---- Behind a line, and behind an opening
 
-pub after_none : (d v counts setup net seen out : List ℕ) (which number stood : ℕ) → last_number < number → d ≡ after_note d which v number counts stood setup net seen out
+pub after_none : (d : Figures) (due counts setup net seen out : List ℕ) (call : Call) (number stood : ℕ) → last_number < number → d ≡ after_note d due call number counts stood setup net seen out
 unfolding after_note
-after_none d v counts setup net seen out which number stood h = simp (lt-ltb last_number number h)
+after_none d due counts setup net seen out call number stood h = simp (lt-ltb last_number number h)
 
 pub after-refused :
-    (d e v counts setup net seen out : List ℕ) (which number stood : ℕ) → number ≤ last_number → 0 < number → e ≡ refused_note d number
-    → e ≡ after_note d which v number counts stood setup net seen out
+    (d e : Figures) (due counts setup net seen out : List ℕ) (call : Call) (number stood : ℕ) → number ≤ last_number → 0 < number → e ≡ refused_note d number
+    → e ≡ after_note d due call number counts stood setup net seen out
 unfolding after_note
-after-refused d e v counts setup net seen out which number stood a b p = simp (le-ltb last_number number a, lt-ltb 0 number b) p
+after-refused d e due counts setup net seen out call number stood a b p = simp (le-ltb last_number number a, lt-ltb 0 number b) p
 
 pub after-taken :
-    (d e v counts setup net seen out : List ℕ) (which number stood m gone : ℕ) → number ≤ last_number → number ≤ 0 → m ≡ marks_in setup seen → gone ≡ stood - m
-    → e ≡ taken_note d which v counts gone net out → e ≡ after_note d which v number counts stood setup net seen out
+    (d e : Figures) (due counts setup net seen out : List ℕ) (call : Call) (number stood m gone : ℕ) → number ≤ last_number → number ≤ 0 → m ≡ marks_in setup seen → gone ≡ stood - m
+    → e ≡ taken_note d due call counts gone net out → e ≡ after_note d due call number counts stood setup net seen out
 unfolding after_note
-after-taken d e v counts setup net seen out which number stood m gone a b em eg p =
-    simp (le-ltb last_number number a, le-ltb 0 number b) (p ∙ ap (λ (x : ℕ). taken_note d which v counts x net out) (eg ∙ ap (λ (x : ℕ). stood - x) em))
+after-taken d e due counts setup net seen out call number stood m gone a b em eg p =
+    simp (le-ltb last_number number a, le-ltb 0 number b) (p ∙ ap (λ (x : ℕ). taken_note d due call counts x net out) (eg ∙ ap (λ (x : ℕ). stood - x) em))
 
-pub opening_none : (d masks net : List ℕ) (number tills log : ℕ) → last_number < number → d ≡ opening_note d number tills masks log net
+pub opening_none : (d : Figures) (masks net : List ℕ) (number tills log : ℕ) → last_number < number → d ≡ opening_note d number tills masks log net
 unfolding opening_note
 opening_none d masks net number tills log h = simp (lt-ltb last_number number h)
 
-pub opening_refused : (d e masks net : List ℕ) (number tills log : ℕ) → number ≤ last_number → 0 < number → e ≡ refused_note d number → e ≡ opening_note d number tills masks log net
+pub opening_refused : (d e : Figures) (masks net : List ℕ) (number tills log : ℕ) → number ≤ last_number → 0 < number → e ≡ refused_note d number → e ≡ opening_note d number tills masks log net
 unfolding opening_note
 opening_refused d e masks net number tills log a b p = simp (le-ltb last_number number a, lt-ltb 0 number b) p
 
 pub opening-taken :
-    (d e masks net : List ℕ) (number tills log q : ℕ) → number ≤ last_number → number ≤ 0 → q ≡ get_or net sequence_at 0 → e ≡ opened_note d tills masks log q
+    (d e : Figures) (masks net : List ℕ) (number tills log q : ℕ) → number ≤ last_number → number ≤ 0 → q ≡ get_or net sequence_at 0 → e ≡ opened_note tills masks log q
     → e ≡ opening_note d number tills masks log net
 unfolding opening_note
 opening-taken d e masks net number tills log q a b eq p =
-    simp (le-ltb last_number number a, le-ltb 0 number b) (p ∙ ap (λ (x : ℕ). opened_note d tills masks log x) eq)
+    simp (le-ltb last_number number a, le-ltb 0 number b) (p ∙ ap (λ (x : ℕ). opened_note tills masks log x) eq)
 
 -- ---- The end
 
-pub waits_none : (d copies : List ℕ) → d ≡ waits_of d copies 0
+pub waits_none : (d : Figures) (copies : List ℕ) → d ≡ waits_of d copies 0
 unfolding waits_of
 waits_none d copies = refl
 
-pub waits_more : (d e e' copies : List ℕ) (i : ℕ) → e ≡ waits_of d copies i → e' ≡ wait_note e copies (i * waiting.width) → e' ≡ waits_of d copies (i + 1)
+pub waits_more : (d e e' : Figures) (copies : List ℕ) (i : ℕ) → e ≡ waits_of d copies i → e' ≡ wait_note e copies (i * waiting.width) → e' ≡ waits_of d copies (i + 1)
 unfolding waits_of
 waits_more d e e' copies i p q = rw add-one (whole p q)
   where
     whole : e ≡ waits_of d copies i → e' ≡ wait_note e copies (i * waiting.width) → e' ≡ wait_note (waits_of d copies i) copies (i * waiting.width)
     whole p q = cc
 
-pub waits_end : (d e copies : List ℕ) (i n : ℕ) → i ≤ n → n ≤ i → e ≡ waits_of d copies i → e ≡ waits_of d copies n
+pub waits_end : (d e : Figures) (copies : List ℕ) (i n : ℕ) → i ≤ n → n ≤ i → e ≡ waits_of d copies i → e ≡ waits_of d copies n
 waits_end d e copies i n a b p =
     let same : i ≡ n = omega arith in
     p ∙ ap (λ (x : ℕ). waits_of d copies x) same
 
 -- in transit
-pub transit_noted : (d d' setup net copies : List ℕ) (t : ℕ) (r : Value) → DoesTransit setup net copies t r → d' ≡ transit_note d t r.value → d' ≡ till_transit d setup net copies t
+pub transit_noted : (d d' : Figures) (setup net copies : List ℕ) (t : ℕ) (r : Value) → DoesTransit setup net copies t r → d' ≡ transit_note d t r.value → d' ≡ till_transit d setup net copies t
 unfolding Reads till_transit transit_in
 transit_noted d d' setup net copies t r does e = e ∙ ap (λ (v : Value). transit_note d t v.value) (does no_tables).0
 
-pub transits_none : (d setup net copies : List ℕ) → d ≡ transits_of d setup net copies 0
+pub transits_none : (d : Figures) (setup net copies : List ℕ) → d ≡ transits_of d setup net copies 0
 unfolding transits_of
 transits_none d setup net copies = refl
 
-pub transits_more : (d e e' setup net copies : List ℕ) (t : ℕ) → e ≡ transits_of d setup net copies t → e' ≡ till_transit e setup net copies t → e' ≡ transits_of d setup net copies (t + 1)
+pub transits_more : (d e e' : Figures) (setup net copies : List ℕ) (t : ℕ) → e ≡ transits_of d setup net copies t → e' ≡ till_transit e setup net copies t → e' ≡ transits_of d setup net copies (t + 1)
 unfolding transits_of
 transits_more d e e' setup net copies t p q = rw add-one (whole p q)
   where
     whole : e ≡ transits_of d setup net copies t → e' ≡ till_transit e setup net copies t → e' ≡ till_transit (transits_of d setup net copies t) setup net copies t
     whole p q = cc
 
-pub transits_end : (d e setup net copies : List ℕ) (t n : ℕ) → t ≤ n → n ≤ t → e ≡ transits_of d setup net copies t → e ≡ transits_of d setup net copies n
+pub transits_end : (d e : Figures) (setup net copies : List ℕ) (t n : ℕ) → t ≤ n → n ≤ t → e ≡ transits_of d setup net copies t → e ≡ transits_of d setup net copies n
 transits_end d e setup net copies t n a b p =
     let same : t ≡ n = omega arith in
     p ∙ ap (λ (x : ℕ). transits_of d setup net copies x) same
 
 pub transited :
-    (d e setup net copies part : List ℕ) (k n w : ℕ) → k ≡ get_or setup 0 0 → n ≡ min k most_tills → w ≡ wait_words setup → part ≡ take w copies → e ≡ transits_of d setup net part n
+    (d e : Figures) (setup net copies part : List ℕ) (k n w : ℕ) → k ≡ get_or setup 0 0 → n ≡ min k most_tills → w ≡ wait_words setup → part ≡ take w copies → e ≡ transits_of d setup net part n
     → e ≡ transits_note d setup net copies
 unfolding transits_note
 transited d e setup net copies part k n w ek en ew ep e₁ = cc
 
 pub ends :
-    (d e₁ e₂ e₃ e₄ setup net seen copies log : List ℕ) (k n m : ℕ) → k ≡ get_or net waiting_at 0 → n ≡ min k most_slots → e₁ ≡ waits_of d copies n → e₂ ≡ transits_note e₁ setup net copies
+    (d e₁ e₂ e₃ e₄ : Figures) (setup net seen copies log : List ℕ) (k n m : ℕ) → k ≡ get_or net waiting_at 0 → n ≡ min k most_slots → e₁ ≡ waits_of d copies n → e₂ ≡ transits_note e₁ setup net copies
     → e₃ ≡ tallies_note e₂ setup log → m ≡ marks_in setup seen → e₄ ≡ standing_note e₃ m → e₄ ≡ end_note d setup net seen copies log
 unfolding end_note
 ends d e₁ e₂ e₃ e₄ setup net seen copies log k n m ek en p t q em r = cc

@@ -1,12 +1,16 @@
 // The notes that a run of a script takes: behind each line, from its words, its outcome, and how many marks the tables count.
-// One table, `due`, holds the figures and, behind them, the copies that a flush keeps for its answer.
+// `due` holds the copies that a flush keeps for its answer.
 #![tactic(auto)]
 
-ghost use Rattle.std.specs.Prelude.{◌≡◌, ◌+◌, ◌-◌, ◌≤◌};
+ghost use Rattle.std.specs.Prelude.{◌≡◌, ◌+◌, ◌≤◌};
 ghost use Rattle.spec_network.specs.Opening.{most_classes, most_slots};
 ghost use Rattle.sim_notes.specs.Noted as noted;
 
-use sim_script::calls;
+use ask_tables::{MOST_SLOTS, cell};
+use call_log::Tallied;
+use call_reply::Value;
+use sim_figures::{Figures, Five, Said, Tally};
+use sim_script::{Accept, Call, Change};
 
 // Where a copy has its sequence.
 const SEQUENCE: usize = table_delivery::WIDTH;
@@ -16,39 +20,17 @@ const LAST: u64 = 24;
 
 const CLASSES: u64 = ask_tables::MOST_CLASSES;
 
-// Where the due copies stand in their table, and how many words it has.
-const COPIES: usize = sim_figures::SIZE;
-
-pub const WIDTH: usize = COPIES + ask_tables::MOST_SLOTS as usize * table_waiting::WIDTH;
-
-// The due copies of the table.
-pub fn copies_in(due: &mut [u64]) -> &mut [u64] {
-    if due.len() < COPIES {
-        return &mut due[0..0];
-    }
-    &mut due[COPIES..]
-}
-
-// What is left of a without b; 0 where b is more.
-fn less(a: u64, b: u64) -> u64
-    ensures { result ≡ a - b }
-{
-    if b < a { a - b } else { 0 }
-}
+// How many words the due copies have.
+pub const WIDTH: usize = MOST_SLOTS as usize * table_waiting::WIDTH;
 
 // How many marks stand, of all tills.
 pub fn marks(setup: &[u64], seen: &[u64]) -> u64
     ensures { result ≡ noted.marks_in setup.now seen.now }
 {
-    let n = sim_figures::least(
-        ask_tables::cell(setup, ask_tables::TILLS),
-        ask_tables::MOST_TILLS,
-    ) as usize;
+    let n = cell(setup, ask_tables::TILLS).min(ask_tables::MOST_TILLS);
     let mut total: u64 = 0;
-    let mut t: usize = 0;
-    while t < n {
-        total = std::num::wrapping_add_u64(total, ask_tables::cell(seen, t));
-        t += 1;
+    for t in 0..n {
+        total = total.wrapping_add(cell(seen, t as usize));
     }
     total
 }
@@ -57,73 +39,70 @@ pub fn marks(setup: &[u64], seen: &[u64]) -> u64
 fn log_size(setup: &[u64]) -> usize
     ensures { result ≡ noted.log_words setup.now }
 {
-    let slots = sim_figures::least(
-        ask_tables::cell(setup, ask_tables::LOG_SLOTS),
-        ask_tables::MOST_SLOTS,
-    ) as usize;
+    let slots = cell(setup, ask_tables::LOG_SLOTS).min(MOST_SLOTS) as usize;
     table_log::RECORDS + slots * table_delivery::WIDTH
 }
 
 // The tally of a class.
-fn tally(due: &mut [u64], setup: &[u64], log: &[u64], class: u64)
-    ensures { due.new ≡ noted.class_tallied due.old setup.now log.now «class» }
+fn tally(figures: &mut Figures, setup: &[u64], log: &[u64], class: u64)
+    ensures { figures.new ≡ noted.class_tallied figures.old setup.now log.now «class» }
 {
-    let t = call_log::tally_of(setup, log, class);
-    sim_figures::tallied(due, class, t.deliveries, t.bytes);
+    let t = Tallied::from(call_log::tally_of(setup, log, class));
+    let tally = Tally {
+        deliveries: t.deliveries,
+        bytes: t.bytes,
+    };
+    figures.tallied(class, tally);
 }
 
 // The tallies of every class, in a log of the opening's size.
-fn tallies_of(due: &mut [u64], setup: &[u64], log: &[u64])
-    ensures { due.new ≡ noted.tallies_of due.old setup.now log.now most_classes }
+fn tallies_of(figures: &mut Figures, setup: &[u64], log: &[u64])
+    ensures { figures.new ≡ noted.tallies_of figures.old setup.now log.now most_classes }
 {
-    let mut class: u64 = 0;
-    while class < CLASSES {
-        tally(due, setup, log, class);
-        class += 1;
+    for class in 0..CLASSES {
+        tally(figures, setup, log, class);
     }
 }
 
 // The log's tallies of every class.
-fn tallies(due: &mut [u64], setup: &[u64], log: &[u64])
-    ensures { due.new ≡ noted.tallies_note due.old setup.now log.now }
+fn tallies(figures: &mut Figures, setup: &[u64], log: &[u64])
+    ensures { figures.new ≡ noted.tallies_note figures.old setup.now log.now }
 {
-    tallies_of(due, setup, sim_lend::part(log, log_size(setup)));
+    tallies_of(figures, setup, sim_lend::part(log, log_size(setup)));
 }
 
 // Before a line: a drain takes the tallies away.
-pub fn before(due: &mut [u64], which: u64, setup: &[u64], log: &[u64])
-    ensures { due.new ≡ noted.before_note due.old which setup.now log.now }
+#[tactic(auto, unfolding(crate::specs::Noted::before_note))]
+pub fn before(figures: &mut Figures, call: Call<'_>, setup: &[u64], log: &[u64])
+    ensures { figures.new ≡ noted.before_note figures.old call.entry setup.now log.now }
 {
-    if which == calls::DRAIN {
-        tallies(due, setup, log);
-        return;
+    if let Call::Drain = call {
+        tallies(figures, setup, log);
     }
 }
 
 // A copy that was due, at `at`: landed where it is the row at `row`, else dropped; where the next row stands then.
-fn due_copy(due: &mut [u64], at: usize, out: &[u64], row: usize) -> usize
+fn due_copy(figures: &mut Figures, due: &[u64], at: usize, out: &[u64], row: usize) -> usize
     requires { (at ≤ noted.copies_end) × (row ≤ noted.rows_end) }
-    ensures is { noted.noted due.new result ≡ noted.due_note (noted.noted due.old row) out.now at }
+    ensures is { noted.noted figures.new result ≡ noted.due_note (noted.noted figures.old row) due.now out.now at }
     ensures within { result ≤ row + noted.row_width }
 {
-    if ask_tables::cell(due, at + SEQUENCE) == ask_tables::cell(out, row + SEQUENCE) {
-        sim_figures::row(due, out, row);
+    if cell(due, at + SEQUENCE) == cell(out, row + SEQUENCE) {
+        figures.row(out, row);
         return row + call_flush_pass::ROW;
     }
-    sim_figures::dropped(due, at);
+    figures.drops(due, at);
     row
 }
 
 // The first n copies that were due.
-fn due_copies(due: &mut [u64], n: u64, out: &[u64])
+fn due_copies(figures: &mut Figures, due: &[u64], n: u64, out: &[u64])
     requires { n ≤ most_slots }
-    ensures { due.new ≡ (noted.due_notes due.old out.now n).held }
+    ensures { figures.new ≡ (noted.due_notes figures.old due.now out.now n).held }
 {
     let mut row: usize = 0;
-    let mut i: u64 = 0;
-    while i < n {
-        row = due_copy(due, COPIES + i as usize * table_waiting::WIDTH, out, row);
-        i += 1;
+    for i in 0..n {
+        row = due_copy(figures, due, i as usize * table_waiting::WIDTH, out, row);
     }
 }
 
@@ -131,76 +110,67 @@ fn due_copies(due: &mut [u64], n: u64, out: &[u64])
 fn rows_size(rows: u64) -> usize
     ensures { result ≡ noted.rows_words rows }
 {
-    let n = sim_figures::least(rows, ask_tables::MOST_SLOTS) as usize;
+    let n = rows.min(MOST_SLOTS) as usize;
     n * call_flush_pass::ROW
 }
 
 // A flush: its rows, delivered, dropped and due copies are counted; `gone` marks went. What lies behind the rows is older.
-fn flushed(due: &mut [u64], counts: [u64; 5], gone: u64, out: &[u64])
-    ensures { due.new ≡ noted.flush_note due.old counts gone out.now }
+fn flushed(figures: &mut Figures, due: &[u64], counts: [u64; 5], gone: u64, out: &[u64])
+    ensures { figures.new ≡ noted.flush_note figures.old due.now counts gone out.now }
 {
-    let n = sim_figures::least(counts[3], ask_tables::MOST_SLOTS);
-    due_copies(due, n, sim_lend::part(out, rows_size(counts[0])));
-    sim_figures::flushed(due, counts[0], counts[1], counts[2], gone);
+    let n = counts[3].min(MOST_SLOTS);
+    due_copies(figures, due, n, sim_lend::part(out, rows_size(counts[0])));
+    let said = Said {
+        rows: counts[0],
+        delivered: counts[1],
+        dropped: counts[2],
+    };
+    figures.flushed(said, gone);
 }
 
 // An accepted message.
-fn accepted(due: &mut [u64], v: [u64; 8], counts: [u64; 5], net: &[u64])
-    ensures { due.new ≡ noted.accept_note due.old v counts net.now }
+#[tactic(auto, unfolding(crate::specs::Noted::accept_note))]
+fn accepted(figures: &mut Figures, message: Accept<'_>, counts: [u64; 5], net: &[u64])
+    ensures { figures.new ≡ noted.accept_note figures.old message.entry counts net.now }
 {
-    sim_figures::accepted(
-        due,
-        v[0],
-        v[4],
-        v[6],
-        counts[0],
-        counts[1],
-        counts[2],
-        counts[3],
-        counts[4],
-        ask_tables::cell(net, ask_tables::SEQUENCE),
-    );
+    let five = Five {
+        sent: counts[0],
+        deduplicated: counts[1],
+        partition: counts[2],
+        loss: counts[3],
+        fault: counts[4],
+    };
+    let sequence = cell(net, ask_tables::SEQUENCE);
+    figures.accepted(message.from, message.scope, message.opens, five, sequence);
 }
 
-// A line that no number refused. Its words are those of the script's line.
+// A line that no number refused.
+#[tactic(auto, unfolding(crate::specs::Noted::taken_note))]
 fn taken(
-    due: &mut [u64],
-    which: u64,
-    v: [u64; 8],
+    figures: &mut Figures,
+    due: &[u64],
+    call: Call<'_>,
     counts: [u64; 5],
     gone: u64,
     net: &[u64],
     out: &[u64],
 )
-    ensures { due.new ≡ noted.taken_note due.old which v counts gone net.now out.now }
+    ensures { figures.new ≡ noted.taken_note figures.old due.now call.entry counts gone net.now out.now }
 {
-    if which == calls::ACCEPT {
-        accepted(due, v, counts, net);
-        return;
-    }
-    if which == calls::FLUSH {
-        flushed(due, counts, gone, out);
-        return;
-    }
-    if which == calls::FLUSH_ROWS {
-        flushed(due, counts, gone, out);
-        return;
-    }
-    if which == calls::DOWN {
-        sim_figures::went_down(due, v[0], gone);
-        return;
-    }
-    if which == calls::UP {
-        sim_figures::came_up(due, v[0], v[1]);
-        return;
+    match call {
+        Call::Accept(message) => accepted(figures, message, counts, net),
+        Call::Flush(_) => flushed(figures, due, counts, gone, out),
+        Call::Change(Change::Down { till }) => figures.went_down(till, gone),
+        Call::Change(Change::Up { till, shards }) => figures.came_up(till, shards),
+        _ => {}
     }
 }
 
 // Behind a line: its number and counts; so many marks stood before it.
 pub fn after(
-    due: &mut [u64],
-    which: u64,
-    v: [u64; 8],
+    figures: &mut Figures,
+    due: &[u64],
+    call: Call<'_>,
     number: u64,
     counts: [u64; 5],
     stood: u64,
@@ -209,43 +179,41 @@ pub fn after(
     seen: &[u64],
     out: &[u64],
 )
-    ensures { due.new ≡ noted.after_note due.old which v number counts stood setup.now net.now seen.now out.now }
+    ensures { figures.new ≡ noted.after_note figures.old due.now call.entry number counts stood setup.now net.now seen.now out.now }
 {
     if LAST < number {
         return;
     }
     if 0 < number {
-        sim_figures::refused(due, number);
+        figures.refused(number);
         return;
     }
-    let gone = less(stood, marks(setup, seen));
-    taken(due, which, v, counts, gone, net, out);
+    let gone = stood.saturating_sub(marks(setup, seen));
+    taken(figures, due, call, counts, gone, net, out);
 }
 
 // Behind an opening: its number, and the line's tills, masks and log slots.
-pub fn opened(due: &mut [u64], number: u64, tills: u64, masks: &[u64], log: u64, net: &[u64])
-    ensures { due.new ≡ noted.opening_note due.old number tills masks.now log net.now }
+pub fn opened(figures: &mut Figures, number: u64, tills: u64, masks: &[u64], log: u64, net: &[u64])
+    ensures { figures.new ≡ noted.opening_note figures.old number tills masks.now log net.now }
 {
     if LAST < number {
         return;
     }
     if 0 < number {
-        sim_figures::refused(due, number);
+        figures.refused(number);
         return;
     }
-    let first = ask_tables::cell(net, ask_tables::SEQUENCE);
-    sim_figures::opened(due, tills, masks, log, first);
+    let first = cell(net, ask_tables::SEQUENCE);
+    figures.opened(tills, masks, log, first);
 }
 
 // The first n copies that wait.
-fn waiting_copies(due: &mut [u64], waiting: &[u64], n: u64)
+fn waiting_copies(figures: &mut Figures, waiting: &[u64], n: u64)
     requires { n ≤ most_slots }
-    ensures { due.new ≡ noted.waits_of due.old waiting.now n }
+    ensures { figures.new ≡ noted.waits_of figures.old waiting.now n }
 {
-    let mut i: u64 = 0;
-    while i < n {
-        sim_figures::waits(due, waiting, i as usize * table_waiting::WIDTH);
-        i += 1;
+    for i in 0..n {
+        figures.waits(waiting, i as usize * table_waiting::WIDTH);
     }
 }
 
@@ -253,42 +221,34 @@ fn waiting_copies(due: &mut [u64], waiting: &[u64], n: u64)
 fn wait_size(setup: &[u64]) -> usize
     ensures { result ≡ noted.wait_words setup.now }
 {
-    let slots = sim_figures::least(
-        ask_tables::cell(setup, ask_tables::WAIT_SLOTS),
-        ask_tables::MOST_SLOTS,
-    ) as usize;
+    let slots = cell(setup, ask_tables::WAIT_SLOTS).min(MOST_SLOTS) as usize;
     slots * table_waiting::WIDTH
 }
 
 // What is in transit to a till, as the reading says.
-fn transit(due: &mut [u64], setup: &[u64], net: &[u64], waiting: &[u64], t: u64)
-    ensures { due.new ≡ noted.till_transit due.old setup.now net.now waiting.now t }
+fn transit(figures: &mut Figures, setup: &[u64], net: &[u64], waiting: &[u64], t: u64)
+    ensures { figures.new ≡ noted.till_transit figures.old setup.now net.now waiting.now t }
 {
-    let r = call_waiting::in_transit(setup, net, waiting, t);
-    sim_figures::in_transit(due, t, r.value);
+    let r = Value::from(call_waiting::in_transit(setup, net, waiting, t));
+    figures.in_transit(t, r.value);
 }
 
 // What is in transit to the first n tills, in a table of the opening's size.
-fn transits_of(due: &mut [u64], setup: &[u64], net: &[u64], waiting: &[u64], n: u64)
-    ensures { due.new ≡ noted.transits_of due.old setup.now net.now waiting.now n }
+fn transits_of(figures: &mut Figures, setup: &[u64], net: &[u64], waiting: &[u64], n: u64)
+    ensures { figures.new ≡ noted.transits_of figures.old setup.now net.now waiting.now n }
 {
-    let mut t: u64 = 0;
-    while t < n {
-        transit(due, setup, net, waiting, t);
-        t += 1;
+    for t in 0..n {
+        transit(figures, setup, net, waiting, t);
     }
 }
 
 // What is in transit to every till.
-fn transits(due: &mut [u64], setup: &[u64], net: &[u64], waiting: &[u64])
-    ensures { due.new ≡ noted.transits_note due.old setup.now net.now waiting.now }
+fn transits(figures: &mut Figures, setup: &[u64], net: &[u64], waiting: &[u64])
+    ensures { figures.new ≡ noted.transits_note figures.old setup.now net.now waiting.now }
 {
-    let n = sim_figures::least(
-        ask_tables::cell(setup, ask_tables::TILLS),
-        ask_tables::MOST_TILLS,
-    );
+    let n = cell(setup, ask_tables::TILLS).min(ask_tables::MOST_TILLS);
     transits_of(
-        due,
+        figures,
         setup,
         net,
         sim_lend::part(waiting, wait_size(setup)),
@@ -298,21 +258,18 @@ fn transits(due: &mut [u64], setup: &[u64], net: &[u64], waiting: &[u64])
 
 // At the end: what waits, what is in transit, the tallies that stand, the marks that stand.
 pub fn ended(
-    due: &mut [u64],
+    figures: &mut Figures,
     setup: &[u64],
     net: &[u64],
     seen: &[u64],
     waiting: &[u64],
     log: &[u64],
 )
-    ensures { due.new ≡ noted.end_note due.old setup.now net.now seen.now waiting.now log.now }
+    ensures { figures.new ≡ noted.end_note figures.old setup.now net.now seen.now waiting.now log.now }
 {
-    let n = sim_figures::least(
-        ask_tables::cell(net, ask_tables::WAITING),
-        ask_tables::MOST_SLOTS,
-    );
-    waiting_copies(due, waiting, n);
-    transits(due, setup, net, waiting);
-    tallies(due, setup, log);
-    sim_figures::stands(due, marks(setup, seen));
+    let n = cell(net, ask_tables::WAITING).min(MOST_SLOTS);
+    waiting_copies(figures, waiting, n);
+    transits(figures, setup, net, waiting);
+    tallies(figures, setup, log);
+    figures.stands(marks(setup, seen));
 }

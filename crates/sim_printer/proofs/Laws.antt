@@ -31,14 +31,15 @@ pub ended : (p s : Page) (t : List ℕ) (i : ℕ) → length t ≤ i → gathere
 unfolding gathered
 ended p s t i h e = sym (ap (λ (l : List ℕ). gathered p l) (drop_of_length-le t h)) ∙ e
 
-pub space : (p q s : Page) (n : ℕ) → 0 < n → gathered p (blanks n) ≡ s → q ≡ more p 32 → gathered q (blanks (n - 1)) ≡ s
+one_space : (p q s : Page) (n : ℕ) → gathered p (blanks (suc n)) ≡ s → q ≡ more p 32 → gathered q (blanks n) ≡ s
 unfolding gathered blanks
-space p q s zero h e m = absurd (omega arith)
-space p q s (suc n) h e m =
-    ap (λ (k : ℕ). gathered q (blanks k)) (one_less n) ∙ (ap (λ (x : Page). gathered x (blanks n)) m ∙ e)
-  where
-    one_less : (k : ℕ) → suc k - 1 ≡ k
-    one_less k = omega arith
+one_space p q s n e m = ap (λ (x : Page). gathered x (blanks n)) m ∙ e
+
+-- one of the n spaces, behind the first i of them
+pub space : (p q s : Page) (n i : ℕ) → i < n → gathered p (blanks (n - i)) ≡ s → q ≡ more p 32 → gathered q (blanks (n - (i + 1))) ≡ s
+space p q s n i h e m =
+    let k : n - i ≡ suc (n - (i + 1)) = omega arith in
+    one_space p q s (n - (i + 1)) (ap (λ (j : ℕ). gathered p (blanks j)) (sym k) ∙ e) m
 
 pub no_space : (p s : Page) (n : ℕ) → n ≤ 0 → gathered p (blanks n) ≡ s → p ≡ s
 unfolding gathered blanks

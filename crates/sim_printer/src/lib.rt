@@ -1,98 +1,141 @@
-// Text for standard output, gathered in a lent buffer and written when that is full. Each call takes how many of the buffer's
-// bytes count and answers how many count then; more than the buffer has counts as full.
+// Text for standard output, gathered in a lent buffer and written when that is full.
 #![tactic(auto)]
 
-ghost use Rattle.std.specs.Prelude.{◌≡◌, ◌-◌, min, max};
+ghost use Rattle.std.specs.Prelude.{◌≡◌, min, max, take, Ok};
 ghost use Rattle.sim_printer.specs.Printer.{page, more, gathered, blanks, Spelled};
+
+use std::fmt;
+use std::marker::Model;
 
 // The descriptor of standard output.
 pub const STDOUT: i32 = 1;
 
-// One byte more.
-fn byte(buf: &mut [u8], used: usize, b: u8) -> usize
-    ensures { page buf.new result ≡ more (page buf.old used) b }
-{
-    if used < buf.len() {
-        buf[used] = b;
-        return used + 1;
+// A buffer and how many of its bytes count. A clause sees its page.
+#[derive(Drop)]
+pub struct Printer<'a> {
+    buf: &'a mut [u8],
+    used: usize,
+}
+
+impl<'a> Model for Printer<'a> {
+    ghost use Rattle.std.specs.Prelude.{◌≤◌, length};
+    ghost use Rattle.sim_printer.specs.Printer.{Page, page};
+
+    ghost Value = { Page };
+
+    ghost view = { λ p. page p.buf.now p.used };
+
+    ghost invariant = { λ p. p.used ≤ length p.buf.now };
+}
+
+impl<'a> Printer<'a> {
+    // Nothing is gathered yet.
+    pub fn new(buf: &'a mut [u8]) -> Printer<'a>
+        ensures { result ≡ page buf.old 0 }
+    {
+        Printer { buf, used: 0 }
     }
-    if 0 < buf.len() {
-        io::write_all(STDOUT, buf);
-        buf[0] = b;
-        return 1;
+
+    // One byte more.
+    fn byte(&mut self, b: u8)
+        ensures { self.new ≡ more self.old b }
+    {
+        if self.used < self.buf.len() {
+            self.buf[self.used] = b;
+            self.used += 1;
+            return;
+        }
+        if 0 < self.buf.len() {
+            io::write_all(STDOUT, self.as_slice());
+            self.buf[0] = b;
+            self.used = 1;
+            return;
+        }
+        io::write_all(STDOUT, &[b]);
+        self.used = 0;
     }
-    let one = [b; 1];
-    io::write_all(STDOUT, &one);
-    0
-}
 
-// The bytes of `what`.
-pub fn text(buf: &mut [u8], used: usize, what: &[u8]) -> usize
-    ensures { page buf.new result ≡ gathered (page buf.old used) what.now }
-{
-    let mut at = used;
-    let mut i = 0;
-    while i < what.len() {
-        at = byte(buf, at, what[i]);
-        i += 1;
+    // The bytes of `what`.
+    pub fn text(&mut self, what: &[u8])
+        ensures { self.new ≡ gathered self.old what.now }
+    {
+        for b in what {
+            self.byte(*b);
+        }
     }
-    at
-}
 
-// n spaces.
-pub fn spaces(buf: &mut [u8], used: usize, n: usize) -> usize
-    ensures { page buf.new result ≡ gathered (page buf.old used) (blanks n) }
-{
-    let mut at = used;
-    let mut left = n;
-    while 0 < left {
-        at = byte(buf, at, b' ');
-        left -= 1;
+    // n spaces.
+    pub fn spaces(&mut self, n: usize)
+        ensures { self.new ≡ gathered self.old (blanks n) }
+    {
+        for _ in 0..n {
+            self.byte(b' ');
+        }
     }
-    at
-}
 
-// n in decimal.
-pub fn decimal(buf: &mut [u8], used: usize, n: u64) -> usize
-    ensures { Spelled 10 1 0 n (page buf.old used) (page buf.new result) }
-{
-    decimal_right(buf, used, n, 0)
-}
-
-// n in decimal, with spaces in front up to width.
-pub fn decimal_right(buf: &mut [u8], used: usize, n: u64, width: usize) -> usize
-    ensures { Spelled 10 1 width n (page buf.old used) (page buf.new result) }
-{
-    let mut digits = [0u8; 20];
-    let k = io::decimal(n, &mut digits);
-    let at = spaces(buf, used, less(width, k));
-    text(buf, at, &digits[..k])
-}
-
-// n in hexadecimal, lower case, with zeros in front up to width; a width of 0 counts as 1, one above 16 as 16.
-pub fn hex(buf: &mut [u8], used: usize, n: u64, width: usize) -> usize
-    ensures { Spelled 16 (min (max width 1) 16) 0 n (page buf.old used) (page buf.new result) }
-{
-    let mut digits = [0u8; 16];
-    let k = io::hex(n, width, &mut digits);
-    text(buf, used, &digits[..k])
-}
-
-// What is left of a without b; 0 where b is more.
-fn less(a: usize, b: usize) -> usize
-    ensures { result ≡ a - b }
-{
-    if b < a { a - b } else { 0 }
-}
-
-// Writes what counts; the answer, 0, is how many count then.
-pub fn finish(buf: &mut [u8], used: usize) -> usize
-    ensures { page buf.new result ≡ page buf.old 0 }
-{
-    if used < buf.len() {
-        io::write_all(STDOUT, &buf[0..used]);
-        return 0;
+    // n in decimal.
+    pub fn decimal(&mut self, n: u64)
+        ensures { Spelled 10 1 0 n self.old self.new }
+    {
+        self.decimal_right(n, 0);
     }
-    io::write_all(STDOUT, buf);
-    0
+
+    // n in decimal, with spaces in front up to width.
+    pub fn decimal_right(&mut self, n: u64, width: usize)
+        ensures { Spelled 10 1 width n self.old self.new }
+    {
+        let mut digits = [0u8; 20];
+        let k = io::decimal(n, &mut digits);
+        self.spaces(width.saturating_sub(k));
+        self.text(&digits[..k]);
+    }
+
+    // n in hexadecimal, lower case, with zeros in front up to width; a width of 0 counts as 1, one above 16 as 16.
+    pub fn hex(&mut self, n: u64, width: usize)
+        ensures { Spelled 16 (min (max width 1) 16) 0 n self.old self.new }
+    {
+        let mut digits = [0u8; 16];
+        let k = io::hex(n, width, &mut digits);
+        self.text(&digits[..k]);
+    }
+
+    // What a value displays.
+    pub fn print<D: fmt::Display + Drop>(&mut self, what: D) {
+        let _ = fmt::Write::write(self, what);
+    }
+
+    // Writes what was gathered; nothing counts then.
+    pub fn finish(&mut self)
+        ensures { self.new ≡ page self.old.held 0 }
+    {
+        io::write_all(STDOUT, self.as_slice());
+        self.clear();
+    }
+
+    // Lets go what was gathered, unwritten.
+    pub fn clear(&mut self)
+        ensures { self.new ≡ page self.old.held 0 }
+    {
+        self.used = 0;
+    }
+
+    // What was gathered and not yet written.
+    pub fn as_slice(&self) -> &[u8]
+        ensures { result.now ≡ take self.now.used self.now.held }
+    {
+        &self.buf[..self.used]
+    }
+}
+
+// What `write!` prints is gathered too; it never fails.
+impl<'a> fmt::Write for Printer<'a> {
+    ghost write_str_gives = { λ p t q. q ≡ gathered p t };
+
+    fn write_str(&mut self, s: &str) -> fmt::Result
+        ensures gathers { self.new ≡ gathered self.old s.now }
+        ensures ok { result ≡ Ok tt }
+    {
+        self.text(s.as_bytes());
+        Ok(())
+    }
 }

@@ -1,4 +1,5 @@
 // A script, read piece by piece: a line at a time is gathered in a buffer.
+use sim_spelling::words::part;
 use std::io::Read;
 
 // Where the reading stands: the piece's bytes from `at` up to `end` are still to come; the line has n bytes so far; more than its buffer
@@ -30,59 +31,33 @@ pub fn start(carried: bool, end: usize) -> Input {
 // One byte more for the line.
 fn with_byte(line: &mut [u8], i: Input, b: u8) -> Input {
     let n = i.n;
-    let at = std::num::wrapping_add_usize(i.at, 1);
+    let at = i.at.wrapping_add(1);
     if b == b'\n' {
         return Input {
             at,
-            end: i.end,
-            n,
-            long: i.long,
-            ended: false,
             ready: true,
-            carried: i.carried,
+            ..i
         };
     }
     if n < line.len() {
         line[n] = b;
-        return Input {
-            at,
-            end: i.end,
-            n: n + 1,
-            long: i.long,
-            ended: false,
-            ready: false,
-            carried: i.carried,
-        };
+        return Input { at, n: n + 1, ..i };
     }
     Input {
         at,
-        end: i.end,
-        n,
         long: true,
-        ended: false,
-        ready: false,
-        carried: i.carried,
+        ..i
     }
 }
 
 // The bytes of the piece, up to the end of a line.
 fn gathered(piece: &[u8], line: &mut [u8], before: Input) -> Input {
     let mut i = before;
-    let mut left = piece.len();
-    while 0 < left {
-        let at = i.at;
-        if i.end <= at {
-            return i;
+    for b in part(piece, before.at, before.end) {
+        i = with_byte(line, i, *b);
+        if i.ready {
+            break;
         }
-        if piece.len() <= at {
-            return i;
-        }
-        let next = with_byte(line, i, piece[at]);
-        if next.ready {
-            return next;
-        }
-        i = next;
-        left -= 1;
     }
     i
 }
@@ -92,10 +67,7 @@ fn got<S: Read>(from: &mut S, piece: &mut [u8], carried: bool) -> usize {
     if carried {
         return 0;
     }
-    match from.read(piece) {
-        Ok(n) => n,
-        Err(_) => 0,
-    }
+    from.read(piece).unwrap_or(0)
 }
 
 // The next piece; a last line without an end is a line too.
@@ -104,43 +76,30 @@ fn refilled<S: Read>(from: &mut S, piece: &mut [u8], i: Input) -> Input {
     Input {
         at: 0,
         end,
-        n: i.n,
-        long: i.long,
         ended: end == 0,
         ready: end == 0,
-        carried: i.carried,
+        ..i
     }
 }
 
-fn turn<S: Read>(from: &mut S, piece: &mut [u8], line: &mut [u8], i: Input) -> Input {
-    if i.at < i.end {
-        return gathered(piece, line, i);
-    }
-    refilled(from, piece, i)
-}
-
-// No run is longer.
-const TURNS: u64 = 18446744073709551615;
-
-// The next line, whole.
+// The next line, whole; no run is longer than so many turns.
 pub fn next_line<S: Read>(from: &mut S, piece: &mut [u8], line: &mut [u8], before: Input) -> Input {
     let mut i = Input {
-        at: before.at,
-        end: before.end,
         n: 0,
         long: false,
         ended: false,
         ready: false,
-        carried: before.carried,
+        ..before
     };
-    let mut left = TURNS;
-    while 0 < left {
-        let next = turn(from, piece, line, i);
-        if next.ready {
-            return next;
+    for _ in 0..u64::MAX {
+        i = if i.at < i.end {
+            gathered(piece, line, i)
+        } else {
+            refilled(from, piece, i)
+        };
+        if i.ready {
+            break;
         }
-        i = next;
-        left -= 1;
     }
     i
 }

@@ -10,18 +10,12 @@ const STDERR: i32 = 2;
 
 // Word k goes to the start of `room`: so many bytes, none where there is no such word, or where it is longer.
 pub fn arg(rt: &impl Env, k: usize, room: &mut [u8]) -> usize {
-    match rt.arg(k, room) {
-        Ok(n) => n,
-        Err(_) => 0,
-    }
+    rt.arg(k, room).unwrap_or(0)
 }
 
 // Is there no word k?
 fn is_missing(rt: &impl Env, k: usize) -> bool {
-    match rt.arg(k, &mut []) {
-        Err(FillError::NotPresent) => true,
-        _ => false,
-    }
+    matches!(rt.arg(k, &mut []), Err(FillError::NotPresent))
 }
 
 // How many words there are, the program's name among them.

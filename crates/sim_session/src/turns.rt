@@ -1,39 +1,36 @@
-// The next line of the input: read, counted, and its words and fields taken.
+// The next line of the input: read, counted, and its call or its opening taken.
 use crate::input::Input;
-use crate::lines::{Parsed, Session};
-use crate::{input, lines, opens};
-use sim_openings::Opening;
+use crate::lines::{Line, Session};
+use crate::{input, lines};
 use std::io::Read;
 use std::rt::Clock;
 
-// Where the input and the run stand behind a line, its words, and its fields where it is an opening.
+// Where the input and the run stand behind a line, and what it is to the run.
 #[derive(Clone, Copy)]
-pub struct Turn {
+pub struct Turn<'a> {
     pub input: Input,
     pub session: Session,
-    pub parsed: Parsed,
-    pub opening: Opening,
+    pub line: Line<'a>,
 }
 
-// Bytes, keys and names go to `room`, masks to `out`.
-pub fn next<R: Clock, S: Read>(
+// Bytes, keys and names go to `room`, masks to `masks`.
+pub fn next<'a, R: Clock, S: Read>(
     rt: &R,
     from: &mut S,
     piece: &mut [u8],
     line: &mut [u8],
-    room: &mut [u8],
-    out: &mut [u64],
+    room: &'a mut [u8],
+    masks: &mut [u64],
     i: Input,
     r: Session,
-) -> Turn {
+) -> Turn<'a> {
     let input = input::next_line(from, piece, line, i);
-    let parsed = lines::read_words(line, input.n, input.long, room);
-    let opening = opens::read(line, input.n, parsed.which, room, out);
     let session = lines::counted(rt, r);
+    let text = sim_spelling::words::part(line, 0, input.n);
+    let line = lines::read(text, input.long, room, masks);
     Turn {
         input,
         session,
-        parsed,
-        opening,
+        line: lines::admitted(line, session),
     }
 }

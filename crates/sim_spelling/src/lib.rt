@@ -4,10 +4,3 @@
 pub mod bytes;
 pub mod numbers;
 pub mod words;
-
-// A number, where a text stands for one.
-#[derive(Clone, Copy)]
-pub struct Number {
-    pub good: bool,
-    pub value: u64,
-}

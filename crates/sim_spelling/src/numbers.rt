@@ -1,9 +1,6 @@
 // Numbers: decimal, and hexadecimal in either case, of up to 64 bits.
-ghost use Rattle.std.specs.Prelude.{◌≡◌, ◌<◌, ◌≤◌};
-ghost use Rattle.sim_spelling.specs.Spelling.{digit_of, no_number, a_number, more_of, number_of, bits_of};
-
-use crate::Number;
-use crate::words::{part, starts};
+ghost use Rattle.std.specs.Prelude.{◌≡◌, option_and_then};
+ghost use Rattle.sim_spelling.specs.Spelling.{digit_of, more_of, number_of, bits_of};
 
 const DECIMAL: u64 = 10;
 
@@ -17,139 +14,85 @@ const GLOBAL: u64 = 16;
 
 const NOWHERE: u64 = 17;
 
-// The largest number.
-const LAST: u64 = 18446744073709551615;
-
-pub fn bad() -> Number
-    ensures { result ≡ no_number }
-{
-    Number {
-        good: false,
-        value: 0,
-    }
-}
-
-pub fn good(value: u64) -> Number
-    ensures { result ≡ a_number value }
-{
-    Number { good: true, value }
-}
-
-fn wide(b: u8) -> u64
-    ensures { result ≡ b }
-{
-    b as u64
-}
-
-// The value of a digit, 16 for any other byte.
-pub fn digit(b: u8) -> u64
+// The value of a digit.
+#[tactic(auto, unfolding(crate::specs::Spelling::digit_of))]
+pub fn digit(b: u8) -> Option<u8>
     ensures { result ≡ digit_of b }
 {
-    if b < b'0' {
-        return 16;
+    match b {
+        b'0'..=b'9' => Some(b - b'0'),
+        b'A'..=b'F' => Some(b - b'A' + 10),
+        b'a'..=b'f' => Some(b - b'a' + 10),
+        _ => None,
     }
-    if b <= b'9' {
-        return wide(b - 48);
-    }
-    if b < b'A' {
-        return 16;
-    }
-    if b <= b'F' {
-        return wide(b - 55);
-    }
-    if b < b'a' {
-        return 16;
-    }
-    if b <= b'f' {
-        return wide(b - 87);
-    }
-    16
 }
 
-// A number with one digit more.
-fn more(v: u64, d: u64, base: u64) -> Number
-    ensures { result ≡ more_of base v d }
+// v with the digit b behind it, where that has 64 bits at most.
+#[tactic(auto, unfolding(crate::specs::Spelling::more_of))]
+fn more(v: u64, b: u8, base: u64) -> Option<u64>
+    ensures { result ≡ option_and_then (more_of base v) (digit_of b) }
 {
+    let d = u64::from(digit(b)?);
     if base <= d {
-        return bad();
+        return None;
     }
-    let p = math_word::product(v, base);
-    let low = p.low;
-    if 0 < p.high {
-        return bad();
-    }
-    if LAST - d < low {
-        return bad();
-    }
-    good(low + d)
+    v.checked_mul(base)?.checked_add(d)
 }
 
-fn of_base(s: &[u8], base: u64) -> Number
+#[tactic(auto, unfolding(crate::specs::Spelling::digits_of, crate::specs::Spelling::number_of))]
+fn of_base(s: &[u8], base: u64) -> Option<u64>
     ensures { result ≡ number_of base s.now }
 {
-    if s.len() == 0 {
-        return bad();
+    if s.is_empty() {
+        return None;
     }
-    let mut v: u64 = 0;
-    let mut i: usize = 0;
-    while i < s.len() {
-        let m = more(v, digit(s[i]), base);
-        if !m.good {
-            return bad();
-        }
-        v = m.value;
-        i += 1;
+    let mut v = 0;
+    for b in s {
+        v = more(v, *b, base)?;
     }
-    good(v)
+    Some(v)
 }
 
-pub fn decimal(s: &[u8]) -> Number
+pub fn decimal(s: &[u8]) -> Option<u64>
     ensures { result ≡ number_of 10 s.now }
 {
     of_base(s, DECIMAL)
 }
 
-pub fn hex(s: &[u8]) -> Number
+pub fn hex(s: &[u8]) -> Option<u64>
     ensures { result ≡ number_of 16 s.now }
 {
     of_base(s, HEXADECIMAL)
 }
 
 // The bits of a number, all 16 digits of them.
-pub fn bits(s: &[u8]) -> Number
+#[tactic(auto, unfolding(crate::specs::Spelling::bits_of))]
+pub fn bits(s: &[u8]) -> Option<u64>
     ensures { result ≡ bits_of s.now }
 {
-    if s.len() != BITS {
-        return bad();
+    if s.len() == BITS {
+        return hex(s);
     }
-    of_base(s, HEXADECIMAL)
+    None
 }
 
 // 0 or 1.
-pub fn flag(s: &[u8]) -> Number {
-    let n = decimal(s);
-    if 1 < n.value {
-        return bad();
+pub fn flag(s: &[u8]) -> Option<bool> {
+    match decimal(s)? {
+        0 => Some(false),
+        1 => Some(true),
+        _ => None,
     }
-    n
 }
 
 // `g`, or `s` and a shard's number.
-pub fn target(s: &[u8]) -> Number {
-    if starts(s, b'g') {
-        if s.len() == 1 {
-            return good(GLOBAL);
+pub fn target(s: &[u8]) -> Option<u64> {
+    match s {
+        b"g" => Some(GLOBAL),
+        [b's', shard @ ..] => {
+            let n = decimal(shard)?;
+            Some(if n < GLOBAL { n } else { NOWHERE })
         }
+        _ => None,
     }
-    if !starts(s, b's') {
-        return bad();
-    }
-    let n = decimal(part(s, 1, s.len()));
-    if !n.good {
-        return n;
-    }
-    if GLOBAL <= n.value {
-        return good(NOWHERE);
-    }
-    n
 }

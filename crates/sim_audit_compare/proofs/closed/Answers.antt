@@ -1,18 +1,13 @@
-use mathlib.Core.Path.{refl, ◌∙◌}
-use Rattle.sim_audit_compare.proofs.Laws.{all_closed, more_closed, none_closed}
+use Rattle.std.proofs.Common.{length, refl, sym, ◌∙◌, arith, rules}
+use Rattle.std.proofs.lemmas.Grind.{common_steps}
+use Rattle.sim_audit_compare.proofs.Laws.{none_left, closed_on}
 use Rattle.sim_audit_compare.proofs.closed.Goals as goal
 
-pub loop-left-init : goal.loop-left-init
-loop-left-init c = (refl, refl)
+pub loop-own-init : goal.loop-own-init
+loop-own-init c = (length c.args.book.now, omega arith, refl)
 
-pub shape_of-account-then-book-get : goal.shape_of-account-then-book-get
-shape_of-account-then-book-get c = c.loop-left.invariant.0
-
-pub returns-then-book-get : goal.returns-then-book-get
-returns-then-book-get c = all_closed _ _ _ _ c.args.book.now c.loop-left-test.true c.get.ensures c.if-book-get.true c.loop-left.invariant.1
-
-pub loop-left-preserved : goal.loop-left-preserved
-loop-left-preserved c = (c.unsaid.auto.account ∙ c.loop-left.invariant.0, more_closed _ _ _ _ _ c.args.book.now c.loop-left-test.true c.get.ensures c.if-book-get.false c.unsaid.ensures c.loop-left.invariant.1)
+pub loop-own-preserved : goal.loop-own-preserved
+loop-own-preserved c = closed_on _ _ _ _ _ c.in-Some.ensures.0 (search rules) c.loop-own.invariant.1 c.loop-own.invariant.2
 
 pub returns : goal.returns
-returns c = none_closed _ _ _ c.args.book.now c.loop-left-test.false c.loop-left.invariant.1
+returns c = sym (none_left c.loop-own.invariant.0 _ _ c.in_default.ensures) ∙ c.loop-own.invariant.2

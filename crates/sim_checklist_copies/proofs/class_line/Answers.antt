@@ -5,4 +5,4 @@ pub returns-then-has_none : goal.returns-then-has_none
 returns-then-has_none c = no_class _ _ _ _ _ _ c.class-p.ensures c.has_none.ensures c.if-has_none.true
 
 pub returns : goal.returns
-returns c = a-class _ _ _ _ _ _ _ _ _ _ c.class-p.ensures c.has_none.ensures c.if-has_none.false c.decimal_right-a.ensures c.decimal_right-b.ensures c.decimal_right-c.ensures c.say.ensures
+returns c = a-class _ _ _ _ _ _ _ _ _ _ c.class-p.ensures c.has_none.ensures c.if-has_none.false c.decimal_right.ensures c.decimal_right-2.ensures c.decimal_right-3.ensures c.say.ensures

@@ -4,4 +4,4 @@ use Rattle.sim_checklist_copies.proofs.tables.Goals as goal
 
 pub returns : goal.returns
 unfolding tables_part
-returns c = onward _ _ _ _ _ c.say-a.ensures (onward _ _ _ _ _ c.class_table-b.ensures (onward _ _ _ _ _ c.say-c.ensures (onward _ _ _ _ _ c.class_table-d.ensures c.slips.ensures)))
+returns c = onward _ _ _ _ _ c.say.ensures (onward _ _ _ _ _ c.class_table.ensures (onward _ _ _ _ _ c.say-2.ensures (onward _ _ _ _ _ c.class_table-2.ensures c.slips.ensures)))

@@ -1,11 +1,7 @@
 use Rattle.sim_sheet.proofs.Laws.{onward, shown}
-use native.Mathlib.Omega.{arith}
 use Rattle.sim_checklist_counts.specs.Counts.{head_of}
 use Rattle.sim_checklist_counts.proofs.head.Goals as goal
 
-pub shape_of-buf : goal.shape_of-buf
-shape_of-buf c = omega (arith, c.line.auto.buf, c.refusals-f.auto.buf, c.line-e.auto.buf, c.line-d.auto.buf, c.line-c.auto.buf, c.line-b.auto.buf, c.say-a.auto.buf)
-
 pub returns : goal.returns
 unfolding head_of
-returns c = onward _ _ _ _ _ c.say-a.ensures (onward _ _ _ _ _ (shown _ _ _ _ _ c.get.ensures c.line-b.ensures) (onward _ _ _ _ _ (shown _ _ _ _ _ c.get-2.ensures c.line-c.ensures) (onward _ _ _ _ _ (shown _ _ _ _ _ c.get-3.ensures c.line-d.ensures) (onward _ _ _ _ _ (shown _ _ _ _ _ c.sum.ensures c.line-e.ensures) (onward _ _ _ _ _ c.refusals-f.ensures (shown _ _ _ _ _ c.differ.ensures c.line.ensures))))))
+returns c = onward _ _ _ _ _ c.say.ensures (onward _ _ _ _ _ c.line.ensures (onward _ _ _ _ _ c.line-2.ensures (onward _ _ _ _ _ c.line-3.ensures (onward _ _ _ _ _ (shown _ _ _ _ _ c.refused.ensures c.line-4.ensures) (onward _ _ _ _ _ c.refusals.ensures (shown _ _ _ _ _ c.differ.ensures c.line-5.ensures))))))

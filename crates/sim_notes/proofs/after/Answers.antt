@@ -8,4 +8,4 @@ pub returns-then-number-gt0 : goal.returns-then-number-gt0
 returns-then-number-gt0 c = after-refused _ _ _ _ _ _ _ _ _ _ _ c.if-number-gt-LAST.false c.if-number-gt0.true c.refused.ensures
 
 pub returns : goal.returns
-returns c = after-taken _ _ _ _ _ _ _ _ _ _ _ _ _ c.if-number-gt-LAST.false c.if-number-gt0.false c.marks.ensures c.less-gone.ensures c.taken.ensures
+returns c = after-taken _ _ _ _ _ _ _ _ _ _ _ _ _ c.if-number-gt-LAST.false c.if-number-gt0.false c.marks.ensures c.saturating_sub-gone.ensures c.taken.ensures

@@ -1,7 +1,7 @@
-use Rattle.sim_sheet.proofs.Laws.{onward, shown}
+use Rattle.sim_sheet.proofs.Laws.{onward}
 use Rattle.sim_checklist_copies.specs.Copies.{as_sender}
 use Rattle.sim_checklist_copies.proofs.slips.as_sender.Goals as goal
 
 pub returns : goal.returns
 unfolding as_sender
-returns c = onward _ _ _ _ _ (shown _ _ _ _ _ c.get.ensures c.line-u.ensures) (onward _ _ _ _ _ (shown _ _ _ _ _ c.get-2.ensures c.line-v.ensures) c.sender_drops.ensures)
+returns c = onward _ _ _ _ _ c.line.ensures (onward _ _ _ _ _ c.line-2.ensures c.sender_drops.ensures)

@@ -4,4 +4,4 @@ use Rattle.sim_checklist_copies.proofs.slips.slips.Goals as goal
 
 pub returns : goal.returns
 unfolding slips_part
-returns c = onward _ _ _ _ _ c.say-a.ensures (shown_table _ _ _ _ _ c.tills.ensures c.slips_to.ensures)
+returns c = onward _ _ _ _ _ c.say.ensures (shown_table _ _ _ _ _ c.tills.ensures c.slips_to.ensures)

@@ -1,12 +1,12 @@
-use Rattle.std.proofs.Common.{refl, arith, rules}
 use Rattle.sim_sheet.proofs.Laws.{table_none, table_more, table_end}
+use Rattle.std.proofs.Common.{arith}
 use Rattle.sim_checklist_copies.proofs.slips.slips_to.Goals as goal
 
 pub loop-t-init : goal.loop-t-init
-loop-t-init c = (omega arith, refl, table_none _ _)
+loop-t-init c = table_none _ _
 
 pub loop-t-preserved : goal.loop-t-preserved
-loop-t-preserved c = (omega arith, search rules, table_more _ _ _ _ _ c.loop-t.invariant.2 c.slip-u.ensures)
+loop-t-preserved c = table_more _ _ _ _ _ c.loop-t.invariant c.slip.ensures
 
 pub returns : goal.returns
-returns c = table_end _ _ _ _ _ c.loop-t.invariant.0 c.loop-t-test.false c.loop-t.invariant.2
+returns c = table_end _ _ _ _ _ (omega arith) (omega arith) c.loop-t.invariant

@@ -1,5 +1,0 @@
-use Rattle.sim_comparison.proofs.Laws.{both}
-use Rattle.sim_comparison.proofs.cleared.Goals as goal
-
-pub returns : goal.returns
-returns c = both c.get.ensures c.get-2.ensures

@@ -1,4 +1,0 @@
-use Rattle.sim_session.proofs.input.next_line.Given as goal
-
-abbrev pub decreases-loop-left : goal.decreases-loop-left
-decreases-loop-left g l = l.left
