@@ -15,7 +15,7 @@ import tempfile
 
 DRAWS = {
     "rand_chacha8": ["split", "word", "block"],
-    "rand_streams": ["at", "draw32", "draw64", "step_at"],
+    "rand_streams": ["Cursor::at", "Cursor::draw32", "Cursor::draw64", "record::draw_at"],
     "rand_draw": ["draw_fraction", "draw_real", "hits", "whole32", "whole64", "range64"],
     "gossip": ["streams::gossip_next_u64"],
 }
