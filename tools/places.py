@@ -16,6 +16,11 @@ FLAGS = "good|hit|some|drops|found|planned|bounded|original|own|is_some"
 BY_HAND = r"wide|low|low_byte|byte_of|bit|one|size|less|least|plus|same|is_same|same_text|same_words|agrees|is_before|is_pair|is_of|is_blank|get|put|store|pick|late|kind|taken|differs|cell|copied|copy|copy_in|copy_row|copy_rows|copy_front|fill|clear|front|front32|part|part32|back|all|low_half|add|xor|rotl|rotr|least_of"
 
 
+def matching(lines, pattern):
+    """the lines, by number, in which the pattern is found"""
+    return [(i, l.strip()) for i, l in enumerate(lines) if re.search(pattern, l)]
+
+
 def crates(tree):
     root = os.path.join(tree, "crates")
     return [(c, os.path.join(root, c, "src")) for c in sorted(os.listdir(root)) if os.path.isdir(os.path.join(root, c, "src"))]
@@ -168,9 +173,7 @@ def point_2b(tree):
 def point_3(tree):
     """loops that count by hand: `while`, and `loop`"""
     for _, path, lines in sources(tree):
-        for i, l in enumerate(lines):
-            if re.match(r"\s*(while |loop \{)", l):
-                yield path, i, l.strip()
+        yield from ((path, i, l) for i, l in matching(lines, r"^\s*(while |loop \{)"))
 
 
 def point_4(tree):
@@ -235,9 +238,7 @@ def point_6b(tree):
 def point_7(tree):
     """a switch on which step to run: `match which`, `match asked`, or an `if which ==`"""
     for _, path, lines in sources(tree):
-        for i, l in enumerate(lines):
-            if re.search(r"match (which|asked|kind)\b|if (which|asked) [=!]=", l):
-                yield path, i, l.strip()
+        yield from ((path, i, l) for i, l in matching(lines, r"match (which|asked|kind)\b|if (which|asked) [=!]="))
 
 
 def point_8(tree):
