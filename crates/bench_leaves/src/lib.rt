@@ -8,6 +8,7 @@ ghost use Rattle.bench_leaves.specs.Leaves.{key_of};
 
 use hash_digest::{Hashed, digest_parts};
 
+// A stream's block, as C gets it: a C function returns no array.
 #[repr(C)]
 #[derive(Clone, Copy)]
 pub struct Block {

@@ -1,4 +1,4 @@
--- Tests: ways down a chain of `&&`, and a choice by a test that a call answered. Assumes nothing.
+-- Tests: what a chain of `&&` says, and a choice by a test that a call answered. Assumes nothing.
 use mathlib.Core.Path.{◌≡◌, refl, sym}
 use mathlib.Core.Bool.{Bool, true, false, cond, not, ◌&&◌, false≢true}
 use Prim.Native.Nat.{ℕ, ◌+◌, ◌*◌, ◌/◌, ◌≤◌}
@@ -7,16 +7,7 @@ use native.Mathlib.Omega.{arith}
 use lib.Dec.{leb, ltb}
 use borrow.Author.Tests.{leb-true, ltb-true}
 
--- a test that is passed, and the one that fails
-pub on : (a r b : Bool) → a ≡ true → r ≡ b → r ≡ (a && b)
-on true r b e h = h
-on false r b e h = absurd (false≢true e)
-
-pub off : (a b : Bool) → a ≡ false → false ≡ (a && b)
-off true b e = absurd (false≢true (sym e))
-off false b e = refl
-
--- both were passed
+-- two tests that were passed
 pub both : (a b : Bool) → (a && b) ≡ true → (a ≡ true) × (b ≡ true)
 both true b e = (refl, e)
 both false b e = absurd (false≢true e)

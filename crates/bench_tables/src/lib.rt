@@ -39,8 +39,5 @@ fn valued(value: u64) -> Told
 fn yes_or_no(b: bool) -> Told
     ensures { result ≡ valued (bit b) }
 {
-    if b {
-        return valued(1);
-    }
-    valued(0)
+    valued(u64::from(b))
 }

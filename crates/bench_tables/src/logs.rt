@@ -6,36 +6,29 @@ use crate::{Told, unfit, valued};
 use table_rows::Row;
 
 // Has a log of so many slots its length, and a head in range?
+#[tactic(auto, unfolding(crate::specs::Answers::log_fits))]
 fn log_fits(log: &[u64], capacity: usize) -> bool
     ensures { result ≡ log_fits log.now capacity }
 {
-    if table_log::MOST < capacity {
-        return false;
-    }
-    if log.len() < table_log::RECORDS + capacity * table_delivery::WIDTH {
-        return false;
-    }
-    table_log::is_sound(log, capacity)
+    capacity <= table_log::MOST
+        && table_log::RECORDS + capacity * table_delivery::WIDTH <= log.len()
+        && table_log::is_sound(log, capacity)
 }
 
 // Is there a whole row, and the log?
+#[tactic(auto, unfolding(crate::specs::Answers::push_fits))]
 fn push_fits(log: &[u64], capacity: usize, row: &[u64]) -> bool
     ensures { result ≡ push_fits log.now capacity row.now }
 {
-    if row.len() < table_delivery::WIDTH {
-        return false;
-    }
-    log_fits(log, capacity)
+    table_delivery::WIDTH <= row.len() && log_fits(log, capacity)
 }
 
 // Is there the log, and room for as many records as it has slots?
+#[tactic(auto, unfolding(crate::specs::Answers::drain_fits))]
 fn drain_fits(log: &[u64], capacity: usize, out: &[u64]) -> bool
     ensures { result ≡ drain_fits log.now capacity out.now }
 {
-    if !log_fits(log, capacity) {
-        return false;
-    }
-    capacity * table_delivery::WIDTH <= out.len()
+    log_fits(log, capacity) && capacity * table_delivery::WIDTH <= out.len()
 }
 
 // A delivery, lent as a row, is logged.

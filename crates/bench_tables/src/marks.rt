@@ -1,4 +1,4 @@
-// Marks: ids looked for, added and removed.
+// Marks: ids looked for, added and removed. C lends a whole table, and beside it how many of its words are in use.
 ghost use Rattle.std.specs.Prelude.{◌≡◌, [], ◌∷◌};
 ghost use Rattle.bench_tables.specs.Answers.{left, has_of, add_of, remove_of};
 

@@ -14,16 +14,11 @@ fn rings_fit(ws: &[u64], rings: usize) -> bool
 }
 
 // Is r one of the rings, with a head in range?
+#[tactic(auto, unfolding(crate::specs::Answers::ring_fits))]
 fn ring_fits(ws: &[u64], rings: usize, r: usize) -> bool
     ensures { result ≡ ring_fits ws.now rings r }
 {
-    if !rings_fit(ws, rings) {
-        return false;
-    }
-    if rings <= r {
-        return false;
-    }
-    table_rings::is_sound(ws, rings, r)
+    rings_fit(ws, rings) && r < rings && table_rings::is_sound(ws, rings, r)
 }
 
 // How many entries ring r has.

@@ -1,4 +1,4 @@
-// Waiting copies: insertion, the due ones, their removal, and question 1's pass.
+// Waiting copies: insertion, the due ones, their removal, and question 1's pass. C lends a whole table, and beside it how many of its rows are in use.
 ghost use Rattle.std.specs.Prelude.{◌≡◌, [], ◌∷◌};
 ghost use Rattle.table_waiting.specs.Waiting as waiting;
 ghost use Rattle.bench_tables.specs.Answers.{left, has_rows, insert_fits, insert_of, due_of, drop_fits, drop_of, copies_of};
@@ -15,23 +15,19 @@ fn copies_fit(ws: &[u64], n: usize) -> bool
 }
 
 // Is there a whole row, and room for it behind n copies?
+#[tactic(auto, unfolding(crate::specs::Answers::insert_fits))]
 fn insert_fits(ws: &[u64], n: usize, row: &[u64]) -> bool
     ensures { result ≡ insert_fits ws.now n row.now }
 {
-    if row.len() < table_waiting::WIDTH {
-        return false;
-    }
-    n < ws.len() / table_waiting::WIDTH
+    table_waiting::WIDTH <= row.len() && n < ws.len() / table_waiting::WIDTH
 }
 
 // Are there n copies, and k among them?
+#[tactic(auto, unfolding(crate::specs::Answers::drop_fits))]
 fn drop_fits(ws: &[u64], n: usize, k: usize) -> bool
     ensures { result ≡ drop_fits ws.now n k }
 {
-    if !copies_fit(ws, n) {
-        return false;
-    }
-    k <= n
+    copies_fit(ws, n) && k <= n
 }
 
 // A waiting copy, lent as a row, goes to its place among n.

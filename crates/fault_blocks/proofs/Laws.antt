@@ -1,28 +1,18 @@
 -- The block table against the list of windows that it holds: rows, tests, the search, and the loop of `unblock`.
 use mathlib.Core.Path.{◌≡◌, refl, sym, ap, ◌∙◌}
-use mathlib.Core.Bool.{Bool, true, false, not, ◌&&◌, ◌||◌}
+use mathlib.Core.Bool.{Bool, true, false, not, ◌||◌}
 use mathlib.Core.List.{List, [], ◌∷◌, ◌++◌}
 use Prim.Native.Nat.{ℕ, ◌+◌, ◌*◌, ◌-◌, ◌≤◌, ◌<◌}
-use native.Mathlib.Nat.{add-zero}
 use native.Mathlib.Omega.{arith}
 use lib.Dec.{lit<}
-use lib.ListN.{length, get_or, take, drop, set, length-append, get_or-append}
-use lib.Seq.{get_or-drop}
+use lib.ListN.{length, get_or, take, drop, length-append, get_or-append}
 use borrow.Author.Tests.{lt-ltb, le-ltb}
 use Rattle.fault_rule.proofs.Laws.{yes, no}
 use Rattle.table_rows.specs.Rows.{keep}
 use Rattle.table_rows.proofs.Rows.{rows_next, rows_end_lem, rows_first, kept_first, kept_read, kept_skip, kept_take, kept_same, kept_more}
 use Rattle.table_shift.specs.Shift.{put_words}
-use Rattle.table_shift.proofs.Laws.{stores, stored}
 use Rattle.fault_blocks.specs.declared.BlockWindow.{BlockWindow}
-use Rattle.fault_blocks.specs.Blocks.{block_width, block_slots, block_at, words, put_at, first_block, blocks_of, joins, stops, blocked, other, block_number, block_table, open_count, unblock_table}
-
--- ---- two tests in a row
-pub first_fails : (a b : Bool) → a ≡ false → false ≡ a && b
-first_fails a b p = rw p
-
-pub first_holds : (a b t : Bool) → a ≡ true → t ≡ b → t ≡ a && b
-first_holds a b t p h = rw p h
+use Rattle.fault_blocks.specs.Blocks.{block_width, block_slots, words, put_at, first_block, blocks_of, joins, stops, blocked, other, block_number, block_table, open_count, unblock_table}
 
 -- ---- a row is its words
 block_of : (ℕ → ℕ) → BlockWindow
@@ -117,7 +107,8 @@ module _ (from to n : ℕ) (ws : List ℕ) where
           behind = omega (arith, m.behind);
           same = l ∙ m.same;
           count = ap (λ (x : ℕ). x + 1) m.count
-              ∙ sym (ap length (kept_take block_width first_block words (other from to) long back ws i keep-it) ∙ length-append (keep (other from to) (blocks_of ws i)) (first_block (drop (i * block_width) ws) ∷ []));
+              ∙ sym (ap length (kept_take block_width first_block words (other from to) long back ws i keep-it) ∙
+              length-append (keep (other from to) (blocks_of ws i)) (first_block (drop (i * block_width) ws) ∷ []));
           cells = p ∙ ap (λ (x : List ℕ). take (k * block_width) x ++ (words e ++ drop (k * block_width + block_width) x)) m.cells
               ∙ kept_more block_width first_block words (other from to) long back ws i k e m.count reads (ap (other from to) reads ∙ keep-it);
         }

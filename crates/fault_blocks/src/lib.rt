@@ -1,4 +1,7 @@
 // The blocks of a network: windows during which a directed pair of tills is cut, rows of a lent table.
+// A table and how many of its rows are in use stay two parameters: a window more is put behind those rows, and a function that took only their part would be called with a slice
+// whose rows must be shown to be the table's first n, at each call: no plainer.
+// So `n * block_width ≤ length ws` and `block_slots * block_width ≤ length ws` stand at each function: one is of the rows in use, the other of all.
 #![tactic(auto)]
 
 ghost use Rattle.std.specs.Prelude.{◌≡◌, ◌+◌, ◌*◌, ◌≤◌, ◌<◌, length, refl};
@@ -114,7 +117,7 @@ impl BlockWindow {
     }
 }
 
-// Does one of the first n blocks?
+// Does one of the first n windows stop a message between the two at this time? By hand: by `table_rows::all` it is a double no, none of them does not stop it.
 pub fn is_blocked(ws: &[u64], n: usize, from: u64, to: u64, at: u64) -> bool
     requires { n * block_width ≤ length ws.now }
     ensures { result ≡ blocked «from» to at (blocks_of ws.now n) }

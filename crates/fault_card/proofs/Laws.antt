@@ -1,15 +1,15 @@
 -- Bytes read one by one, little-endian; a card's places and fields; when a card is exact.
 use mathlib.Core.Path.{◌≡◌, refl, sym, ap, ◌∙◌}
-use mathlib.Core.Bool.{Bool, true, false, cond, not, ◌&&◌, ◌||◌}
+use mathlib.Core.Bool.{Bool, true, false, cond, ◌&&◌}
 use mathlib.Core.List.{List}
 use Prim.Native.Nat.{ℕ, suc, ◌+◌, ◌-◌, ◌*◌, ◌^◌, ◌<◌, ◌≤◌}
 use native.Mathlib.Nat.{pow-suc, pow-le-pow_right}
 use native.Mathlib.Omega.{arith}
-use lib.Dec.{lit<, ltb, eqb}
+use lib.Dec.{lit<, eqb}
 use lib.ListN.{length, get_or}
-use borrow.Author.Tests.{eq-eqb, ne_eqb, le-leb, lt-leb, lt-ltb, le-ltb}
+use borrow.Author.Tests.{eq-eqb, ne_eqb, le-leb, lt-leb}
 use Rattle.fault_rule.specs.declared.DropSpec.{DropSpec}
-use Rattle.fault_rule.specs.Rule.{has, kind_bit, from_bit, to_bit, tier_bit, probability_bit, window_bit, closed_bit}
+use Rattle.fault_rule.specs.Rule.{kind_bit, from_bit, to_bit, tier_bit, probability_bit, window_bit}
 use Rattle.fault_rule.proofs.Laws.{yes, no}
 use Rattle.std.specs.Prelude.{Option, Some, None}
 use Rattle.fault_card.specs.declared.Places.{Places}

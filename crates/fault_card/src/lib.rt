@@ -26,7 +26,7 @@ fn byte(s: &[u8], i: usize) -> u64
     s.get(i).map_or(0, |b| u64::from(*b))
 }
 
-// The w bytes from i, little-endian; the highest is read first.
+// The w bytes from i, little-endian; the highest is read first. By hand: `from_le_bytes` wants an array of one width, and a field has 1, 4 or 8 bytes, and 0 for those past the end.
 fn little(s: &[u8], i: usize, w: usize) -> u64
     requires { (i ≤ longest) × (w ≤ 8) }
     ensures { result ≡ le_at s.now i w }

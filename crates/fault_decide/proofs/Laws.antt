@@ -3,14 +3,13 @@ use mathlib.Core.Path.{◌≡◌, refl, sym, ap, ◌∙◌}
 use mathlib.Core.Bool.{Bool, true, false, cond, not}
 use mathlib.Core.List.{List, [], ◌∷◌}
 use Prim.Native.Nat.{ℕ, ◌+◌, ◌*◌, ◌-◌, ◌≤◌, ◌<◌}
-use native.Mathlib.Nat.{zero-add, add-zero}
+use native.Mathlib.Nat.{zero-add}
 use native.Mathlib.Omega.{arith}
 use lib.ListN.{drop}
 use lib.Ieee.{Float, le}
 use Rattle.rand_streams.specs.declared.Cursor.{Cursor}
 use Rattle.rand_streams.specs.Streams.{Moved}
 use Rattle.rand_draw.specs.Fraction.{fraction_at}
-use Rattle.fault_rule.specs.declared.FaultAction.{FaultAction}
 use Rattle.fault_rule.specs.declared.FaultAction.TheVariants.{DropWithProbability}
 use Rattle.fault_rule.specs.declared.MessageContext.{MessageContext}
 use Rattle.fault_rule.specs.declared.Rule.{Rule}
@@ -25,9 +24,6 @@ use Rattle.fault_decide.proofs.Held.{rule_words}
 
 abbrev verdict : Bool → ℕ → ℕ → Decision
 verdict d p w = record { drops = d; place = p; words = w }
-
-after_none : (d : Decision) → after 0 d ≡ d
-after_none d = ap (λ (k : ℕ). verdict d.drops k d.words) (add-zero d.place)
 
 after_after : (i k : ℕ) (d : Decision) → after i (after k d) ≡ after (i + k) d
 after_after i k d = let q : d.place + k + i ≡ d.place + (i + k) = omega arith in ap (λ (p : ℕ). verdict d.drops p d.words) q
@@ -65,9 +61,6 @@ pub record Scanned (ws : List ℕ) (n : ℕ) (m : MessageContext) (c : Cursor) (
   pub rest : decide_of c.key m (rules_of ws n) c.count ≡ after i (decide_of c.key m (drop i (rules_of ws n)) cursor.count)
 
 module _ (ws : List ℕ) (n : ℕ) (m : MessageContext) (c : Cursor) where
-  pub begin : Scanned ws n m c 0 c
-  begin = record { few = omega arith; key = refl; rest = sym (after_none _) }
-
   module _ (i : ℕ) (cursor : Cursor) (s : Scanned ws n m c i cursor) (h : i < n) (next : Cursor) (k : next.key ≡ cursor.key) {b : Bool}
       (does : tried b next.count ≡ try_rule cursor.key m (rule_at ws (i * rule_width)) cursor.count) where
     does_so : tried b next.count ≡ try_rule c.key m (rule_at ws (i * rule_width)) cursor.count
@@ -79,7 +72,11 @@ module _ (ws : List ℕ) (n : ℕ) (m : MessageContext) (c : Cursor) where
         ∙ ap (λ (x : Tried). after i (cond x.drops (verdict true 0 x.words) (after 1 (decide_of c.key m (drop (i + 1) (rules_of ws n)) x.words)))) (sym does_so)
 
     pub hit : b ≡ true → (verdict true i next.count ≡ decide_of c.key m (rules_of ws n) c.count) × (next.key ≡ c.key)
-    hit e = (ap (λ p. verdict true p next.count) (sym (zero-add i)) ∙ sym (here ∙ ap (λ x. after i (cond x (verdict true 0 next.count) (after 1 (decide_of c.key m (drop (i + 1) (rules_of ws n)) next.count)))) e), k ∙ s.key)
+    hit e = (
+      ap (λ p. verdict true p next.count) (sym (zero-add i)) ∙
+          sym (here ∙ ap (λ x. after i (cond x (verdict true 0 next.count) (after 1 (decide_of c.key m (drop (i + 1) (rules_of ws n)) next.count)))) e),
+      k ∙ s.key,
+    )
 
     pub missed : b ≡ false → Scanned ws n m c (i + 1) next
     missed e =

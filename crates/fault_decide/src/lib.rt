@@ -1,4 +1,6 @@
 // Which rule drops a message: the first, in install order, that applies and whose draw hits.
+// How far below 2^63 the count must be stands at each function: one rule takes two words at most, n of them 2 * n, so no invariant of the cursor says it.
+// A table and how many of its rules are in use stay two parameters, as in fault_rules.
 #![tactic(auto)]
 
 ghost use Rattle.std.specs.Prelude.{◌≡◌, ◌+◌, ◌*◌, ◌≤◌, ◌<◌, ◌^◌, length};

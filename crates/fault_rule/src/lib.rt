@@ -34,6 +34,7 @@ pub enum TimeWindow {
     Closed { start: u64, end: u64 },
 }
 
+// What a rule does to a message: drop it, or drop it with a probability. No Option<f64>: its None would have to mean the drop that needs no draw, no plainer.
 #[derive(Clone, Copy)]
 pub enum FaultAction {
     Drop,
@@ -64,7 +65,7 @@ pub struct Rule {
     pub window: TimeWindow,
 }
 
-// A message at its dispatch, and the time. Tiers: gossip 0, notification 1, request 2, response 3.
+// A message at its dispatch, and the time. Tiers: gossip 0, notification 1, request 2, response 3; no enum, as C and the drop card give them as numbers, and a rule only compares them.
 #[derive(Clone, Copy)]
 pub struct MessageContext {
     pub kind: u64,

@@ -1,12 +1,73 @@
 -- From tables to lists: the rules that a table holds after each write, and its length.
-use Rattle.std.proofs.Common.{◌≡◌, ℕ, zero, suc, ◌+◌, ◌-◌, ◌*◌, ◌%◌, ◌^◌, ◌<◌, ◌≤◌, Bool, true, false, cond, ◌&&◌, ltb, List, [], ◌∷◌, ◌++◌, length, get_or, take, drop, set, sym, refl, ap, ◌∙◌, arith, lit<, length-drop, take-append-drop, length-take-le, get_or-set_other, get_or-set_same, ltb-false, ltb-true, eq-eqb}
+use Rattle.std.proofs.Common.{
+  ◌≡◌,
+  ℕ,
+  zero,
+  suc,
+  ◌+◌,
+  ◌-◌,
+  ◌*◌,
+  ◌%◌,
+  ◌^◌,
+  ◌<◌,
+  ◌≤◌,
+  Bool,
+  true,
+  false,
+  cond,
+  ◌&&◌,
+  ltb,
+  List,
+  [],
+  ◌∷◌,
+  ◌++◌,
+  length,
+  get_or,
+  take,
+  drop,
+  set,
+  sym,
+  refl,
+  ap,
+  ◌∙◌,
+  arith,
+  lit<,
+  length-drop,
+  take-append-drop,
+  length-take-le,
+  get_or-set_other,
+  get_or-set_same,
+  ltb-false,
+  ltb-true,
+  eq-eqb,
+}
 use Rattle.fault_rule.proofs.Laws.{yes, no}
 use Rattle.fault_card.specs.Card.{exact, fields_of}
 use Rattle.table_rows.proofs.Rows.{rows_snoc, rows_close}
 use Rattle.table_rows.proofs.Writes.{rows_set}
 use Rattle.table_shift.specs.Shift.{put_words, closed}
 use Rattle.fault_rules.specs.declared.FaultRule.{FaultRule}
-use Rattle.fault_rules.specs.Rules.{rule_width, fired_word, rule_slots, most_rules, rule_at, words, put_at, first_rule, rules_of, new_rule, with_rule, without, fired_more, fire_at, install_number, install_table, index_of, remove_table, fire_table}
+use Rattle.fault_rules.specs.Rules.{
+  rule_width,
+  fired_word,
+  rule_slots,
+  most_rules,
+  rule_at,
+  words,
+  put_at,
+  first_rule,
+  rules_of,
+  new_rule,
+  with_rule,
+  without,
+  fired_more,
+  fire_at,
+  install_number,
+  install_table,
+  index_of,
+  remove_table,
+  fire_table,
+}
 use Rattle.fault_rules.proofs.Laws.{alone, rules_from, length_rules, rule_drop, index_le, without_at, stays, fewer}
 
 -- ---- an installed rule stands last
@@ -86,7 +147,8 @@ rules_fired ws n p h room =
     let k : rule_width ≤ length (drop (p * rule_width) ws) = rw length-drop (omega arith) in
     let q : length l ≡ rule_width = length-take-le rule_width (drop (p * rule_width) ws) k in
     rows_set rule_width first_rule alone ws n p fired_word v (lit< tt) h room
-    ∙ ap (λ (r : FaultRule). take p (rules_of ws n) ++ (r ∷ drop (p + 1) (rules_of ws n))) (one_more l v (omega (arith, q)) ∙ ap (λ (r : FaultRule). record { id = r.id; spec = r.spec; fired = v }) (part_rule ws (p * rule_width) k))
+    ∙ ap (λ (r : FaultRule). take p (rules_of ws n) ++ (r ∷ drop (p + 1) (rules_of ws n))) (one_more l v (omega (arith, q)) ∙
+    ap (λ (r : FaultRule). record { id = r.id; spec = r.spec; fired = v }) (part_rule ws (p * rule_width) k))
     ∙ fired_is p (rules_of ws n) _ (rule_at ws (p * rule_width)) (rules_from ws n p h)
 
 -- ---- each write leaves the table as long as it was

@@ -1,5 +1,49 @@
 -- The rule table against the list of rules that it holds: rows, the search for an id, and what each call leaves.
-use Rattle.std.proofs.Common.{◌≡◌, ℕ, suc, ◌+◌, ◌-◌, ◌*◌, ◌/◌, ◌%◌, ◌^◌, ◌<◌, ◌≤◌, ◌⊎◌, inl, inr, Bool, true, false, cond, ◌&&◌, eqb, ltb, List, [], ◌∷◌, ◌++◌, length, get_or, take, drop, set, sym, refl, ap, ◌∙◌, add-zero, zero-add, arith, lit<, get_or-drop, le-ltb, lt-ltb, eq-eqb, ne_eqb}
+use Rattle.std.proofs.Common.{
+  ◌≡◌,
+  ℕ,
+  suc,
+  ◌+◌,
+  ◌-◌,
+  ◌*◌,
+  ◌/◌,
+  ◌%◌,
+  ◌^◌,
+  ◌<◌,
+  ◌≤◌,
+  ◌⊎◌,
+  inl,
+  inr,
+  Bool,
+  true,
+  false,
+  cond,
+  ◌&&◌,
+  eqb,
+  ltb,
+  List,
+  [],
+  ◌∷◌,
+  ◌++◌,
+  length,
+  get_or,
+  take,
+  drop,
+  set,
+  sym,
+  refl,
+  ap,
+  ◌∙◌,
+  add-zero,
+  zero-add,
+  arith,
+  lit<,
+  get_or-drop,
+  le-ltb,
+  lt-ltb,
+  eq-eqb,
+  ne_eqb,
+}
 use lib.ListN.{get_or-append}
 use lib.Seq.{set_out}
 use Rattle.fault_rule.specs.declared.DropSpec.{DropSpec}
@@ -9,10 +53,28 @@ use Rattle.fault_card.specs.Card.{card_of}
 use Rattle.fault_card.proofs.Laws.{exact_card, inexact_card}
 use Rattle.table_rows.proofs.Rows.{length_rows, drop_rows, rows_next, rows_end_lem, rows_first}
 use Rattle.table_shift.specs.Shift.{closed, put_words}
-use Rattle.table_shift.proofs.Laws.{stores, stored}
 use Rattle.fault_rules.specs.declared.FaultRule.{FaultRule}
 use Rattle.fault_rules.specs.declared.Removed.{Removed}
-use Rattle.fault_rules.specs.Rules.{rule_width, fired_word, rule_slots, most_rules, rule_at, words, put_at, first_rule, rules_of, new_rule, without, reading_of, removed_of, install_number, install_table, index_of, remove_table, fire_table}
+use Rattle.fault_rules.specs.Rules.{
+  rule_width,
+  fired_word,
+  rule_slots,
+  most_rules,
+  rule_at,
+  words,
+  put_at,
+  first_rule,
+  rules_of,
+  new_rule,
+  without,
+  reading_of,
+  removed_of,
+  install_number,
+  install_table,
+  index_of,
+  remove_table,
+  fire_table,
+}
 
 -- ---- a row is its words
 rule_of : (ℕ → ℕ) → FaultRule

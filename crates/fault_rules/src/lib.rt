@@ -1,4 +1,6 @@
 // The drop rules of a network: rows of a lent table, in install order.
+// A table and how many of its rows are in use stay two parameters, and `n * rule_width ≤ length ws` stands at each function: a rule more is put behind those rows, and a function
+// that took only their part would be called with a slice whose rows must be shown to be the table's first n, at each call: no plainer.
 #![tactic(auto)]
 
 ghost use Rattle.std.specs.Prelude.{◌≡◌, ◌+◌, ◌-◌, ◌*◌, ◌<◌, ◌≤◌, length, MatchOption, refl};
@@ -92,7 +94,7 @@ impl Row for FaultRule {
     ghost wide = { refl };
 }
 
-// The place of the rule with this id among the first n.
+// The place of the rule with this id among the first n. By hand: `table_rows::passing` reads each row whole, and gives n, not None, where there is none.
 pub fn find(ws: &[u64], n: usize, id: u64) -> Option<usize>
     requires { n * rule_width ≤ length ws.now }
     ensures { MatchOption result (index_of id (rules_of ws.now n) ≡ n) (λ p. (p ≡ index_of id (rules_of ws.now n)) × (p < n)) }

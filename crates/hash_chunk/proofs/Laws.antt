@@ -63,7 +63,8 @@ blocks_last h s t d e g u v =
     v ∙ ap (λ x. compressed h x t (length s) (d + 2 + e)) u ∙ sym (ap (λ n. blocks n h s t d e) k)
 
 -- the loop over a chunk's blocks
-pub blocks_two : (h f r : List ℕ) (t d e n : ℕ) {h' f' r' m : List ℕ} → 64 < length f + length r → n ≡ 64 - length f → r' ≡ drop n r → f' ≡ drop 64 f → m ≡ words_of (f ++ r) → h' ≡ compressed h m t 64 d
+pub blocks_two : (h f r : List ℕ) (t d e n : ℕ) {h' f' r' m : List ℕ} → 64 < length f + length r → n ≡ 64 - length f → r' ≡ drop n r → f' ≡ drop 64 f →
+    m ≡ words_of (f ++ r) → h' ≡ compressed h m t 64 d
     → blocks ((length (f' ++ r') - 1) / 64) h' (f' ++ r') t 0 e ≡ blocks ((length (f ++ r) - 1) / 64) h (f ++ r) t d e
 blocks_two h f r t d e n g p q s u v =
     blocks_next h (f ++ r) t d e (subst (λ z. 64 < z) (sym (length-append f r)) g) (ap₂ ◌++◌ s (q ∙ ap (λ k. drop k r) p) ∙ sym (drop_both 64 f r)) refl (u ∙ words_take (f ++ r)) v

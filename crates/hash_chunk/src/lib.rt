@@ -48,7 +48,7 @@ fn block_words(head: &[u8], tail: &[u8]) -> Words
     words_whole(&block)
 }
 
-// The chaining value of chunk t.
+// The chaining value of chunk t. `e` is 0, or 8 at the root; `e ≤ 8` stands here, in parent_value and in three functions above: a bool or an enum would take fewer numbers than these promise for.
 pub fn chunk_value(head: &[u8], tail: &[u8], t: u64, e: u32) -> [u32; 8]
     requires { (length head.now + length tail.now ≤ 1024) × (e ≤ 8) }
     ensures { result ≡ chunk (head.now ++ tail.now) t e }
@@ -57,6 +57,7 @@ pub fn chunk_value(head: &[u8], tail: &[u8], t: u64, e: u32) -> [u32; 8]
     let mut d: u32 = 1;
     let mut front = head;
     let mut rest = tail;
+    // No `for`: it counts nothing, and goes on while more than a block is left.
     while 64 < front.len() + rest.len() {
         let next = compress(h, block_words(front, rest), t, 64, d);
         h = next;

@@ -1,11 +1,34 @@
 -- Laws of a round, and of the loop over the rounds.
 use Prim.Native.Nat.{ℕ, suc, ◌+◌, ◌-◌, ◌<◌, ◌≤◌}
 use native.Mathlib.Omega.{arith}
+use Rattle.std.specs.Prelude.{◌%◌, ◌^◌, bit_xor}
+use Rattle.std.specs.Int.{w32, rotate_right}
+use Rattle.math_word.specs.Word.{add32, xor32}
+use Rattle.math_word.proofs.Laws.{rotr_is}
 use mathlib.Core.Path.{◌≡◌, refl, ap, ap₂, sym, ◌∙◌}
 use mathlib.Core.List.{List, [], ◌∷◌}
 use lib.ListN.{length}
 use Rattle.math_word.specs.declared.Quad.{Quad}
-use Rattle.hash_compress.specs.Compress.{mix_of, put_quad, mix_at, columns, diagonals, permuted, round_of, rounds, folded, compressed}
+use Rattle.hash_compress.specs.Compress.{half_of, mix_of, put_quad, mix_at, columns, diagonals, permuted, round_of, rounds, folded, compressed}
+
+-- half of G, by std's rotation
+half_made : (q : Quad) (m s t : ℕ) {d b : ℕ} → 0 < s → s < 32 → 0 < t → t < 32
+    → d ≡ rotate_right w32 (bit_xor q.d (((q.a + q.b) % 2 ^ 32 + m) % 2 ^ 32)) s → b ≡ rotate_right w32 (bit_xor q.b ((q.c + d) % 2 ^ 32)) t
+    → ◌≡◌ {A = Quad} (record { a = ((q.a + q.b) % 2 ^ 32 + m) % 2 ^ 32; b = b; c = (q.c + d) % 2 ^ 32; d = d }) (half_of q m s t)
+unfolding half_of add32 xor32
+half_made q m s t h0 h1 k0 k1 p r = cc (rotr_is _ s h0 h1, rotr_is _ t k0 k1)
+
+-- G
+pub mix_made : (a b c d x y : ℕ) {d1 b1 d2 b2 : ℕ}
+    → d1 ≡ rotate_right w32 (bit_xor d (((a + b) % 2 ^ 32 + x) % 2 ^ 32)) 16 → b1 ≡ rotate_right w32 (bit_xor b ((c + d1) % 2 ^ 32)) 12
+    → d2 ≡ rotate_right w32 (bit_xor d1 (((((a + b) % 2 ^ 32 + x) % 2 ^ 32 + b1) % 2 ^ 32 + y) % 2 ^ 32)) 8
+    → b2 ≡ rotate_right w32 (bit_xor b1 (((c + d1) % 2 ^ 32 + d2) % 2 ^ 32)) 7
+    → ◌≡◌ {A = Quad} (record { a = ((((a + b) % 2 ^ 32 + x) % 2 ^ 32 + b1) % 2 ^ 32 + y) % 2 ^ 32; b = b2; c = ((c + d1) % 2 ^ 32 + d2) % 2 ^ 32; d = d2 })
+    (mix_of (record { a = a; b = b; c = c; d = d }) x y)
+unfolding mix_of
+mix_made a b c d x y p0 p1 p2 p3 =
+    let first = half_made (record { a = a; b = b; c = c; d = d }) x 16 12 (omega arith) (omega arith) (omega arith) (omega arith) p0 p1 in
+    half_made _ y 8 7 (omega arith) (omega arith) (omega arith) (omega arith) p2 p3 ∙ ap (λ q. half_of q y 8 7) first
 
 -- the state after the four diagonals, in its order
 unfoldable pub laid : Quad → Quad → Quad → Quad → List ℕ
@@ -13,10 +36,34 @@ laid d0 d1 d2 d3 = d0.a ∷ d1.a ∷ d2.a ∷ d3.a ∷ d3.b ∷ d0.b ∷ d1.b �
 
 module _ (v0 v1 v2 v3 v4 v5 v6 v7 v8 v9 v10 v11 v12 v13 v14 v15 x0 x1 x2 x3 x4 x5 x6 x7 x8 x9 x10 x11 x12 x13 x14 x15 : ℕ) where
   plain : laid
-      (mix_of (record { a = (mix_of (record { a = v0; b = v4; c = v8; d = v12 }) x0 x1).a; b = (mix_of (record { a = v1; b = v5; c = v9; d = v13 }) x2 x3).b; c = (mix_of (record { a = v2; b = v6; c = v10; d = v14 }) x4 x5).c; d = (mix_of (record { a = v3; b = v7; c = v11; d = v15 }) x6 x7).d }) x8 x9)
-      (mix_of (record { a = (mix_of (record { a = v1; b = v5; c = v9; d = v13 }) x2 x3).a; b = (mix_of (record { a = v2; b = v6; c = v10; d = v14 }) x4 x5).b; c = (mix_of (record { a = v3; b = v7; c = v11; d = v15 }) x6 x7).c; d = (mix_of (record { a = v0; b = v4; c = v8; d = v12 }) x0 x1).d }) x10 x11)
-      (mix_of (record { a = (mix_of (record { a = v2; b = v6; c = v10; d = v14 }) x4 x5).a; b = (mix_of (record { a = v3; b = v7; c = v11; d = v15 }) x6 x7).b; c = (mix_of (record { a = v0; b = v4; c = v8; d = v12 }) x0 x1).c; d = (mix_of (record { a = v1; b = v5; c = v9; d = v13 }) x2 x3).d }) x12 x13)
-      (mix_of (record { a = (mix_of (record { a = v3; b = v7; c = v11; d = v15 }) x6 x7).a; b = (mix_of (record { a = v0; b = v4; c = v8; d = v12 }) x0 x1).b; c = (mix_of (record { a = v1; b = v5; c = v9; d = v13 }) x2 x3).c; d = (mix_of (record { a = v2; b = v6; c = v10; d = v14 }) x4 x5).d }) x14 x15)
+      (mix_of (record {
+        a = (mix_of (record { a = v0; b = v4; c = v8; d = v12 }) x0 x1).a;
+        b = (mix_of (record { a = v1; b = v5; c = v9; d = v13 }) x2 x3).b;
+        c =
+            (mix_of (record { a = v2; b = v6; c = v10; d = v14 }) x4 x5).c;
+        d = (mix_of (record { a = v3; b = v7; c = v11; d = v15 }) x6 x7).d;
+      }) x8 x9)
+      (mix_of (record {
+        a = (mix_of (record { a = v1; b = v5; c = v9; d = v13 }) x2 x3).a;
+        b = (mix_of (record { a = v2; b = v6; c = v10; d = v14 }) x4 x5).b;
+        c =
+            (mix_of (record { a = v3; b = v7; c = v11; d = v15 }) x6 x7).c;
+        d = (mix_of (record { a = v0; b = v4; c = v8; d = v12 }) x0 x1).d;
+      }) x10 x11)
+      (mix_of (record {
+        a = (mix_of (record { a = v2; b = v6; c = v10; d = v14 }) x4 x5).a;
+        b = (mix_of (record { a = v3; b = v7; c = v11; d = v15 }) x6 x7).b;
+        c =
+            (mix_of (record { a = v0; b = v4; c = v8; d = v12 }) x0 x1).c;
+        d = (mix_of (record { a = v1; b = v5; c = v9; d = v13 }) x2 x3).d;
+      }) x12 x13)
+      (mix_of (record {
+        a = (mix_of (record { a = v3; b = v7; c = v11; d = v15 }) x6 x7).a;
+        b = (mix_of (record { a = v0; b = v4; c = v8; d = v12 }) x0 x1).b;
+        c =
+            (mix_of (record { a = v1; b = v5; c = v9; d = v13 }) x2 x3).c;
+        d = (mix_of (record { a = v2; b = v6; c = v10; d = v14 }) x4 x5).d;
+      }) x14 x15)
       ≡ round_of (v0 ∷ v1 ∷ v2 ∷ v3 ∷ v4 ∷ v5 ∷ v6 ∷ v7 ∷ v8 ∷ v9 ∷ v10 ∷ v11 ∷ v12 ∷ v13 ∷ v14 ∷ v15 ∷ []) (x0 ∷ x1 ∷ x2 ∷ x3 ∷ x4 ∷ x5 ∷ x6 ∷ x7 ∷ x8 ∷ x9 ∷ x10 ∷ x11 ∷ x12 ∷ x13 ∷ x14 ∷ x15 ∷ [])
   unfolding laid round_of columns diagonals mix_at put_quad
   plain = refl
@@ -30,7 +77,8 @@ module _ (v0 v1 v2 v3 v4 v5 v6 v7 v8 v9 v10 v11 v12 v13 v14 v15 x0 x1 x2 x3 x4 x
       → d1 ≡ mix_of (record { a = c1.a; b = c2.b; c = c3.c; d = c0.d }) x10 x11
       → d2 ≡ mix_of (record { a = c2.a; b = c3.b; c = c0.c; d = c1.d }) x12 x13
       → d3 ≡ mix_of (record { a = c3.a; b = c0.b; c = c1.c; d = c2.d }) x14 x15
-      → laid d0 d1 d2 d3 ≡ round_of (v0 ∷ v1 ∷ v2 ∷ v3 ∷ v4 ∷ v5 ∷ v6 ∷ v7 ∷ v8 ∷ v9 ∷ v10 ∷ v11 ∷ v12 ∷ v13 ∷ v14 ∷ v15 ∷ []) (x0 ∷ x1 ∷ x2 ∷ x3 ∷ x4 ∷ x5 ∷ x6 ∷ x7 ∷ x8 ∷ x9 ∷ x10 ∷ x11 ∷ x12 ∷ x13 ∷ x14 ∷ x15 ∷ [])
+      → laid d0 d1 d2 d3 ≡ round_of (v0 ∷ v1 ∷ v2 ∷ v3 ∷ v4 ∷ v5 ∷ v6 ∷ v7 ∷ v8 ∷ v9 ∷ v10 ∷ v11 ∷ v12 ∷ v13 ∷ v14 ∷ v15 ∷ []) (x0 ∷ x1 ∷ x2 ∷ x3 ∷ x4 ∷ x5 ∷ x6 ∷
+      x7 ∷ x8 ∷ x9 ∷ x10 ∷ x11 ∷ x12 ∷ x13 ∷ x14 ∷ x15 ∷ [])
   round_made c0 c1 c2 c3 d0 d1 d2 d3 p0 p1 p2 p3 q0 q1 q2 q3 = cc plain
 
 -- a turn of the loop over the rounds

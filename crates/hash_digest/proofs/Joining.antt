@@ -1,5 +1,5 @@
 -- Two parts that fill a block are what is joined in it.
-use Rattle.std.proofs.Common.{◌≡◌, ℕ, ◌+◌, ◌-◌, List, [], ◌++◌, length, take, replicate, ap, ap₂, ◌∙◌, arith}
+use Rattle.std.proofs.Common.{◌≡◌, ℕ, ◌+◌, ◌-◌, List, ◌++◌, length, take, replicate, ap, ap₂, ◌∙◌, arith}
 use Rattle.std.proofs.Math.Seq.{take_all}
 use mathlib.Core.List.{append-nil}
 

@@ -28,13 +28,15 @@ tree_leaf k s t e p = sym (ap (λ n. tree n s t e) p)
 pub tree_same : (k : ℕ) (s : List ℕ) (t e : ℕ) → (k ≡ 0 → ⊥) → length s ≤ 1024 * 2 ^ (k - 1) → tree (k - 1) s t e ≡ tree k s t e
 unfolding tree
 tree_same k s t e f h =
-    sym (ap (λ b. pick b (tree (k - 1) s t e) (parent (tree (k - 1) (take (1024 * 2 ^ (k - 1)) s) t 0) (tree (k - 1) (drop (1024 * 2 ^ (k - 1)) s) (t + 2 ^ (k - 1)) 0) e)) (le-leb _ _ h)) ∙ up k s t e f
+    sym (ap (λ b. pick b (tree (k - 1) s t e)
+    (parent (tree (k - 1) (take (1024 * 2 ^ (k - 1)) s) t 0) (tree (k - 1) (drop (1024 * 2 ^ (k - 1)) s) (t + 2 ^ (k - 1)) 0) e)) (le-leb _ _ h)) ∙ up k s t e f
 
 pub tree_both : (k : ℕ) (s : List ℕ) (t e : ℕ) → (k ≡ 0 → ⊥) → 1024 * 2 ^ (k - 1) < length s
     → parent (tree (k - 1) (take (1024 * 2 ^ (k - 1)) s) t 0) (tree (k - 1) (drop (1024 * 2 ^ (k - 1)) s) (t + 2 ^ (k - 1)) 0) e ≡ tree k s t e
 unfolding tree
 tree_both k s t e f h =
-    sym (ap (λ b. pick b (tree (k - 1) s t e) (parent (tree (k - 1) (take (1024 * 2 ^ (k - 1)) s) t 0) (tree (k - 1) (drop (1024 * 2 ^ (k - 1)) s) (t + 2 ^ (k - 1)) 0) e)) (lt-leb _ _ h)) ∙ up k s t e f
+    sym (ap (λ b. pick b (tree (k - 1) s t e)
+    (parent (tree (k - 1) (take (1024 * 2 ^ (k - 1)) s) t 0) (tree (k - 1) (drop (1024 * 2 ^ (k - 1)) s) (t + 2 ^ (k - 1)) 0) e)) (lt-leb _ _ h)) ∙ up k s t e f
 
 pub tree_made : (k : ℕ) (s : List ℕ) (t e n : ℕ) (f b : List ℕ) {v l r : List ℕ} → (k ≡ 0 → ⊥) → n ≡ 2 ^ (k - 1) → 1024 * n < length s
     → f ≡ take (1024 * n) s → b ≡ drop (1024 * n) s → l ≡ tree (k - 1) f t 0 → r ≡ tree (k - 1) b (t + n) 0 → v ≡ parent l r e → v ≡ tree k s t e

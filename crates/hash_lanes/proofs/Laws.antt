@@ -54,24 +54,45 @@ module _ (xs : List ℕ) (l : ℕ) (v0 v1 v2 v3 v4 v5 v6 v7 : ℕ) where
   unfolding lane8
   lane8_same h g =
       let vs : List ℕ = v0 ∷ v1 ∷ v2 ∷ v3 ∷ v4 ∷ v5 ∷ v6 ∷ v7 ∷ [] in
-      cc (stored_same xs l 0 (v0 ∷ v1 ∷ v2 ∷ v3 ∷ v4 ∷ v5 ∷ v6 ∷ v7 ∷ []) 0 (omega arith) g (omega arith), stored_same xs l 0 (v0 ∷ v1 ∷ v2 ∷ v3 ∷ v4 ∷ v5 ∷ v6 ∷ v7 ∷ []) 1 (omega arith) g (omega arith), stored_same xs l 0 (v0 ∷ v1 ∷ v2 ∷ v3 ∷ v4 ∷ v5 ∷ v6 ∷ v7 ∷ []) 2 (omega arith) g (omega arith), stored_same xs l 0 (v0 ∷ v1 ∷ v2 ∷ v3 ∷ v4 ∷ v5 ∷ v6 ∷ v7 ∷ []) 3 (omega arith) g (omega arith), stored_same xs l 0 (v0 ∷ v1 ∷ v2 ∷ v3 ∷ v4 ∷ v5 ∷ v6 ∷ v7 ∷ []) 4 (omega arith) g (omega arith), stored_same xs l 0 (v0 ∷ v1 ∷ v2 ∷ v3 ∷ v4 ∷ v5 ∷ v6 ∷ v7 ∷ []) 5 (omega arith) g (omega arith), stored_same xs l 0 (v0 ∷ v1 ∷ v2 ∷ v3 ∷ v4 ∷ v5 ∷ v6 ∷ v7 ∷ []) 6 (omega arith) g (omega arith), stored_same xs l 0 (v0 ∷ v1 ∷ v2 ∷ v3 ∷ v4 ∷ v5 ∷ v6 ∷ v7 ∷ []) 7 (omega arith) g (omega arith))
+      cc (
+        stored_same xs l 0 (v0 ∷ v1 ∷ v2 ∷ v3 ∷ v4 ∷ v5 ∷ v6 ∷ v7 ∷ []) 0 (omega arith) g (omega arith),
+        stored_same xs l 0 (v0 ∷ v1 ∷ v2 ∷ v3 ∷ v4 ∷ v5 ∷ v6 ∷ v7 ∷ []) 1 (omega arith) g (omega arith),
+        stored_same xs l 0 (v0 ∷ v1 ∷ v2 ∷ v3 ∷ v4 ∷ v5 ∷ v6 ∷ v7 ∷ []) 2 (omega arith) g (omega arith),
+        stored_same xs l 0 (v0 ∷ v1 ∷ v2 ∷ v3 ∷ v4 ∷ v5 ∷ v6 ∷ v7 ∷ []) 3 (omega arith) g (omega arith),
+        stored_same xs l 0 (v0 ∷ v1 ∷ v2 ∷ v3 ∷ v4 ∷ v5 ∷ v6 ∷ v7 ∷ []) 4 (omega arith) g (omega arith),
+        stored_same xs l 0 (v0 ∷ v1 ∷ v2 ∷ v3 ∷ v4 ∷ v5 ∷ v6 ∷ v7 ∷ []) 5 (omega arith) g (omega arith),
+        stored_same xs l 0 (v0 ∷ v1 ∷ v2 ∷ v3 ∷ v4 ∷ v5 ∷ v6 ∷ v7 ∷ []) 6 (omega arith) g (omega arith),
+        stored_same xs l 0 (v0 ∷ v1 ∷ v2 ∷ v3 ∷ v4 ∷ v5 ∷ v6 ∷ v7 ∷ []) 7 (omega arith) g (omega arith),
+      )
 
   pub lane8_other : (j : ℕ) → (l ≡ j → ⊥) → l < 4 → j < 4 → lane8 (stored xs l 0 (v0 ∷ v1 ∷ v2 ∷ v3 ∷ v4 ∷ v5 ∷ v6 ∷ v7 ∷ [])) j ≡ lane8 xs j
   unfolding lane8
   lane8_other j n g h =
-      cc (stored_other xs l 0 (v0 ∷ v1 ∷ v2 ∷ v3 ∷ v4 ∷ v5 ∷ v6 ∷ v7 ∷ []) 0 j n g h, stored_other xs l 0 (v0 ∷ v1 ∷ v2 ∷ v3 ∷ v4 ∷ v5 ∷ v6 ∷ v7 ∷ []) 1 j n g h, stored_other xs l 0 (v0 ∷ v1 ∷ v2 ∷ v3 ∷ v4 ∷ v5 ∷ v6 ∷ v7 ∷ []) 2 j n g h, stored_other xs l 0 (v0 ∷ v1 ∷ v2 ∷ v3 ∷ v4 ∷ v5 ∷ v6 ∷ v7 ∷ []) 3 j n g h, stored_other xs l 0 (v0 ∷ v1 ∷ v2 ∷ v3 ∷ v4 ∷ v5 ∷ v6 ∷ v7 ∷ []) 4 j n g h, stored_other xs l 0 (v0 ∷ v1 ∷ v2 ∷ v3 ∷ v4 ∷ v5 ∷ v6 ∷ v7 ∷ []) 5 j n g h, stored_other xs l 0 (v0 ∷ v1 ∷ v2 ∷ v3 ∷ v4 ∷ v5 ∷ v6 ∷ v7 ∷ []) 6 j n g h, stored_other xs l 0 (v0 ∷ v1 ∷ v2 ∷ v3 ∷ v4 ∷ v5 ∷ v6 ∷ v7 ∷ []) 7 j n g h)
+      cc (
+        stored_other xs l 0 (v0 ∷ v1 ∷ v2 ∷ v3 ∷ v4 ∷ v5 ∷ v6 ∷ v7 ∷ []) 0 j n g h,
+        stored_other xs l 0 (v0 ∷ v1 ∷ v2 ∷ v3 ∷ v4 ∷ v5 ∷ v6 ∷ v7 ∷ []) 1 j n g h,
+        stored_other xs l 0 (v0 ∷ v1 ∷ v2 ∷ v3 ∷ v4 ∷ v5 ∷ v6 ∷ v7 ∷ []) 2 j n g h,
+        stored_other xs l 0 (v0 ∷ v1 ∷ v2 ∷ v3 ∷ v4 ∷ v5 ∷ v6 ∷ v7 ∷ []) 3 j n g h,
+        stored_other xs l 0 (v0 ∷ v1 ∷ v2 ∷ v3 ∷ v4 ∷ v5 ∷ v6 ∷ v7 ∷ []) 4 j n g h,
+        stored_other xs l 0 (v0 ∷ v1 ∷ v2 ∷ v3 ∷ v4 ∷ v5 ∷ v6 ∷ v7 ∷ []) 5 j n g h,
+        stored_other xs l 0 (v0 ∷ v1 ∷ v2 ∷ v3 ∷ v4 ∷ v5 ∷ v6 ∷ v7 ∷ []) 6 j n g h,
+        stored_other xs l 0 (v0 ∷ v1 ∷ v2 ∷ v3 ∷ v4 ∷ v5 ∷ v6 ∷ v7 ∷ []) 7 j n g h,
+      )
 
 -- a turn of the loop over the lanes; lane l has the message words m l and the counter c l
 module _ (h : List ℕ) (m : ℕ → List ℕ) (c : ℕ → ℕ) (out r : List ℕ) (d l : ℕ) where
-  here : length out ≡ 32 → l < 4 → r ≡ compressed (lane8 h l) (m l) (c l) 64 d → lane8 (stored out l 0 (get_or r 0 0 ∷ get_or r 1 0 ∷ get_or r 2 0 ∷ get_or r 3 0 ∷ get_or r 4 0 ∷ get_or r 5 0 ∷ get_or r 6 0 ∷ get_or r 7 0 ∷ [])) l ≡ compressed (lane8 h l) (m l) (c l) 64 d
+  here : length out ≡ 32 → l < 4 → r ≡ compressed (lane8 h l) (m l) (c l) 64 d →
+      lane8 (stored out l 0 (get_or r 0 0 ∷ get_or r 1 0 ∷ get_or r 2 0 ∷ get_or r 3 0 ∷ get_or r 4 0 ∷ get_or r 5 0 ∷ get_or r 6 0 ∷ get_or r 7 0 ∷ [])) l ≡ compressed (lane8 h l) (m l) (c l) 64 d
   here n g p =
       lane8_same out l (get_or r 0 0) (get_or r 1 0) (get_or r 2 0) (get_or r 3 0) (get_or r 4 0) (get_or r 5 0) (get_or r 6 0) (get_or r 7 0) n g
       ∙ sym (eight r (ap length p ∙ length_compressed (lane8 h l) (m l) (c l) 64 d)) ∙ p
 
   pub step_turn : length out ≡ 32 → l < 4 → ((j : ℕ) → j < l → lane8 out j ≡ compressed (lane8 h j) (m j) (c j) 64 d) → r ≡ compressed (lane8 h l) (m l) (c l) 64 d
-      → (j : ℕ) → j < l + 1 → lane8 (stored out l 0 (get_or r 0 0 ∷ get_or r 1 0 ∷ get_or r 2 0 ∷ get_or r 3 0 ∷ get_or r 4 0 ∷ get_or r 5 0 ∷ get_or r 6 0 ∷ get_or r 7 0 ∷ [])) j ≡ compressed (lane8 h j) (m j) (c j) 64 d
+      → (j : ℕ) → j < l + 1 → lane8 (stored out l 0 (get_or r 0 0 ∷ get_or r 1 0 ∷ get_or r 2 0 ∷ get_or r 3 0 ∷ get_or r 4 0 ∷ get_or r 5 0 ∷ get_or r 6 0 ∷
+      get_or r 7 0 ∷ [])) j ≡ compressed (lane8 h j) (m j) (c j) 64 d
   step_turn n g inv p =
-      below_more _ _ (λ j k. lane8_other out l (get_or r 0 0) (get_or r 1 0) (get_or r 2 0) (get_or r 3 0) (get_or r 4 0) (get_or r 5 0) (get_or r 6 0) (get_or r 7 0) j (λ e. omega arith) g (omega arith) ∙ inv j k) (here n g p)
+      below_more _ _ (λ j k. lane8_other out l (get_or r 0 0) (get_or r 1 0) (get_or r 2 0) (get_or r 3 0) (get_or r 4 0) (get_or r 5 0) (get_or r 6 0)
+      (get_or r 7 0) j (λ e. omega arith) g (omega arith) ∙ inv j k) (here n g p)
 
 -- what holds at 0, 1, 2 and 3 holds below 4
 pub below_four : (P : ℕ → Type 0) → P 0 → P 1 → P 2 → P 3 → (l : ℕ) → l < 4 → P l

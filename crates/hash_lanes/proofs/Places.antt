@@ -134,4 +134,21 @@ module _ (a b : List ℕ) where
     pub filled_blocks : words_of (drop (64 * l) r) ≡ lane8 a l ++ lane8 b l
     unfolding words_of lane8
     filled_blocks =
-        cc (word_left 0 (omega arith), word_left 1 (omega arith), word_left 2 (omega arith), word_left 3 (omega arith), word_left 4 (omega arith), word_left 5 (omega arith), word_left 6 (omega arith), word_left 7 (omega arith), word_right 0 (omega arith), word_right 1 (omega arith), word_right 2 (omega arith), word_right 3 (omega arith), word_right 4 (omega arith), word_right 5 (omega arith), word_right 6 (omega arith), word_right 7 (omega arith))
+        cc (
+          word_left 0 (omega arith),
+          word_left 1 (omega arith),
+          word_left 2 (omega arith),
+          word_left 3 (omega arith),
+          word_left 4 (omega arith),
+          word_left 5 (omega arith),
+          word_left 6 (omega arith),
+          word_left 7 (omega arith),
+          word_right 0 (omega arith),
+          word_right 1 (omega arith),
+          word_right 2 (omega arith),
+          word_right 3 (omega arith),
+          word_right 4 (omega arith),
+          word_right 5 (omega arith),
+          word_right 6 (omega arith),
+          word_right 7 (omega arith),
+        )

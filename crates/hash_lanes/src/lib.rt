@@ -42,6 +42,7 @@ fn lane(h: &[u32; 32], l: usize) -> [u32; 8]
     ]
 }
 
+// n is how far apart the lanes lie, here and in `chunks`, not how many bytes of s count. The eight stores stay apart: with a loop inside this one LLVM makes no vector code (0.65 GB/s against 1.5).
 // One block of each lane l: the 64 bytes of s from n * l on, with the counter t + u * l.
 fn step(h: [u32; 32], s: &[u8], n: usize, t: u64, u: u64, d: u32) -> [u32; 32]
     requires { (3 * n + 64 ≤ length s.now) × (t ≤ 2 ^ 32) × (u ≤ 2 ^ 32) }
@@ -105,6 +106,7 @@ pub fn power(k: u32) -> usize
     1 << k
 }
 
+// `k ≤ 6` and what t may be stand at each function, here and in hash_digest: how many chunks lie behind t differs, one subtree here, four of them in `whole`, so no struct of k and t says it.
 // The chaining values of four subtrees of 2^k chunks, n bytes apart, whose counters are u apart.
 fn level(s: &[u8], k: u32, n: usize, t: u64, u: u64) -> [u32; 32]
     requires { (3 * n + 1024 * 2 ^ k ≤ length s.now) × ((k ≤ 6) × ((t + 2 ^ k ≤ 128) × (u ≤ 64))) }

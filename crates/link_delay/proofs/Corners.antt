@@ -9,5 +9,6 @@ use Rattle.link_delay.specs.Delay as delay
 use Rattle.link_delay.specs.Corners.{Corners}
 
 pub corners : Corners
-unfolding ieee.of_bits ieee.eq ieee.le ieee.lt ieee.add ieee.sub ieee.mul ieee.div ieee.neg ieee.of_int real.real_of seconds.seconds latency.jitter_range latency.jitters latency.jitter_of latency.floored latency.delay_of admitted.fraction_admitted delay.digits delay.places delay.parts delay.raised delay.lowered delay.exact delay.bound
+unfolding ieee.of_bits ieee.eq ieee.le ieee.lt ieee.add ieee.sub ieee.mul ieee.div ieee.neg ieee.of_int real.real_of seconds.seconds latency.jitter_range
+    latency.jitters latency.jitter_of latency.floored latency.delay_of admitted.fraction_admitted delay.digits delay.places delay.parts delay.raised delay.lowered delay.exact delay.bound
 corners = record { as_worked_out = refl; are_close = refl }

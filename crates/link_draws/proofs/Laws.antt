@@ -10,6 +10,8 @@ use lib.Ieee.{Float, lt}
 use lib.ListN.{length, get_or-eq_default}
 use lib.Seq.{get_or-drop}
 use borrow.Author.Tests.{leb-true}
+use Rattle.std.specs.Prelude.{Option, Some, None, MatchOption}
+use Rattle.std.specs.Bool.{then_some}
 use Rattle.math_float.specs.Float.{zero64}
 use Rattle.math_time.specs.Seconds.{millisecond, seconds}
 use Rattle.rand_streams.specs.declared.Cursor.{Cursor}
@@ -72,13 +74,35 @@ picked n c i next a m l = record { is = a; words = m.count; key = m.key; few = o
 pub fault_cells : (setup : List ℕ) → cell setup key_at % 2 ^ 32 ∷ cell setup (key_at + 1) % 2 ^ 32 ∷ cell setup (key_at + 2) % 2 ^ 32 ∷ cell setup (key_at + 3) % 2 ^ 32
     ∷ cell setup (key_at + 4) % 2 ^ 32 ∷ cell setup (key_at + 5) % 2 ^ 32 ∷ cell setup (key_at + 6) % 2 ^ 32 ∷ cell setup (key_at + 7) % 2 ^ 32 ∷ [] ≡ fault_key_of (settings_at setup).fault_key
 unfolding fault_key_of
-fault_cells setup = sym (rw (get_or-drop key_at setup 0 0, get_or-drop key_at setup 1 0, get_or-drop key_at setup 2 0, get_or-drop key_at setup 3 0, get_or-drop key_at setup 4 0, get_or-drop key_at setup 5 0, get_or-drop key_at setup 6 0, get_or-drop key_at setup 7 0))
+fault_cells setup = sym (rw (
+  get_or-drop key_at setup 0 0,
+  get_or-drop key_at setup 1 0,
+  get_or-drop key_at setup 2 0,
+  get_or-drop key_at setup 3 0,
+  get_or-drop key_at setup 4 0,
+  get_or-drop key_at setup 5 0,
+  get_or-drop key_at setup 6 0,
+  get_or-drop key_at setup 7 0,
+))
 
 -- the key of a link of n tills lies in the table
 pub key_in : (from to n : ℕ) → from < n → to < n → (from * n + to) * key_width + key_width ≤ n * n * key_width
 key_in from to n f t = let k : (from + 1) * n ≤ n * n = mul-le-mul_right n (omega arith) in omega (arith, suc-mul from n)
 
 -- ---- Costs
+
+-- a cost by an Option is one by a flag
+pub cost_told : (planned : Bool) (regions : ℕ) (t : List ℕ) (a b latency bytes : ℕ) {k : Cost} (plan : Option ℕ) → plan ≡ then_some planned regions
+    → MatchOption plan (k ≡ cost_of false t 0 a b latency bytes) (λ r. k ≡ cost_of true t r a b latency bytes) → k ≡ cost_of planned t regions a b latency bytes
+unfolding cost_of
+cost_told true regions t a b latency bytes (Some r) e h = h ∙ ap (λ o. cost_of true t (value o) a b latency bytes) e
+  where
+    value : Option ℕ → ℕ
+    value (Some r) = r
+    value None = 0
+cost_told true regions t a b latency bytes None e h = absurd (cc)
+cost_told false regions t a b latency bytes (Some r) e h = absurd (cc)
+cost_told false regions t a b latency bytes None e h = h
 
 pub regions_few : (n r : ℕ) → r ≡ at_least_one n → n ≤ most_regions → r ≤ most_regions
 unfolding at_least_one
@@ -147,7 +171,8 @@ module _ (setup prices : List ℕ) (from to bytes : ℕ) (s : Sent setup prices 
     where
       go : (p : Bool) → eqb x.plan.planned 0 ≡ p
           → ((pick_cost (not p) (link_cost (link_in prices (a * n + b)) bytes) (record { base = record { ns = x.config.latency }; transmission = record { ns = 0 } })).base.ns ≤ longest_base)
-          × ((pick_cost (not p) (link_cost (link_in prices (a * n + b)) bytes) (record { base = record { ns = x.config.latency }; transmission = record { ns = 0 } })).transmission.ns ≤ longest_transmission)
+          × ((pick_cost (not p) (link_cost (link_in prices (a * n + b)) bytes)
+          (record { base = record { ns = x.config.latency }; transmission = record { ns = 0 } })).transmission.ns ≤ longest_transmission)
       go true e = (s.priced.base, omega arith)
       go false e = link_cheap (link_in prices (a * n + b)) bytes s.short (s.priced.links e (a * n + b) place)
 

@@ -1,14 +1,17 @@
 // Draws by an opening's settings: where a link's stream and the fault stream stand, a rate's hit, an index, and a latency.
+// How far below 2^63 the count must be stands at each draw, as in rand_draw: a hit takes two words at most, a latency six, so no invariant of the cursor says it.
+// `0 < n` at an index is rand_draw's: a NonZero would be made anew at each call, of a number that the caller knows to be above 0.
 #![tactic(auto)]
 
 ghost use Rattle.std.specs.Prelude.{◌≡◌, ◌+◌, ◌*◌, ◌^◌, ◌%◌, ◌<◌, ◌≤◌, length, take, drop};
 ghost use Rattle.link_geography.specs.Geography.{Stands};
 ghost use Rattle.spec_network.specs.Opening.{most_tills};
-ghost use Rattle.spec_network.specs.Tables.{cell, setup_width, settings_at};
+ghost use Rattle.spec_network.specs.Tables.{cell, settings_at};
 ghost use Rattle.spec_network.specs.Limits.{rate_of};
 ghost use Rattle.spec_network.specs.Real.{key_width, key_of, fault_key_of, region_at, cost_at};
 ghost use Rattle.link_draws.specs.Drawing.{Priced, Sent, Struck, Picked, Delayed};
 
+use ask_tables::{FAULT_KEY, cell};
 use link_geography::Cost;
 use math_time::Time;
 use rand_streams::Cursor;
@@ -16,6 +19,7 @@ use rand_streams::Cursor;
 // The words of a key.
 const KEY: usize = ask_tables::LINK_KEY_WIDTH as usize;
 
+// The low 32 bits, by the remainder that the definition names: `math_word::low_half(x) as u32` is no shorter, and no draw comes through here.
 fn low(x: u64) -> u32
     ensures { result ≡ x % 2 ^ 32 }
 {
@@ -24,10 +28,9 @@ fn low(x: u64) -> u32
 
 // The rate that is kept in cell i.
 pub fn rate(setup: &[u64], i: usize) -> f64
-    requires { i < length setup.now }
     ensures { result ≡ rate_of (cell setup.now i) }
 {
-    math_float::of_any(setup[i])
+    math_float::of_any(cell(setup, i))
 }
 
 // The key whose words start at b.
@@ -35,35 +38,29 @@ fn key_at(keys: &[u32], b: usize) -> [u32; 8]
     requires { b + key_width ≤ length keys.now }
     ensures { result ≡ take key_width (drop b keys.now) }
 {
-    [
-        keys[b],
-        keys[b + 1],
-        keys[b + 2],
-        keys[b + 3],
-        keys[b + 4],
-        keys[b + 5],
-        keys[b + 6],
-        keys[b + 7],
-    ]
+    let mut key = [0; 8];
+    let words = &mut key[..];
+    words.copy_from_slice(&keys[b..b + KEY]);
+    key
 }
 
+// The fault stream's key, cell by cell: an iterator's words would have to be collected, and there is no heap here.
 fn fault_key(setup: &[u64]) -> [u32; 8]
-    requires { length setup.now ≡ setup_width }
     ensures { result ≡ fault_key_of (settings_at setup.now).fault_key }
 {
     [
-        low(setup[ask_tables::FAULT_KEY]),
-        low(setup[ask_tables::FAULT_KEY + 1]),
-        low(setup[ask_tables::FAULT_KEY + 2]),
-        low(setup[ask_tables::FAULT_KEY + 3]),
-        low(setup[ask_tables::FAULT_KEY + 4]),
-        low(setup[ask_tables::FAULT_KEY + 5]),
-        low(setup[ask_tables::FAULT_KEY + 6]),
-        low(setup[ask_tables::FAULT_KEY + 7]),
+        low(cell(setup, FAULT_KEY)),
+        low(cell(setup, FAULT_KEY + 1)),
+        low(cell(setup, FAULT_KEY + 2)),
+        low(cell(setup, FAULT_KEY + 3)),
+        low(cell(setup, FAULT_KEY + 4)),
+        low(cell(setup, FAULT_KEY + 5)),
+        low(cell(setup, FAULT_KEY + 6)),
+        low(cell(setup, FAULT_KEY + 7)),
     ]
 }
 
-// The link's stream at a word count.
+// The link's stream at a word count. `tills ≤ most_tills` is asked beside the tills themselves: a type of theirs would be made anew from the settings at each call.
 pub fn link_at(keys: &[u32], tills: usize, from: usize, to: usize, count: u64) -> Cursor
     requires { («from» < tills) × (to < tills) × (tills ≤ most_tills) × (length keys.now ≡ tills * tills * key_width) }
     ensures { Stands (key_of tills keys.now «from» to) count result }
@@ -74,7 +71,6 @@ pub fn link_at(keys: &[u32], tills: usize, from: usize, to: usize, count: u64) -
 
 // The fault stream at a word count.
 pub fn fault_at(setup: &[u64], count: u64) -> Cursor
-    requires { length setup.now ≡ setup_width }
     ensures { Stands (fault_key_of (settings_at setup.now).fault_key) count result }
 {
     let key = fault_key(setup);
@@ -83,7 +79,7 @@ pub fn fault_at(setup: &[u64], count: u64) -> Cursor
 
 // A draw for the rate in cell i, made only where it is above 0.
 pub fn chance(setup: &[u64], i: usize, c: &mut Cursor) -> bool
-    requires { (i < length setup.now) × (c.old.count + 1 < 2 ^ 63) }
+    requires { c.old.count + 1 < 2 ^ 63 }
     ensures { Struck (cell setup.now i) c.old result c.new }
 {
     rand_draw::hits(c, rate(setup, i))
@@ -118,15 +114,8 @@ fn cost(setup: &[u64], prices: &[u64], from: usize, to: usize, bytes: u64) -> Co
     let a = region(setup, prices, from);
     let b = region(setup, prices, to);
     let latency = Time::from_nanos(setup[ask_tables::LATENCY]);
-    link_prices::cost_between(
-        prices,
-        setup[ask_tables::PLANNED] != 0,
-        setup[ask_tables::REGIONS],
-        a,
-        b,
-        latency,
-        bytes,
-    )
+    let plan = (setup[ask_tables::PLANNED] != 0).then_some(setup[ask_tables::REGIONS]);
+    link_prices::cost_between(prices, plan, a, b, latency, bytes)
 }
 
 // The latency of so many bytes between two tills.

@@ -7,7 +7,9 @@ use native.Mathlib.Omega.{arith}
 use native.Mathlib.Nat.{mod-lt}
 use borrow.Author.Tests.{eq-eqb, ne_eqb}
 use lib.Dec.{leb}
-use lib.ListN.{get_or}
+use lib.ListN.{get_or, length, take}
+use Rattle.std.specs.Prelude.{replicate, ◌-◌}
+use Rattle.std.specs.Int.{w32, w64, to_le_bytes}
 use Rattle.hash_digest.specs.Blake3.{hash}
 use Rattle.rand_streams.specs.declared.Cursor.{Cursor}
 use Rattle.rand_streams.specs.Streams.{Moved}
@@ -16,8 +18,8 @@ use Rattle.rand_draw.specs.Draw.{words64_at, whole64_at}
 use Rattle.rand_draw.proofs.Laws.{moved_on, moved_as}
 use Rattle.link_geography.specs.declared.Link.{Link}
 use Rattle.link_geography.specs.declared.Band.{Band}
-use Rattle.math_word.specs.Word.{le8}
-use Rattle.link_geography.specs.Bytes.{derive, host, links, host_bytes, links_bytes}
+use Rattle.math_word.specs.Word.{le4, le8}
+use Rattle.link_geography.specs.Bytes.{derive, host, links}
 use Rattle.link_geography.specs.Geography.{most_regions, at_least_one, region_of, transmission_of, link_of, band_of, drawn_link, link_words, link_admitted}
 
 -- ---- at least one
@@ -35,13 +37,14 @@ unfolding at_least_one
 one_most n h e = omega arith
 
 -- ---- digests
-pub host_made : (seed till : ℕ) {head tail d : List ℕ} → head ≡ le8 seed → tail ≡ host_bytes till → d ≡ hash (head ++ tail) → d ≡ derive seed host till
-unfolding derive host_bytes
-host_made seed till p q r = r ∙ ap₂ (λ x y. hash (x ++ y)) p q
+pub host_made : (seed till : ℕ) {head b tail d : List ℕ} → head ≡ to_le_bytes w64 seed → b ≡ to_le_bytes w32 till → tail ≡ host ++ (take 4 b ++ replicate (4 - length b) 0) → d ≡ hash (head ++ tail)
+    → d ≡ derive seed host till
+unfolding derive le4 le8
+host_made seed till ph pb pt pd = rw (pd, ph, pt, pb)
 
-pub links_made : (seed : ℕ) {head tail d : List ℕ} → head ≡ le8 seed → tail ≡ links_bytes → d ≡ hash (head ++ tail) → d ≡ derive seed links 0
-unfolding derive links_bytes
-links_made seed p q r = r ∙ ap₂ (λ x y. hash (x ++ y)) p q
+pub links_made : (seed : ℕ) {head d : List ℕ} → head ≡ to_le_bytes w64 seed → d ≡ hash (head ++ (links ++ le4 0)) → d ≡ derive seed links 0
+unfolding derive le8
+links_made seed ph pd = rw (pd, ph)
 
 pub region : (seed regions till : ℕ) (d : List ℕ) {n low high : ℕ} → d ≡ derive seed host till → n ≡ at_least_one regions → 0 < n → low ≡ get_or d 0 0 → high ≡ get_or d 1 0
     → ((low + 4294967296 * high) % n ≡ region_of seed regions till) × ((low + 4294967296 * high) % n < at_least_one regions)

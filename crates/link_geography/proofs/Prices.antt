@@ -16,7 +16,31 @@ use Rattle.rand_draw.proofs.Words.{whole64_below}
 use Rattle.link_geography.specs.declared.Link.{Link}
 use Rattle.link_geography.specs.declared.Band.{Band}
 use Rattle.link_geography.specs.Bytes.{derive, links}
-use Rattle.link_geography.specs.Geography.{most_bytes, at_least_one, transmission_of, link_of, pick, band_of, drawn_link, pair_link, plan_link, link_width, link_in, put_link, put_pair, priced_row, priced_all, prices_of, link_at, link_admitted, region_of, pick_cost, link_cost, cost_of, plan_cost}
+use Rattle.link_geography.specs.Geography.{
+  most_bytes,
+  at_least_one,
+  transmission_of,
+  link_of,
+  pick,
+  band_of,
+  drawn_link,
+  pair_link,
+  plan_link,
+  link_width,
+  link_in,
+  put_link,
+  put_pair,
+  priced_row,
+  priced_all,
+  prices_of,
+  link_at,
+  link_admitted,
+  region_of,
+  pick_cost,
+  link_cost,
+  cost_of,
+  plan_cost,
+}
 
 -- ---- one row of the table
 pub length_put : (t : List ℕ) (i : ℕ) (l : Link) → length (put_link t i l) ≡ length t

@@ -3,10 +3,10 @@
 
 ghost use Rattle.std.specs.Prelude.{◌≡◌, ◌+◌, ◌<◌, ◌≤◌, ◌^◌, length};
 ghost use Rattle.rand_streams.specs.Streams.{Moved};
-ghost use Rattle.math_word.specs.Word.{le8};
-ghost use Rattle.link_geography.specs.Bytes.{host_bytes, links_bytes, derive, host, links};
+ghost use Rattle.link_geography.specs.Bytes.{derive, host, links};
 ghost use Rattle.link_geography.specs.Geography.{at_least_one, region_of, transmission_of, band_of, drawn_link, link_words, link_admitted, most_bytes};
 
+use math_parts::joined;
 use math_time::Time;
 use rand_draw::range64;
 use rand_streams::Cursor;
@@ -58,64 +58,19 @@ pub fn at_least_one(n: u64) -> u64
     if n == 0 { 1 } else { n }
 }
 
-fn seed_bytes(seed: u64) -> [u8; 8]
-    ensures { (result ≡ le8 seed) × (8 ≡ length result) }
-{
-    [
-        (seed % 256) as u8,
-        (seed / 256 % 256) as u8,
-        (seed / 65536 % 256) as u8,
-        (seed / 16777216 % 256) as u8,
-        (seed / 4294967296 % 256) as u8,
-        (seed / 1099511627776 % 256) as u8,
-        (seed / 281474976710656 % 256) as u8,
-        (seed / 72057594037927936 % 256) as u8,
-    ]
-}
-
-// "host" and the till's number.
-fn host_bytes(till: u32) -> [u8; 8]
-    ensures { (result ≡ host_bytes till) × (8 ≡ length result) }
-{
-    [
-        b'h',
-        b'o',
-        b's',
-        b't',
-        (till % 256) as u8,
-        (till / 256 % 256) as u8,
-        (till / 65536 % 256) as u8,
-        (till / 16777216 % 256) as u8,
-    ]
-}
-
-// "links" and 0.
-fn links_bytes() -> [u8; 9]
-    ensures { (result ≡ links_bytes) × (9 ≡ length result) }
-{
-    [b'l', b'i', b'n', b'k', b's', 0, 0, 0, 0]
-}
-
+// The digest of the seed, "host" and the till's number.
 fn host_digest(seed: u64, till: u32) -> [u32; 8]
     ensures { result ≡ derive seed host till }
 {
-    let head = seed_bytes(seed);
-    let tail = host_bytes(till);
-    hash_digest::hash_parts(&head, &tail)
+    let named: [u8; 8] = joined(b"host", &till.to_le_bytes());
+    hash_digest::hash_parts(&seed.to_le_bytes(), &named)
 }
 
+// The digest of the seed, "links" and 0.
 pub fn links_digest(seed: u64) -> [u32; 8]
     ensures { result ≡ derive seed links 0 }
 {
-    let head = seed_bytes(seed);
-    let tail = links_bytes();
-    hash_digest::hash_parts(&head, &tail)
-}
-
-fn wide(x: u32) -> u64
-    ensures { (result ≡ x) × (result < 2 ^ 32) }
-{
-    x as u64
+    hash_digest::hash_parts(&seed.to_le_bytes(), b"links\0\0\0\0")
 }
 
 // The region that a till sits in.
@@ -124,8 +79,9 @@ pub fn region_of(seed: u64, regions: u64, till: u32) -> u64
 {
     let n = at_least_one(regions);
     let d = host_digest(seed, till);
-    let low = wide(d[0]);
-    let high = wide(d[1]);
+    // The digest's first eight bytes as a number. std makes none of two halves; one sum is no plainer as a function.
+    let low = u64::from(d[0]);
+    let high = u64::from(d[1]);
     let draw = low + 4294967296 * high;
     draw % n
 }

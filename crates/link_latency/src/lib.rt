@@ -1,4 +1,5 @@
 // The latency of one delivery, as `sample_latency`: jitter, floor, nanoseconds, transmission, spike.
+// How far below 2^63 the count must be stands at each function, as in rand_draw: a jitter takes two words at most, a delivery six, so no invariant of the cursor says it.
 #![tactic(auto)]
 
 ghost use Rattle.std.specs.Prelude.{◌≡◌, ◌+◌, ◌<◌, ◌≤◌, ◌^◌};
@@ -54,7 +55,8 @@ fn at_least(x: f64) -> f64
 // The latency before transmission.
 fn delay(c: &mut Cursor, base: Time, fraction: f64) -> Time
     requires { Admitted base.ns fraction × (c.old.count + 1 < 2 ^ 63) }
-    ensures { (result.ns ≡ delay_of base.ns fraction (word_pair c.old.key c.old.count)) × Moved c.old (jitter_words (seconds base.ns) fraction) c.new × (shortest ≤ result.ns) × (result.ns ≤ longest_delay) }
+    ensures { (result.ns ≡ delay_of base.ns fraction (word_pair c.old.key c.old.count)) × Moved c.old (jitter_words (seconds base.ns) fraction) c.new
+        × (shortest ≤ result.ns) × (result.ns ≤ longest_delay) }
 {
     let s = base.as_secs_f64();
     let j = jitter(c, s, fraction);
@@ -70,7 +72,8 @@ pub fn sample_latency(
     transmission: Time,
 ) -> Time
     requires { Admitted base.ns fraction × (transmission.ns ≤ longest_transmission) × (c.old.count + 5 < 2 ^ 63) }
-    ensures { (result.ns ≡ latency_at c.old.key c.old.count base.ns fraction rate transmission.ns) × Moved c.old (latency_words c.old.key c.old.count base.ns fraction rate) c.new × (shortest ≤ result.ns) × (result.ns ≤ longest) }
+    ensures { (result.ns ≡ latency_at c.old.key c.old.count base.ns fraction rate transmission.ns) × Moved c.old (latency_words c.old.key c.old.count base.ns fraction rate) c.new
+        × (shortest ≤ result.ns) × (result.ns ≤ longest) }
 {
     let drawn = delay(c, base, fraction);
     let plain = drawn + transmission;

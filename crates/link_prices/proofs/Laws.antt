@@ -5,8 +5,11 @@ use mathlib.Core.Bool.{Bool, true, false}
 use mathlib.Core.List.{List}
 use native.Mathlib.Omega.{arith}
 use native.Mathlib.Numerals.{add-one}
-use native.Mathlib.Nat.{mul-le-mul}
-use lib.ListN.{get_or, set}
+use lib.Dec.{leb}
+use lib.ListN.{length, get_or, set, length-set, get_or-eq_default}
+use lib.Seq.{set_out}
+use borrow.Author.Tests.{leb-true, leb-false}
+use Rattle.std.specs.Prelude.{min}
 use Rattle.rand_streams.specs.declared.Cursor.{Cursor}
 use Rattle.rand_streams.specs.Streams.{Moved}
 use Rattle.rand_draw.specs.Draw.{words64_at}
@@ -15,7 +18,28 @@ use Rattle.link_geography.specs.declared.Link.{Link}
 use Rattle.link_geography.specs.declared.Cost.{Cost}
 use Rattle.link_geography.specs.declared.Band.{Band}
 use Rattle.link_geography.specs.Bytes.{derive, links}
-use Rattle.link_geography.specs.Geography.{most_regions, at_least_one, transmission_of, link_of, band_of, drawn_link, link_words, row_count, all_count, pair_link, link_in, put_link, put_pair, priced_row, priced_all, prices_of, link_at, link_cost, cost_of, Stands}
+use Rattle.link_geography.specs.Geography.{
+  most_regions,
+  at_least_one,
+  transmission_of,
+  link_of,
+  band_of,
+  drawn_link,
+  link_words,
+  row_count,
+  all_count,
+  pair_link,
+  link_in,
+  put_link,
+  put_pair,
+  priced_row,
+  priced_all,
+  prices_of,
+  link_at,
+  link_cost,
+  cost_of,
+  Stands,
+}
 
 -- ---- the words that are taken
 pub link_words_most : (key : List ℕ) (count : ℕ) (s : Band) → link_words key count s ≤ 8
@@ -36,20 +60,33 @@ pub row_room : (key : List ℕ) (R a k : ℕ) {x : ℕ} → R ≤ most_regions �
 row_room key R a k h p q e = omega (arith, all_count_most key R a h, row_count_most key a (all_count key R a) k)
 
 -- ---- the writes
-pub linked : (t : List ℕ) (i : ℕ) (l : Link) {u v : List ℕ} → u ≡ set t (2 * i) l.base.ns → v ≡ set u (2 * i + 1) l.rate → v ≡ put_link t i l
+module _ (t : List ℕ) (short : length t < 2 ^ 64) where
+  -- a place past every number of 64 bits is past the table
+  set_at : (x y v : ℕ) → x ≡ min y (2 ^ 64 - 1) → set t x v ≡ set t y v
+  set_at x y v e = go (leb y (2 ^ 64 - 1)) refl
+    where
+      go : (b : Bool) → leb y (2 ^ 64 - 1) ≡ b → set t x v ≡ set t y v
+      go true h = ap (λ k. set t k v) (omega (arith, e, leb-true y (2 ^ 64 - 1) h))
+      go false h = set_out t x v (omega (arith, e, leb-false y (2 ^ 64 - 1) h)) ∙ sym (set_out t y v (omega (arith, leb-false y (2 ^ 64 - 1) h)))
+
+  read_at : (x y : ℕ) → x ≡ min y (2 ^ 64 - 1) → get_or t x 0 ≡ get_or t y 0
+  read_at x y e = go (leb y (2 ^ 64 - 1)) refl
+    where
+      go : (b : Bool) → leb y (2 ^ 64 - 1) ≡ b → get_or t x 0 ≡ get_or t y 0
+      go true h = ap (λ k. get_or t k 0) (omega (arith, e, leb-true y (2 ^ 64 - 1) h))
+      go false h = get_or-eq_default t 0 (omega (arith, e, leb-false y (2 ^ 64 - 1) h)) ∙ sym (get_or-eq_default t 0 (omega (arith, leb-false y (2 ^ 64 - 1) h)))
+
+pub linked : (t : List ℕ) (i : ℕ) (l : Link) {at next : ℕ} {u v : List ℕ} → length t < 2 ^ 64 → at ≡ min (2 * i) (2 ^ 64 - 1) → next ≡ min (at + 1) (2 ^ 64 - 1)
+    → u ≡ set t at l.base.ns → v ≡ set u next l.rate → v ≡ put_link t i l
 unfolding put_link
-linked t i l p q = q ∙ ap (λ z. set z (2 * i + 1) l.rate) p
+linked t i l {at} {next} {u} {v} short p n q r =
+    let first : u ≡ set t (2 * i) l.base.ns = q ∙ set_at t short at (2 * i) l.base.ns p in
+    let same : length (set t (2 * i) l.base.ns) ≡ length t = length-set t (2 * i) l.base.ns in
+    r ∙ ap (λ z. set z next l.rate) first ∙ set_at (set t (2 * i) l.base.ns) (omega (arith, same, short)) next (2 * i + 1) l.rate (omega (arith, p, n))
 
 pub paired : (t : List ℕ) (R a b : ℕ) (l : Link) {u v : List ℕ} → u ≡ put_link t (a * R + b) l → v ≡ put_link u (b * R + a) l → v ≡ put_pair t R a b l
 unfolding put_pair
 paired t R a b l p q = q ∙ ap (λ z. put_link z (b * R + a) l) p
-
--- the index of a link
-pub index_small : (a b R : ℕ) → a < most_regions → b < most_regions → R ≤ most_regions → (a * R < 2 ^ 64) × (a * R + b < 2 ^ 64) × (a * R + b < 2 ^ 32) × (2 * (a * R + b) < 2 ^ 33)
-index_small a b R p q s =
-    let h : a ≤ 16 = omega arith in
-    let k : a * R ≤ 16 * 16 = mul-le-mul h s in
-    (omega arith, omega arith, omega arith, omega arith)
 
 -- ---- a row
 pub row_none : (key : List ℕ) (R a : ℕ) (t : List ℕ) → t ≡ priced_row key R a (a - a) t
@@ -110,29 +147,29 @@ all_count_lem key R a d s = s.count ∙ ap (λ k. all_count k R a) (sym s.key)
 pub all_moves : (key : List ℕ) (R a : ℕ) (d e : Cursor) → Stands key (all_count key R a) d → Stands d.key (all_count d.key R (a + 1)) e → Stands key (all_count key R (a + 1)) e
 all_moves key R a d e s m = subst (λ k. Stands k (all_count k R (a + 1)) e) s.key m
 
-pub all_writes : (key : List ℕ) (R a : ℕ) (t t₀ t' : List ℕ) (d : Cursor) → Stands key (all_count key R a) d → t ≡ priced_all key R a t₀ → t' ≡ priced_row d.key R a (R - a) t → t' ≡ priced_all key R (a + 1) t₀
+pub all_writes : (key : List ℕ) (R a : ℕ) (t t₀ t' : List ℕ) (d : Cursor) → Stands key (all_count key R a) d → t ≡ priced_all key R a t₀ →
+    t' ≡ priced_row d.key R a (R - a) t → t' ≡ priced_all key R (a + 1) t₀
 unfolding priced_all
 all_writes key R a t t₀ t' d s p q = q ∙ ap₂ (λ k u. priced_row k R a (R - a) u) s.key p ∙ ap (λ n. priced_all key R n t₀) (sym (add-one a))
 
 pub all_done : (key : List ℕ) (R a : ℕ) (t t₀ : List ℕ) → a ≤ R → R ≤ a → t ≡ priced_all key R a t₀ → t ≡ priced_all key R R t₀
 all_done key R a t t₀ p q e = let same : a ≡ R = omega arith in e ∙ ap (λ x. priced_all key R x t₀) same
 
-pub plan_made : (seed regions n : ℕ) (t : List ℕ) (c : Cursor) {t' key : List ℕ} → n ≡ at_least_one regions → key ≡ derive seed links 0 → c.key ≡ key → t' ≡ priced_all c.key n n t → t' ≡ prices_of seed regions t
+pub plan_made : (seed regions n : ℕ) (t : List ℕ) (c : Cursor) {t' key : List ℕ} → n ≡ at_least_one regions → key ≡ derive seed links 0 → c.key ≡ key →
+    t' ≡ priced_all c.key n n t → t' ≡ prices_of seed regions t
 unfolding prices_of
 plan_made seed regions n t c p q r h = h ∙ ap₂ (λ k m. priced_all k m m t) (r ∙ q) p
 
 -- ---- reading
-pub link_read : (t : List ℕ) (regions a b : ℕ) {n base rate : ℕ} → n ≡ at_least_one regions → base ≡ get_or t (2 * (a * n + b)) 0 → rate ≡ get_or t (2 * (a * n + b) + 1) 0 → link_of base rate ≡ link_at t regions a b
+pub link_read : (t : List ℕ) (regions a b : ℕ) {n at next base rate : ℕ} → length t < 2 ^ 64 → n ≡ at_least_one regions → at ≡ min (2 * (a * n + b)) (2 ^ 64 - 1) → next ≡ min (at + 1) (2 ^ 64 - 1)
+    → base ≡ get_or t at 0 → rate ≡ get_or t next 0 → link_of base rate ≡ link_at t regions a b
 unfolding link_at link_in
-link_read t regions a b p q r =
-    ap₂ link_of (q ∙ ap (λ m. get_or t (2 * (a * m + b)) 0) p) (r ∙ ap (λ m. get_or t (2 * (a * m + b) + 1) 0) p)
+link_read t regions a b {n} {at} {next} short p h k q r =
+    ap₂ link_of
+    (q ∙ read_at t short at (2 * (a * n + b)) h ∙ ap (λ m. get_or t (2 * (a * m + b)) 0) p)
+    (r ∙ read_at t short next (2 * (a * n + b) + 1) (omega (arith, h, k)) ∙ ap (λ m. get_or t (2 * (a * m + b) + 1) 0) p)
 
-pub cost_planned : (t : List ℕ) (regions a b latency bytes : ℕ) (l : Link) {w : ℕ} {planned : Bool} → planned ≡ true → l ≡ link_at t regions a b → w ≡ transmission_of bytes l.rate
-    → ◌≡◌ {A = Cost} (record { base = l.base; transmission = record { ns = w } }) (cost_of planned t regions a b latency bytes)
+pub cost_planned : (t : List ℕ) (regions a b latency bytes : ℕ) (l : Link) {w : ℕ} → l ≡ link_at t regions a b → w ≡ transmission_of bytes l.rate
+    → ◌≡◌ {A = Cost} (record { base = l.base; transmission = record { ns = w } }) (cost_of true t regions a b latency bytes)
 unfolding cost_of link_cost
-cost_planned t regions a b latency bytes l h p q = rw h (ap (λ w. record { base = l.base; transmission = record { ns = w } }) q ∙ ap (λ m. link_cost m bytes) p)
-
-pub cost_plain : (t : List ℕ) (regions a b latency bytes : ℕ) {planned : Bool} → planned ≡ false
-    → ◌≡◌ {A = Cost} (record { base = record { ns = latency }; transmission = record { ns = 0 } }) (cost_of planned t regions a b latency bytes)
-unfolding cost_of
-cost_plain t regions a b latency bytes h = rw h
+cost_planned t regions a b latency bytes l p q = ap (λ w. record { base = l.base; transmission = record { ns = w } }) q ∙ ap (λ m. link_cost m bytes) p

@@ -1,13 +1,15 @@
 // What a delivery between two regions costs. The links' prices lie in lent memory.
+// `regions ≤ most_regions` keeps the draws of all pairs below 2^63 words, which a draw asks; a type of such a count would be made from the settings for one call.
 #![tactic(auto)]
 
-ghost use Rattle.std.specs.Prelude.{◌≡◌, ◌+◌, ◌-◌, ◌<◌, ◌≤◌, ◌^◌, get_or, set};
-ghost use Rattle.link_geography.specs.Geography.{put_link, put_pair, link_at, cost_of, Stands, all_count, priced_row, priced_all, prices_of, most_regions, most_bytes};
+ghost use Rattle.std.specs.Prelude.{◌≡◌, ◌+◌, ◌-◌, ◌*◌, ◌<◌, ◌≤◌, ◌^◌, MatchOption, min, true, false, set};
+ghost use Rattle.link_geography.specs.Geography.{put_link, put_pair, link_at, cost_of, Stands, all_count, priced_row, prices_of, most_regions, most_bytes};
 
 use link_geography::{Cost, Link};
 use math_time::Time;
 use rand_streams::Cursor;
 
+// The word at i anew, where there is one: for put_link alone. ask_tables' `put`, above this crate, is the same one `if`; one of both in math_parts would be no plainer.
 fn put(s: &mut [u64], i: usize, v: u64)
     ensures { s.new ≡ set s.old i v }
 {
@@ -16,23 +18,31 @@ fn put(s: &mut [u64], i: usize, v: u64)
     }
 }
 
-fn put_link(prices: &mut [u64], i: u64, l: Link)
-    requires { i < 2 ^ 32 }
-    ensures { prices.new ≡ put_link prices.old i l }
+// Where the link from region a to region b starts; past every table where that is no number of 64 bits.
+fn place(regions: u64, a: u64, b: u64) -> usize
+    ensures { result ≡ min (2 * (a * regions + b)) (2 ^ 64 - 1) }
 {
-    let at = (2 * i) as usize;
+    a.saturating_mul(regions)
+        .saturating_add(b)
+        .saturating_mul(2) as usize
+}
+
+// The link from a to b.
+fn put_link(prices: &mut [u64], regions: u64, a: u64, b: u64, l: Link)
+    ensures { prices.new ≡ put_link prices.old (a * regions + b) l }
+{
+    let at = place(regions, a, b);
     let base = l.base;
     put(prices, at, base.ns);
-    put(prices, at + 1, l.rate);
+    put(prices, at.saturating_add(1), l.rate);
 }
 
 // The link between a and b, both ways.
 fn put_pair(prices: &mut [u64], regions: u64, a: u64, b: u64, l: Link)
-    requires { (a < most_regions) × (b < most_regions) × (regions ≤ most_regions) }
     ensures { prices.new ≡ put_pair prices.old regions a b l }
 {
-    put_link(prices, a * regions + b, l);
-    put_link(prices, b * regions + a, l);
+    put_link(prices, regions, a, b, l);
+    put_link(prices, regions, b, a, l);
 }
 
 // Row a: the pairs (a, a), (a, a + 1), ..
@@ -46,16 +56,6 @@ fn price_row(prices: &mut [u64], c: &mut Cursor, regions: u64, a: u64)
     }
 }
 
-// Every row.
-fn price_rows(prices: &mut [u64], c: &mut Cursor, regions: u64)
-    requires { (regions ≤ most_regions) × (c.old.count ≡ 0) }
-    ensures { prices.new ≡ priced_all c.old.key regions regions prices.old }
-{
-    for a in 0..regions {
-        price_row(prices, c, regions, a);
-    }
-}
-
 // Prices every pair of regions of a plan, in a lent table.
 pub fn price_links(prices: &mut [u64], seed: u64, regions: u64)
     requires { regions ≤ most_regions }
@@ -64,51 +64,44 @@ pub fn price_links(prices: &mut [u64], seed: u64, regions: u64)
     let n = link_geography::at_least_one(regions);
     let key = link_geography::links_digest(seed);
     let mut c = Cursor::at(key, 0);
-    price_rows(prices, &mut c, n);
-}
-
-fn get(s: &[u64], i: usize) -> u64
-    ensures { result ≡ get_or s.now i 0 }
-{
-    if i < s.len() { s[i] } else { 0 }
+    for a in 0..n {
+        price_row(prices, &mut c, n, a);
+    }
 }
 
 // The link between regions a and b.
 pub fn link_between(prices: &[u64], regions: u64, a: u64, b: u64) -> Link
-    requires { (a < most_regions) × (b < most_regions) × (regions ≤ most_regions) }
     ensures { result ≡ link_at prices.now regions a b }
 {
     let n = link_geography::at_least_one(regions);
-    let at = (2 * (a * n + b)) as usize;
-    let base = Time::from_nanos(get(prices, at));
-    let rate = get(prices, at + 1);
+    let at = place(n, a, b);
+    let base = Time::from_nanos(prices.get(at).map_or(0, |x| *x));
+    let rate = prices.get(at.saturating_add(1)).map_or(0, |x| *x);
     Link { base, rate }
 }
 
-// What a delivery costs: by its link, or without a plan the set latency and no time on the wire.
+// What a delivery costs: by its link in a plan of so many regions, or without a plan the set latency and no time on the wire.
 pub fn cost_between(
     prices: &[u64],
-    planned: bool,
-    regions: u64,
+    plan: Option<u64>,
     a: u64,
     b: u64,
     latency: Time,
     bytes: u64,
 ) -> Cost
-    requires { (a < most_regions) × (b < most_regions) × (regions ≤ most_regions) × (bytes ≤ most_bytes) }
-    ensures { result ≡ cost_of planned prices.now regions a b latency.ns bytes }
+    requires { bytes ≤ most_bytes }
+    ensures { MatchOption plan (result ≡ cost_of false prices.now 0 a b latency.ns bytes) (λ regions. result ≡ cost_of true prices.now regions a b latency.ns bytes) }
 {
-    if planned {
-        let l = link_between(prices, regions, a, b);
-        let base = l.base;
-        let wire = link_geography::transmission(bytes, l.rate);
+    let Some(regions) = plan else {
         return Cost {
-            base,
-            transmission: wire,
+            base: latency,
+            transmission: Time::ZERO,
         };
-    }
+    };
+    let l = link_between(prices, regions, a, b);
+    let wire = link_geography::transmission(bytes, l.rate);
     Cost {
-        base: latency,
-        transmission: Time::ZERO,
+        base: l.base,
+        transmission: wire,
     }
 }

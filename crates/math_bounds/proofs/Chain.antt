@@ -86,7 +86,8 @@ secs_upto n h =
     let r = n % second in
     let R : r < second = mod-lt n (zero-lt-suc 999999999) in
     let q = round_value false r second (zero-lt-suc 999999999) (small r R) in
-    let part : Val (div binary64 (whole r) (whole second)) q.0 = subst (λ (z : Float). Val z q.0) (sym (div_is (whole r) (whole second) r second (zero-lt-suc 999999999) (of_value r (fits r R)) (of_value second (lit≤ tt)))) q.1 in
+    let part : Val (div binary64 (whole r) (whole second)) q.0 =
+    subst (λ (z : Float). Val z q.0) (sym (div_is (whole r) (whole second) r second (zero-lt-suc 999999999) (of_value r (fits r R)) (of_value second (lit≤ tt)))) q.1 in
     let t = value_add (whole w) (div binary64 (whole r) (whole second)) (w * Q) q.0 (units (whole w) w (of_value w (room n h))) part (bound w r q.0 Q E (wide n h) R (pow_pos 1074) (lit≤ tt) q.2.0) in
     (t.0, t.1, join w r q.0 t.0 Q E n (div-add-mod' n second) q.2 t.2)
   where

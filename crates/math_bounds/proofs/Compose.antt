@@ -13,7 +13,8 @@ module _ (e m c f k s j d p t : ℕ) (K : k ≤ m) where
       → t * (m * c) + s * (f * m) ≤ s * (m * c) + s * (2 * k * f) + 7 * (e * (m * c))
   seconds_up two' two three four five = go ek (mul-le-mul_right (m * c) five) (mul-le-mul_right m two) (mul-le-mul_right c four) (mul-le-mul_right (k * c) three) (mul-le-mul_right (2 * k) two')
     where
-      go : e * k * c ≤ e * m * c → (t + j) * (m * c) ≤ (s + p + 2 * e) * (m * c) → s * f * m ≤ (j * c + e * c) * m → p * m * c ≤ (k * d + e * m) * c → d * (k * c) ≤ (2 * j + e) * (k * c) → j * c * (2 * k) ≤ (s * f + e * c) * (2 * k)
+      go : e * k * c ≤ e * m * c → (t + j) * (m * c) ≤ (s + p + 2 * e) * (m * c) → s * f * m ≤ (j * c + e * c) * m → p * m * c ≤ (k * d + e * m) * c →
+          d * (k * c) ≤ (2 * j + e) * (k * c) → j * c * (2 * k) ≤ (s * f + e * c) * (2 * k)
           → t * (m * c) + s * (f * m) ≤ s * (m * c) + s * (2 * k * f) + 7 * (e * (m * c))
       go h a b x y z = omega arith
 
@@ -21,7 +22,8 @@ module _ (e m c f k s j d p t : ℕ) (K : k ≤ m) where
       → s * (m * c) + s * (2 * k * f) ≤ t * (m * c) + s * (f * m) + 7 * (e * (m * c))
   seconds_down two' two three four five = go ek (mul-le-mul_right (m * c) five) (mul-le-mul_right m two) (mul-le-mul_right c four) (mul-le-mul_right (k * c) three) (mul-le-mul_right (2 * k) two')
     where
-      go : e * k * c ≤ e * m * c → (s + p) * (m * c) ≤ (t + j + 2 * e) * (m * c) → j * c * m ≤ (s * f + e * c) * m → k * d * c ≤ (p * m + e * m) * c → 2 * j * (k * c) ≤ (d + e) * (k * c) → s * f * (2 * k) ≤ (j * c + e * c) * (2 * k)
+      go : e * k * c ≤ e * m * c → (s + p) * (m * c) ≤ (t + j + 2 * e) * (m * c) → j * c * m ≤ (s * f + e * c) * m → k * d * c ≤ (p * m + e * m) * c →
+          2 * j * (k * c) ≤ (d + e) * (k * c) → s * f * (2 * k) ≤ (j * c + e * c) * (2 * k)
           → s * (m * c) + s * (2 * k * f) ≤ t * (m * c) + s * (f * m) + 7 * (e * (m * c))
       go h a b x y z = omega arith
 

@@ -23,7 +23,8 @@ pub part_value : (k : ℕ) → k < 2 ^ 52 → HasValue (mul binary64 (whole k) t
 part_value k h =
     subst (λ (z : Float). HasValue z false k (2 ^ 52)) (sym (mul_is (whole k) tiny52 k 1 1 (2 ^ 52) (pow_pos 0) (pow_pos 52) (of_value k (small k h)) (refl, refl)))
     (subst (λ (z : ℕ). HasValue (round binary64 false (k * 1) (1 * 2 ^ 52)) false z (2 ^ 52)) (mul-one k)
-    (round_exact binary64 false (k * 1) (1 * 2 ^ 52) k 1022 (pow_pos 52) (lt_of_lt_of_le h (lit≤ tt)) (lt_of_lt_of_le (shl_lt 52 1022 h) (lit≤ tt)) (go k (2 ^ 1022) (2 ^ 52) (2 ^ 1074) (pow-add 2 1022 52))))
+    (round_exact binary64 false (k * 1) (1 * 2 ^ 52) k 1022 (pow_pos 52) (lt_of_lt_of_le h (lit≤ tt)) (lt_of_lt_of_le (shl_lt 52 1022 h) (lit≤ tt))
+    (go k (2 ^ 1022) (2 ^ 52) (2 ^ 1074) (pow-add 2 1022 52))))
   where
     small : (k : ℕ) → k < 2 ^ 52 → k ≤ 2 ^ 53
     small k h = omega arith
@@ -136,7 +137,8 @@ module _ (n : ℕ) (f : Float) (F D d : ℕ) (B : n ≤ 60 * second) (P : 0 < D)
   drawn =
       let w = value_add J J j j jv.1 jv.1 (b1 j s Q E (pow_pos 1074) (lit≤ tt) s_le j_le) in
       let two : Val (add binary64 J (neg (neg J))) w.0 = subst (λ (z : Float). Val (add binary64 J z) w.0) (sym (neg_neg J)) w.1 in
-      let p = value_mul' (mul binary64 (whole k) tiny52) (add binary64 J (neg (neg J))) k (2 ^ 52) w.0 (pow_pos 52) (part_value k k_lt) two (b2 k w.0 j s (2 ^ 52) Q E (pow_pos 52) (pow_pos 1074) (lit≤ tt) k_lt s_le j_le w.2.0) in
+      let p = value_mul' (mul binary64 (whole k) tiny52) (add binary64 J (neg (neg J))) k (2 ^ 52) w.0 (pow_pos 52) (part_value k k_lt) two
+      (b2 k w.0 j s (2 ^ 52) Q E (pow_pos 52) (pow_pos 1074) (lit≤ tt) k_lt s_le j_le w.2.0) in
       let p-le : p.0 ≤ 126 * Q = b3 k w.0 j s p.0 (2 ^ 52) Q E (pow_pos 52) (lit≤ tt) k_lt s_le j_le w.2.0 p.2.0 in
       let t = sum_outcome S J (mul binary64 (mul binary64 (whole k) tiny52) (add binary64 J (neg (neg J)))) s j p.0 sv.1 jv.1 p.1 s_le j_le p-le in
       (t.0, t.1, (w.0, p.0, twice w.0 j E w.2, p.2, t.2, p-le))
@@ -190,12 +192,15 @@ module _ (n : ℕ) (f : Float) (F D d : ℕ) (B : n ≤ 60 * second) (P : 0 < D)
   k_le : k ≤ M
   k_le = le_of_lt k_lt
 
-  sums : (t : ℕ) → Total t → (t * second * u + n * Q * (F * M) ≤ n * Q * u + n * Q * (2 * k * F) + 15 * (E * second * u)) × (n * Q * u + n * Q * (2 * k * F) ≤ t * second * u + n * Q * (F * M) + 15 * (E * second * u))
+  sums : (t : ℕ) → Total t → (t * second * u + n * Q * (F * M) ≤ n * Q * u + n * Q * (2 * k * F) + 15 * (E * second * u)) ×
+      (n * Q * u + n * Q * (2 * k * F) ≤ t * second * u + n * Q * (F * M) + 15 * (E * second * u))
   sums t x =
       let w = x.0 in
       let p = x.1 in (
-        C.total_up (E * second) M D F k (s * second) (t * second) (n * Q) L k_le (scale1 t s E second u (F * M) (2 * k * F) (C.seconds_up E M D F k s j w p t k_le jv.2.0 jv.2.1 x.2.0 x.3.0 x.4.0)) sv.2.0 sv.2.1,
-        C.total_down (E * second) M D F k (s * second) (t * second) (n * Q) L k_le (scale2 t s E second u (F * M) (2 * k * F) (C.seconds_down E M D F k s j w p t k_le jv.2.1 jv.2.0 x.2.1 x.3.1 x.4.1)) sv.2.0 sv.2.1,
+        C.total_up (E * second) M D F k (s * second) (t * second) (n * Q) L k_le
+            (scale1 t s E second u (F * M) (2 * k * F) (C.seconds_up E M D F k s j w p t k_le jv.2.0 jv.2.1 x.2.0 x.3.0 x.4.0)) sv.2.0 sv.2.1,
+        C.total_down (E * second) M D F k (s * second) (t * second) (n * Q) L k_le
+            (scale2 t s E second u (F * M) (2 * k * F) (C.seconds_down E M D F k s j w p t k_le jv.2.1 jv.2.0 x.2.1 x.3.1 x.4.1)) sv.2.0 sv.2.1,
       )
     where
       scale1 : (t s e g u a b : ℕ) → t * u + s * a ≤ s * u + s * b + 7 * (e * u) → t * g * u + s * g * a ≤ s * g * u + s * g * b + 7 * (e * g * u)

@@ -3,7 +3,30 @@ use mathlib.Core.Path.{◌≡◌, refl, sym, ap, ◌∙◌, subst}
 use mathlib.Core.Logic.{inl, inr}
 use mathlib.Core.Bool.{true, false}
 use Prim.Native.Nat.{ℕ, ◌+◌, ◌-◌, ◌*◌, ◌/◌, ◌^◌, ◌≤◌, ◌<◌}
-use native.Mathlib.Nat.{le_trans, le_of_eq, le_of_lt, lt_of_lt_of_le, lt_of_le_of_lt, mul_comm, mul_assoc, mul_left_comm, mul-one, one-mul, mul-le-mul_right, mul-le-mul, mul-lt-mul_of_pos_right, mul-pos, add-mul, not-le_of_lt, div-le_of_le-mul, le_antisymm, div-mul-le_self, le-div_iff_mul-le, lt-div-mul-add, suc-mul}
+use native.Mathlib.Nat.{
+  le_trans,
+  le_of_eq,
+  le_of_lt,
+  lt_of_lt_of_le,
+  lt_of_le_of_lt,
+  mul_comm,
+  mul_assoc,
+  mul_left_comm,
+  mul-one,
+  one-mul,
+  mul-le-mul_right,
+  mul-le-mul,
+  mul-lt-mul_of_pos_right,
+  mul-pos,
+  add-mul,
+  not-le_of_lt,
+  div-le_of_le-mul,
+  le_antisymm,
+  div-mul-le_self,
+  le-div_iff_mul-le,
+  lt-div-mul-add,
+  suc-mul,
+}
 use native.Mathlib.Omega.{arith}
 use lib.Dec.{T, lit≤}
 use lib.Pow.{pow-add, pow_pos, pow_mono, shl_lt}
@@ -30,7 +53,8 @@ own n = go (closest n 1) (closest_near n 1 (lit≤ tt)).0
 pub grid_below : (a c q j : ℕ) → 0 < c → q < 2 ^ 53 → a * Q ≤ q * 2 ^ j * c → grid binary64 a c ≤ q * 2 ^ j
 grid_below a c q j C s h = elim (le_or_lt (drop 53 (a * Q) c) j) [
   | inl le ↦ fine (drop 53 (a * Q) c) (j - drop 53 (a * Q) c) (back (drop 53 (a * Q) c) le)
-  | inr gt ↦ absurd (not-le_of_lt (low (drop 53 (a * Q) c) gt) (le_trans (size_reaches (a * Q / c) (52 + drop 53 (a * Q) c) (digits (size (a * Q / c)) gt)) (div-le_of_le-mul c {m = a * Q} {n = q * 2 ^ j} (le_trans h (le_of_eq (mul_comm (q * 2 ^ j) c))))))
+  | inr gt ↦ absurd (not-le_of_lt (low (drop 53 (a * Q) c) gt)
+      (le_trans (size_reaches (a * Q / c) (52 + drop 53 (a * Q) c) (digits (size (a * Q / c)) gt)) (div-le_of_le-mul c {m = a * Q} {n = q * 2 ^ j} (le_trans h (le_of_eq (mul_comm (q * 2 ^ j) c))))))
 ]
   where
     back : (k : ℕ) → k ≤ j → j ≡ j - k + k
@@ -95,7 +119,8 @@ module _ (J : Float) (m i d : ℕ) (full : 2 ^ 52 ≤ m) (fits : m < 2 ^ 53) (I 
   part =
       let w = width in
       let e = mul_is (mul binary64 (whole k) tiny52) (sub binary64 J (neg J)) k (2 ^ 52) w.0 Q (pow_pos 52) (pow_pos 1074) (part_value k k_lt) w.1 in
-      let g = round_below (k * w.0) (2 ^ 52 * Q) (m - 1) (i + 1) (mul-pos (pow_pos 52) (pow_pos 1074)) (less m fits) (room i I) (scaled (k * w.0) ((m - 1) * 2 ^ (i + 1)) (2 ^ 52) Q (drawn m k w.0 (2 ^ (i + 1)) full k_lt w.2)) in
+      let g = round_below (k * w.0) (2 ^ 52 * Q) (m - 1) (i + 1) (mul-pos (pow_pos 52) (pow_pos 1074)) (less m fits) (room i I)
+      (scaled (k * w.0) ((m - 1) * 2 ^ (i + 1)) (2 ^ 52) Q (drawn m k w.0 (2 ^ (i + 1)) full k_lt w.2)) in
       (g.0, subst (λ (z : Float). Val z g.0) (sym e) g.1, g.2)
     where
       room : (i : ℕ) → i ≤ 1900 → i + 1 ≤ 2000
@@ -128,11 +153,13 @@ module _ (J : Float) (m i d : ℕ) (full : 2 ^ 52 ≤ m) (fits : m < 2 ^ 53) (I 
         | inl a ↦
             let e = minus_is (mul binary64 (mul binary64 (whole k) tiny52) (sub binary64 J (neg J))) (neg J) p.0 (m * u) p.1 (neg_value J (m * u) v) a in
             let g = round_below (p.0 - m * u) Q (m - 2) i (pow_pos 1074) (less m fits) (room i I) (mul-le-mul_right Q (rest m u (2 ^ (i + 1)) p.0 (pow-add 2 i 1) full p.2)) in
-            lt_of_less (add binary64 (mul binary64 (mul binary64 (whole k) tiny52) (sub binary64 J (neg J))) (neg J)) J g.0 (m * u) (subst (λ (z : Float). Val z g.0) (sym e) g.1) v (lt_of_le_of_lt g.2 (mul-lt-mul_of_pos_right (down_two m full) (pow_pos i)))
+            lt_of_less (add binary64 (mul binary64 (mul binary64 (whole k) tiny52) (sub binary64 J (neg J))) (neg J)) J g.0 (m * u)
+            (subst (λ (z : Float). Val z g.0) (sym e) g.1) v (lt_of_le_of_lt g.2 (mul-lt-mul_of_pos_right (down_two m full) (pow_pos i)))
         | inr a ↦
             let e = minus_neg (mul binary64 (mul binary64 (whole k) tiny52) (sub binary64 J (neg J))) (neg J) p.0 (m * u) p.1 (neg_value J (m * u) v) a in
             let g = round_value true (m * u - p.0) Q (pow_pos 1074) (lt_of_le_of_lt (sub_le (m * u) p.0) small) in
-            lt_signs (add binary64 (mul binary64 (mul binary64 (whole k) tiny52) (sub binary64 J (neg J))) (neg J)) J g.0 (m * u) (subst (λ (z : Float). HasValue z true g.0 Q) (sym e) g.1) v (mul-pos (lt_of_lt_of_le (pow_pos 52) full) (pow_pos i))
+            lt_signs (add binary64 (mul binary64 (mul binary64 (whole k) tiny52) (sub binary64 J (neg J))) (neg J)) J g.0 (m * u)
+            (subst (λ (z : Float). HasValue z true g.0 Q) (sym e) g.1) v (mul-pos (lt_of_lt_of_le (pow_pos 52) full) (pow_pos i))
       ]
     where
       room : (i : ℕ) → i ≤ 1900 → i ≤ 2000
@@ -181,7 +208,8 @@ module _ (d : ℕ) (D : d < 2 ^ 64) where
   part_of =
       let w = span in
       let e = mul_is (mul binary64 (whole n) tiny52) (sub binary64 (whole 50) (whole 10)) n (2 ^ 52) w.0 Q (pow_pos 52) (pow_pos 1074) (part_value n n_lt) w.1 in
-      let g = round_below (n * w.0) (2 ^ 52 * Q) (40 * 2 ^ 47 - 1) 1027 (mul-pos (pow_pos 52) (pow_pos 1074)) (lit≤ tt) (lit≤ tt) (scaled (n * w.0) ((40 * 2 ^ 47 - 1) * 2 ^ 1027) (2 ^ 52) Q (le_trans (mul-le-mul (top n n_lt) w.2) (lit≤ tt))) in
+      let g = round_below (n * w.0) (2 ^ 52 * Q) (40 * 2 ^ 47 - 1) 1027 (mul-pos (pow_pos 52) (pow_pos 1074)) (lit≤ tt) (lit≤ tt)
+      (scaled (n * w.0) ((40 * 2 ^ 47 - 1) * 2 ^ 1027) (2 ^ 52) Q (le_trans (mul-le-mul (top n n_lt) w.2) (lit≤ tt))) in
       (g.0, subst (λ (z : Float). Val z g.0) (sym e) g.1, g.2)
     where
       top : (k : ℕ) → k < 2 ^ 52 → k ≤ 2 ^ 52 - 1
@@ -196,8 +224,10 @@ module _ (d : ℕ) (D : d < 2 ^ 64) where
   spike_below =
       let p = part_of in
       let e = add_is (mul binary64 (mul binary64 (whole n) tiny52) (sub binary64 (whole 50) (whole 10))) (whole 10) p.0 (10 * Q) p.1 (of_units 10 (lit≤ tt)) in
-      let g = round_below (p.0 + 10 * Q) Q (50 * 2 ^ 47 - 1) 1027 (pow_pos 1074) (lit≤ tt) (lit≤ tt) (mul-le-mul_right Q (sum p.0 ((40 * 2 ^ 47 - 1) * 2 ^ 1027) (10 * Q) ((50 * 2 ^ 47 - 1) * 2 ^ 1027) p.2 (lit≤ tt))) in
-      lt_of_less (add binary64 (mul binary64 (mul binary64 (whole n) tiny52) (sub binary64 (whole 50) (whole 10))) (whole 10)) (whole 50) g.0 (50 * Q) (subst (λ (z : Float). Val z g.0) (sym e) g.1) (of_units 50 (lit≤ tt)) (lt_of_le_of_lt g.2 (lit≤ tt))
+      let g = round_below (p.0 + 10 * Q) Q (50 * 2 ^ 47 - 1) 1027 (pow_pos 1074) (lit≤ tt) (lit≤ tt)
+      (mul-le-mul_right Q (sum p.0 ((40 * 2 ^ 47 - 1) * 2 ^ 1027) (10 * Q) ((50 * 2 ^ 47 - 1) * 2 ^ 1027) p.2 (lit≤ tt))) in
+      lt_of_less (add binary64 (mul binary64 (mul binary64 (whole n) tiny52) (sub binary64 (whole 50) (whole 10))) (whole 10)) (whole 50) g.0 (50 * Q)
+      (subst (λ (z : Float). Val z g.0) (sym e) g.1) (of_units 50 (lit≤ tt)) (lt_of_le_of_lt g.2 (lit≤ tt))
     where
       sum : (x y q z : ℕ) → x ≤ y → y + q ≤ z → x + q ≤ z
       sum x y q z h k = omega arith
@@ -239,11 +269,16 @@ module _ (a c : ℕ) (C : 0 < c) (h : 2 ^ 52 * c ≤ a * Q) where
 
   kept_low : 2 ^ 52 ≤ kept 53 (a * Q) c
   kept_low = le_trans (at_least (2 ^ 52)) (closest_mono (2 ^ 52) 1 (a * Q) (c * 2 ^ shift) (lit≤ tt) (mul-pos C (pow_pos shift))
-      (le_trans (le_of_eq (turn (2 ^ 52) c (2 ^ shift) (2 ^ (52 + shift)) (pow-add 2 52 shift))) (le_trans (mul-le-mul_right c (size_reaches whole_part (52 + shift) (digits_of_lem (size whole_part) many).0)) (le_trans (div-mul-le_self (a * Q) c) (le_of_eq (sym (mul-one (a * Q))))))))
+      (le_trans (le_of_eq (turn (2 ^ 52) c (2 ^ shift) (2 ^ (52 + shift)) (pow-add 2 52 shift)))
+      (le_trans (mul-le-mul_right c (size_reaches whole_part (52 + shift) (digits_of_lem (size whole_part) many).0)) (le_trans (div-mul-le_self (a * Q) c) (le_of_eq (sym (mul-one (a * Q))))))))
 
   kept_high : kept 53 (a * Q) c ≤ 2 ^ 53
   kept_high = le_trans (closest_mono (a * Q) (c * 2 ^ shift) (2 ^ 53) 1 (mul-pos C (pow_pos shift)) (lit≤ tt)
-      (le_trans (le_of_eq (mul-one (a * Q))) (le_trans (le_of_lt (lt_of_lt_of_le (lt-div-mul-add {a = a * Q} {b = c} C) (le_trans (le_of_eq (sym (suc-mul whole_part c))) (mul-le-mul_right c (subst (λ (z : ℕ). whole_part < 2 ^ z) (digits_of_lem (size whole_part) many).1 (size-lt whole_part)))))) (le_of_eq (sym (turn (2 ^ 53) c (2 ^ shift) (2 ^ (53 + shift)) (pow-add 2 53 shift)))))))
+      (le_trans (le_of_eq (mul-one (a * Q)))
+      (le_trans (le_of_lt (lt_of_lt_of_le (lt-div-mul-add {a = a * Q} {b = c} C)
+      (le_trans (le_of_eq (sym (suc-mul whole_part c)))
+      (mul-le-mul_right c (subst (λ (z : ℕ). whole_part < 2 ^ z) (digits_of_lem (size whole_part) many).1 (size-lt whole_part))))))
+      (le_of_eq (sym (turn (2 ^ 53) c (2 ^ shift) (2 ^ (53 + shift)) (pow-add 2 53 shift)))))))
       (own (2 ^ 53))
 
   pub full_grid : (m : ℕ) × (i : ℕ) × (grid binary64 a c ≡ m * 2 ^ i) × (2 ^ 52 ≤ m) × (m < 2 ^ 53)
@@ -276,7 +311,8 @@ jitter_first n f F D d one B P L U v W =
     let g = full_grid (s.0 * F) (Q * D) C (lower s.0 F D Q s-ge U) in
     let small : g.0 * 2 ^ g.1 < 2 ^ 8 * Q = subst (λ (z : ℕ). z < 2 ^ 8 * Q) g.2 (lt_of_le_of_lt b (lit≤ tt)) in
     jitter_below (mul binary64 (seconds n) f) g.0 g.1 d g.3 g.4 (exponent g.0 g.1 g.3 small) small
-    (subst (λ (z : ℕ). Val (mul binary64 (seconds n) f) z) g.2 (subst (λ (z : Float). Val z (grid binary64 (s.0 * F) (Q * D))) (sym e) (round_val binary64 (s.0 * F) (Q * D) (lt_of_le_of_lt b (lit≤ tt))))) W
+    (subst (λ (z : ℕ). Val (mul binary64 (seconds n) f) z) g.2
+    (subst (λ (z : Float). Val z (grid binary64 (s.0 * F) (Q * D))) (sym e) (round_val binary64 (s.0 * F) (Q * D) (lt_of_le_of_lt b (lit≤ tt))))) W
   where
     most : (s n q e : ℕ) → n ≤ 60 * second → 2 * e ≤ q → s * second ≤ n * q + 2 * e * second → s ≤ 61 * q
     most s n q e h m t = let a : n * q ≤ 60 * second * q = mul-le-mul_right q h in omega arith

@@ -2,7 +2,31 @@
 use mathlib.Core.Path.{◌≡◌, refl, sym, ap, ◌∙◌, subst}
 use mathlib.Core.Bool.{Bool, true, false, not, cond, true≢false, false≢true}
 use Prim.Native.Nat.{ℕ, zero, suc, ◌+◌, ◌-◌, ◌*◌, ◌/◌, ◌%◌, ◌^◌, ◌≤◌, ◌<◌, compare, Ordering}
-use native.Mathlib.Nat.{le_trans, le_of_lt, le_of_eq, lt_of_lt_of_le, lt_of_le_of_lt, mul_comm, mul_assoc, mul_right_comm, mul-le-mul_right, mul-lt-mul_of_pos_right, le_of_mul-le-mul_right, mul-pos, mod-lt, div-add-mod', div-lt_iff_lt-mul, sub-add_cancel, mul-mul-mul_comm, lt_of_not-le, add-mul, not-le_of_lt, lt_irrefl, zero-mul, zero-lt-suc}
+use native.Mathlib.Nat.{
+  le_trans,
+  le_of_lt,
+  le_of_eq,
+  lt_of_lt_of_le,
+  lt_of_le_of_lt,
+  mul_comm,
+  mul_assoc,
+  mul_right_comm,
+  mul-le-mul_right,
+  mul-lt-mul_of_pos_right,
+  le_of_mul-le-mul_right,
+  mul-pos,
+  mod-lt,
+  div-add-mod',
+  div-lt_iff_lt-mul,
+  sub-add_cancel,
+  mul-mul-mul_comm,
+  lt_of_not-le,
+  add-mul,
+  not-le_of_lt,
+  lt_irrefl,
+  zero-mul,
+  zero-lt-suc,
+}
 use native.Mathlib.Omega.{arith}
 use lib.Ieee.Bits.{cond_no}
 use lib.Dec.{T, eqb, eqb→eq, ltb, ltb→lt, lit≤, nltb→le}
@@ -43,7 +67,9 @@ E = 2 ^ 1028
 
 -- below 2 ^ h: off by at most 2 ^ (h - 54), which is 2 ^ (1020 + h) units
 drop_le : (h a c : ℕ) → 0 < c → a < 2 ^ h * c → drop 53 (a * Q) c ≤ 1020 + h + 1
-drop_le h a c C l = go (size (a * Q / c)) (size-le (a * Q / c) (h + 1074) ((div-lt_iff_lt-mul C).1 (lt_of_lt_of_le (mul-lt-mul_of_pos_right l (pow_pos 1074)) (le_of_eq (mul_right_comm (2 ^ h) c Q ∙ ap (λ (z : ℕ). z * c) (sym (pow-add 2 h 1074)))))))
+drop_le h a c C l = go (size (a * Q / c))
+    (size-le (a * Q / c) (h + 1074)
+    ((div-lt_iff_lt-mul C).1 (lt_of_lt_of_le (mul-lt-mul_of_pos_right l (pow_pos 1074)) (le_of_eq (mul_right_comm (2 ^ h) c Q ∙ ap (λ (z : ℕ). z * c) (sym (pow-add 2 h 1074)))))))
   where
     go : (z : ℕ) → z ≤ h + 1074 → z - 53 ≤ 1020 + h + 1
     go z l = omega arith

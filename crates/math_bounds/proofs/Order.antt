@@ -76,7 +76,8 @@ lt_signs (fin s m e) nan a b h k l = absurd k
 lt_signs (fin s m e) (inf t) a b h k l = absurd k
 lt_signs (fin false m e) (fin t n d) a b h k l = absurd (false≢true h.0)
 lt_signs (fin true m e) (fin true n d) a b h k l = absurd (true≢false k.0)
-lt_signs (fin true m e) (fin false n d) a b h k l = subst T (sym (lt-ltb 0 (m * up e * down d + n * up d * down e) (go (m * up e * down d) (n * up d) (down e) (down_pos e) (some (n * up d) (down d) k.1 (down_pos d))))) tt
+lt_signs (fin true m e) (fin false n d) a b h k l =
+    subst T (sym (lt-ltb 0 (m * up e * down d + n * up d * down e) (go (m * up e * down d) (n * up d) (down e) (down_pos e) (some (n * up d) (down d) k.1 (down_pos d))))) tt
   where
     some : (x z : ℕ) → x * Q ≡ b * z → 0 < z → 0 < x
     some zero z p q = absurd (not-le_of_lt (mul-pos l q) (le_of_eq (sym p)))
@@ -119,4 +120,5 @@ in_range_of x t v a b = (le_of_values milli x Mi Q t Q (pow_pos 1074) (pow_pos 1
 
 -- a value of at most p seconds gives at most p seconds
 pub nanos_upto : (x : Float) (t p : ℕ) → Val x t → t ≤ p * Q → nanos x ≤ p * second
-nanos_upto x t p v h = nanos_most x p (le_of_mul-le-mul_right (le_trans (le_of_eq (value→cross x t Q v)) (le_trans (mul-le-mul_right (den x) h) (le_of_eq (mul_right_comm p Q (den x))))) (pow_pos 1074))
+nanos_upto x t p v h = nanos_most x p
+    (le_of_mul-le-mul_right (le_trans (le_of_eq (value→cross x t Q v)) (le_trans (mul-le-mul_right (den x) h) (le_of_eq (mul_right_comm p Q (den x))))) (pow_pos 1074))

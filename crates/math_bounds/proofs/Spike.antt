@@ -23,7 +23,8 @@ factor d W =
     let k_lt : k < 2 ^ 52 = omega arith in
     let w = value_minus (whole 50) (neg (whole 10)) (50 * Q) (10 * Q) (of_units 50 (lit≤ tt)) (neg_value (whole 10) (10 * Q) (of_units 10 (lit≤ tt))) (lit≤ tt) (lit≤ tt) in
     let w_le : w.0 ≤ 41 * Q = b1 w.0 Q E (lit≤ tt) w.2.0 in
-    let p = value_mul' (mul binary64 (whole k) tiny52) (add binary64 (whole 50) (neg (whole 10))) k (2 ^ 52) w.0 (pow_pos 52) (part_value k k_lt) w.1 (b2 k w.0 (2 ^ 52) Q (pow_pos 52) (pow_pos 1074) k_lt w_le) in
+    let p = value_mul' (mul binary64 (whole k) tiny52) (add binary64 (whole 50) (neg (whole 10))) k (2 ^ 52) w.0 (pow_pos 52) (part_value k k_lt) w.1
+    (b2 k w.0 (2 ^ 52) Q (pow_pos 52) (pow_pos 1074) k_lt w_le) in
     let p-le : p.0 ≤ 42 * Q = b3 k w.0 p.0 (2 ^ 52) Q E (pow_pos 52) (lit≤ tt) k_lt w_le p.2.0 in
     let t = value_add (mul binary64 (mul binary64 (whole k) tiny52) (add binary64 (whole 50) (neg (whole 10)))) (whole 10) p.0 (10 * Q) p.1 (of_units 10 (lit≤ tt)) (b4 p.0 Q (pow_pos 1074) p-le) in
     (t.0, t.1, b5 p.0 t.0 Q E (lit≤ tt) t.2.1)

@@ -1,4 +1,4 @@
-// Parts of a slice for any length: the first elements, and what follows them.
+// Parts of a slice for any length: the first elements, and what follows them. They take a length beside the slice because they make its parts.
 #![tactic(auto)]
 
 ghost use Rattle.std.specs.Prelude.{◌≡◌, ◌<◌, ◌≤◌, ◌+◌, ◌-◌, ◌++◌, length, slice_index, take, drop, replicate};

@@ -2,7 +2,28 @@
 use mathlib.Core.Path.{◌≡◌, refl, sym, ap, ◌∙◌, subst}
 use mathlib.Core.Bool.{Bool, true, false, not, ◌||◌, cond}
 use Prim.Native.Nat.{ℕ, zero, suc, ◌+◌, ◌-◌, ◌*◌, ◌/◌, ◌%◌, ◌^◌, ◌≤◌, ◌<◌}
-use native.Mathlib.Nat.{le_trans, le_of_eq, lt_of_lt_of_le, lt_of_le_of_lt, lt_of_not-le, lt_irrefl, mul_comm, mul_assoc, mul_right_comm, mul_left_comm, mul-le-mul_right, mul-lt-mul_of_pos_right, le_of_mul-le-mul_right, lt_of_mul-lt-mul_right, le-add_right, mul-one, one-mul, mod-lt, mod-eq_of_lt, eq_of_mul-eq-mul_right}
+use native.Mathlib.Nat.{
+  le_trans,
+  le_of_eq,
+  lt_of_lt_of_le,
+  lt_of_le_of_lt,
+  lt_of_not-le,
+  lt_irrefl,
+  mul_comm,
+  mul_assoc,
+  mul_right_comm,
+  mul_left_comm,
+  mul-le-mul_right,
+  mul-lt-mul_of_pos_right,
+  le_of_mul-le-mul_right,
+  lt_of_mul-lt-mul_right,
+  le-add_right,
+  mul-one,
+  one-mul,
+  mod-lt,
+  mod-eq_of_lt,
+  eq_of_mul-eq-mul_right,
+}
 use native.Mathlib.Omega.{arith}
 use lib.IntN.{pos}
 use lib.Dec.{T, leb, eqb, ltb→lt, nleb→lt, lit≤}

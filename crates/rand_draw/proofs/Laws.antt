@@ -4,7 +4,7 @@ use mathlib.Core.Path.{◌≡◌, ap, ap₂, sym, ◌∙◌, subst}
 use mathlib.Core.Bool.{Bool, true, false}
 use mathlib.Core.List.{List}
 use native.Mathlib.Omega.{arith}
-use native.Mathlib.Nat.{mul_comm, mul-le-mul, suc-mul, mul-le-mul_right, mul-lt-mul_of_pos_right, div-lt_iff_lt-mul, div-add-mod', lt_of_mul-lt-mul_right}
+use native.Mathlib.Nat.{mul_comm, suc-mul, mul-le-mul_right, mul-lt-mul_of_pos_right, div-lt_iff_lt-mul, div-add-mod', lt_of_mul-lt-mul_right}
 use borrow.Author.Tests.{le-ltb, lt-ltb, le-leb, lt-leb}
 use Rattle.rand_chacha8.specs.Chacha.{word_at}
 use Rattle.rand_streams.specs.declared.Cursor.{Cursor}
@@ -45,8 +45,11 @@ pub kept : (W n a b : ℕ) {high low more : ℕ} → 0 < n → a < 2 ^ W → hig
 unfolding whole_of draws_of again carries
 kept W n a b {high} {low} {more} p q h l m e f =
     let k : 2 ^ W - n < a * n % 2 ^ W = subst (λ x. 2 ^ W - n < x) l e in
-    let g : a * n % 2 ^ W + b * n / 2 ^ W < 2 ^ W = subst (λ x. x < 2 ^ W) (ap₂ ◌+◌ l m) f in
-    (simp (lt-ltb (2 ^ W - n) (a * n % 2 ^ W) k, lt-leb (2 ^ W) (a * n % 2 ^ W + b * n / 2 ^ W) g) h, simp (lt-ltb (2 ^ W - n) (a * n % 2 ^ W) k), subst (λ x. x < n) (sym h) (high_below (2 ^ W) n a p q))
+    let g : a * n % 2 ^ W + b * n / 2 ^ W < 2 ^ W = subst (λ x. x < 2 ^ W) (ap₂ ◌+◌ l m) f in (
+      simp (lt-ltb (2 ^ W - n) (a * n % 2 ^ W) k, lt-leb (2 ^ W) (a * n % 2 ^ W + b * n / 2 ^ W) g) h,
+      simp (lt-ltb (2 ^ W - n) (a * n % 2 ^ W) k),
+      subst (λ x. x < n) (sym h) (high_below (2 ^ W) n a p q),
+    )
 
 -- a second draw that adds 1
 pub carried : (W n a b : ℕ) {high low more : ℕ} → n ≤ 2 ^ W → a < 2 ^ W → high ≡ a * n / 2 ^ W → low ≡ a * n % 2 ^ W → more ≡ b * n / 2 ^ W → 2 ^ W - n < low → 2 ^ W ≤ low + more
@@ -54,8 +57,11 @@ pub carried : (W n a b : ℕ) {high low more : ℕ} → n ≤ 2 ^ W → a < 2 ^ 
 unfolding whole_of draws_of again carries
 carried W n a b {high} {low} {more} p q h l m e f =
     let k : 2 ^ W - n < a * n % 2 ^ W = subst (λ x. 2 ^ W - n < x) l e in
-    let g : 2 ^ W ≤ a * n % 2 ^ W + b * n / 2 ^ W = subst (λ x. 2 ^ W ≤ x) (ap₂ ◌+◌ l m) f in
-    (simp (lt-ltb (2 ^ W - n) (a * n % 2 ^ W) k, le-leb (2 ^ W) (a * n % 2 ^ W + b * n / 2 ^ W) g) (ap (λ x. x + 1) h), simp (lt-ltb (2 ^ W - n) (a * n % 2 ^ W) k), subst (λ x. x + 1 < n) (sym h) (high_room (2 ^ W) n a p q k))
+    let g : 2 ^ W ≤ a * n % 2 ^ W + b * n / 2 ^ W = subst (λ x. 2 ^ W ≤ x) (ap₂ ◌+◌ l m) f in (
+      simp (lt-ltb (2 ^ W - n) (a * n % 2 ^ W) k, le-leb (2 ^ W) (a * n % 2 ^ W + b * n / 2 ^ W) g) (ap (λ x. x + 1) h),
+      simp (lt-ltb (2 ^ W - n) (a * n % 2 ^ W) k),
+      subst (λ x. x + 1 < n) (sym h) (high_room (2 ^ W) n a p q k),
+    )
 
 -- cursors: a move by as many words, and two moves
 pub moved_as : (c d : Cursor) (m n : ℕ) → m ≡ n → Moved c m d → Moved c n d
@@ -98,26 +104,6 @@ test_carried low more h = omega arith
 
 pub below_le : (a n : ℕ) → a < n → a ≤ n
 below_le a n h = omega arith
-
-pub less_one : (a : ℕ) → a < 2 ^ 64 → a ≤ 18446744073709551615
-less_one a h = omega arith
-
-pub room : (a n : ℕ) → n < 2 ^ 64 → a < n → a < 2 ^ 64
-room a n p h = omega arith
-
--- the product of 32 by 32 bits and its high half
-pub product32 : (a n : ℕ) → a < 2 ^ 32 → n < 2 ^ 32 → (a * n < 2 ^ 64) × (a * n / 2 ^ 32 < 2 ^ 32)
-product32 a n p q =
-    let h : a ≤ 4294967295 = omega arith in
-    let k : n ≤ 4294967295 = omega arith in
-    let m : a * n ≤ 4294967295 * 4294967295 = mul-le-mul h k in
-    (omega arith, omega arith)
-
-pub sum32 : (a b : ℕ) → a < 2 ^ 32 → b < 2 ^ 32 → a + b < 2 ^ 64
-sum32 a b h k = omega arith
-
-pub room32 : (a n : ℕ) → n < 2 ^ 32 → a < n → a < 2 ^ 32
-room32 a n p h = omega arith
 
 -- at most two draws of two words
 at_most : (b : Bool) → 2 * choose b 2 1 ≤ 4

@@ -1,4 +1,6 @@
 // The draw rules over a stream's cursor, which each draw moves: fraction, real range, hit against a rate, whole range of n values.
+// How far below 2^63 the count must be stands at each draw: how many words it may take differs, so no invariant of the cursor says it.
+// So does `0 < n`: a NonZero would be made anew at each call, of a number that the caller knows to be above 0.
 #![tactic(auto)]
 
 ghost use Rattle.std.specs.Prelude.{◌≡◌, ◌+◌, ◌*◌, ◌<◌, ◌≤◌, ◌^◌};
@@ -7,7 +9,7 @@ ghost use Rattle.rand_draw.specs.Fraction as Fraction;
 ghost use Rattle.rand_draw.specs.Real as Real;
 ghost use Rattle.rand_draw.specs.Draw.{whole64_at, words64_at, whole32_at, words32_at};
 
-use math_word::{low_half, product};
+use math_word::{Halves, low_half, product};
 use rand_streams::Cursor;
 
 // The fraction of a 64-bit draw: its top 53 bits, times 2^-53.
@@ -54,9 +56,7 @@ pub fn whole64(c: &mut Cursor, n: u64) -> u64
     ensures { (result ≡ whole64_at c.old.key c.old.count n) × Moved c.old (words64_at c.old.key c.old.count n) c.new × (result < n) }
 {
     let first = c.draw64();
-    let p = product(first, n);
-    let high = p.high;
-    let low = p.low;
+    let Halves { high, low } = product(first, n);
     if low <= u64::MAX - (n - 1) {
         return high;
     }

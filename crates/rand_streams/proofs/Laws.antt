@@ -1,7 +1,7 @@
 -- laws of a cursor, for each function
-use Prim.Native.Nat.{ℕ, ◌+◌, ◌*◌, ◌/◌, ◌%◌, ◌^◌, ◌<◌, ◌≤◌}
+use Prim.Native.Nat.{ℕ, ◌+◌, ◌*◌, ◌/◌, ◌%◌, ◌^◌, ◌<◌}
 use mathlib.Core.Path.{◌≡◌, ap, ap₂, ◌∙◌}
-use mathlib.Core.List.{List}
+use Rattle.std.specs.Prelude.{Some}
 use lib.ListN.{get_or}
 use native.Mathlib.Omega.{arith}
 use Rattle.rand_chacha8.specs.Chacha.{word_at, block_of}
@@ -9,7 +9,7 @@ use Rattle.rand_streams.specs.declared.Cursor.{Cursor}
 use Rattle.rand_streams.specs.Streams.{Moved, keeps_block, word_pair}
 
 -- the block of the count is held already
-pub held_already : (c : Cursor) → c.held ≡ c.count / 16 + 1 → keeps_block c
+pub held_already : (c : Cursor) → c.held ≡ Some (c.count / 16) → keeps_block c
 unfolding keeps_block
 held_already c p = (p, c.holds (c.count / 16) p)
 

@@ -1,11 +1,11 @@
 -- Document 01, link streams: a stream read through a cursor: what the cursor keeps, and how a draw moves it.
-use Rattle.std.specs.Prelude.{ℕ, ◌+◌, ◌*◌, ◌/◌, ◌^◌, ◌≡◌, List, Bool, true, false, ltb}
+use Rattle.std.specs.Prelude.{ℕ, ◌+◌, ◌*◌, ◌/◌, ◌^◌, ◌≡◌, List, Bool, true, false, Some, ltb}
 use Rattle.rand_chacha8.specs.Chacha.{word_at, block_of}
 use Rattle.rand_streams.specs.declared.Cursor.{Cursor}
 
 -- a cursor that holds the block of its count; that whatever block it holds is the stream's stands in its type
 unfoldable pub keeps_block : Cursor → Type 0
-keeps_block c = (c.held ≡ c.count / 16 + 1) × (c.block ≡ block_of c.key (c.count / 16))
+keeps_block c = (c.held ≡ Some (c.count / 16)) × (c.block ≡ block_of c.key (c.count / 16))
 
 -- c and then n words on: the same stream, n words further
 pub record Moved (c : Cursor) (n : ℕ) (c' : Cursor) : Type 0 where

@@ -4,7 +4,7 @@
 mod link;
 mod record;
 
-ghost use Rattle.std.specs.Prelude.{◌≡◌, IsTrue, ℕ, ◌+◌, ◌*◌, ◌/◌, ◌%◌, ◌<◌, ◌^◌};
+ghost use Rattle.std.specs.Prelude.{◌≡◌, IsTrue, Some, ℕ, ◌+◌, ◌*◌, ◌/◌, ◌%◌, ◌<◌, ◌^◌};
 ghost use Rattle.rand_chacha8.specs.Chacha.{word_at, block_of};
 
 pub use link::link_key;
@@ -12,16 +12,17 @@ use rand_chacha8::split;
 pub use record::draw_at;
 
 // Where a stream stands: its key, the words it has given, and the block it last read.
-// `held` is that block's number plus 1, or 0 where no block has been read.
+// `held` is that block's number, where one has been read.
 #[derive(Clone, Copy)]
 pub struct Cursor {
     pub key: [u32; 8],
     pub count: u64,
-    held: u64,
+    held: Option<u64>,
     block: [u32; 16],
-    pub ghost holds: { (n : ℕ) → held ≡ n + 1 → block ≡ block_of key n },
+    pub ghost holds: { (n : ℕ) → held ≡ Some n → block ≡ block_of key n },
 }
 
+// The number of 64 bits whose halves are low and high.
 fn joined(low: u32, high: u32) -> u64
     ensures { result ≡ low + 2 ^ 32 * high }
 {
@@ -38,7 +39,7 @@ impl Cursor {
         Cursor {
             key,
             count,
-            held: 0,
+            held: None,
             block: [0; 16],
         }
     }
@@ -47,7 +48,7 @@ impl Cursor {
     fn is_loaded(&self) -> bool
         ensures { IsTrue result → keeps_block self.now }
     {
-        self.held == split(self.count).block + 1
+        self.held == Some(split(self.count).block)
     }
 
     // Reads the block of its count. It stands by itself, so that LLVM inlines the draws around it.
@@ -56,7 +57,7 @@ impl Cursor {
     {
         let n = split(self.count).block;
         self.block = rand_chacha8::block(self.key, n);
-        self.held = n + 1;
+        self.held = Some(n);
     }
 
     // Reads that block where it does not hold it.

@@ -1,7 +1,5 @@
 -- A drain: the records copied out one by one, and the head cleared. Assumes nothing.
-use Rattle.std.proofs.Common.{◌≡◌, ℕ, suc, ◌+◌, ◌*◌, ◌<◌, ◌≤◌, Bool, cond, List, [], ◌∷◌, ◌++◌, length, get_or, drop, set, replicate, sym, refl, ap, ◌∙◌, zero-mul, arith, drop-cons}
-use lib.ListN.{length-replicate, replicate-append-replicate}
-use lib.Seq.{set_at, append_snoc}
+use Rattle.std.proofs.Common.{◌≡◌, ℕ, suc, ◌+◌, ◌*◌, ◌≤◌, Bool, cond, List, [], ◌∷◌, ◌++◌, length, drop, sym, refl, ap, ◌∙◌, zero-mul, arith}
 use Rattle.table_shift.specs.Shift.{put_words}
 use Rattle.table_rows.specs.Table.{over}
 use Rattle.table_rows.proofs.Table.{over_more}
@@ -33,23 +31,6 @@ module _ (m : ℕ) (log out : List ℕ) where
       ∙ ap (λ (r : Delivery). over delivery.form (first_ones i ++ (r ∷ [])) out) row
       ∙ ap (λ (l : List Delivery). over delivery.form l out) (sym (from_snoc at m (first_at 0 log) 0 i))
       ∙ ap (λ (k : ℕ). over delivery.form (first_ones k) out) (sym n)
-
--- i words are cleared
-replicate_snoc : (i a : ℕ) → replicate i a ++ (a ∷ []) ≡ replicate (i + 1) a
-replicate_snoc i a = replicate-append-replicate i 1 a
-
-pub cleared_more : (l now : List ℕ) (i : ℕ) → i < length l → now ≡ replicate i 0 ++ drop i l → set now i 0 ≡ replicate (i + 1) 0 ++ drop (i + 1) l
-cleared_more l now i h e =
-    let n : suc i ≡ i + 1 = omega arith in
-    ap (λ (x : List ℕ). set x i 0) (e ∙ ap (λ (x : List ℕ). replicate i 0 ++ x) (drop-cons l i 0 h))
-    ∙ set_at (replicate i 0) (get_or l i 0) (drop (suc i) l) 0 i (length-replicate i 0)
-    ∙ sym (append_snoc (replicate i 0) 0 (drop (suc i) l))
-    ∙ ap (λ (x : List ℕ). x ++ drop (suc i) l) (replicate_snoc i 0)
-    ∙ ap (λ (k : ℕ). replicate (i + 1) 0 ++ drop k l) n
-
-pub cleared_all : (l now : List ℕ) (i : ℕ) → i ≡ records_at → now ≡ replicate i 0 ++ drop i l → now ≡ cleared_at l
-unfolding cleared_at
-cleared_all l now i e h = h ∙ ap (λ (k : ℕ). replicate k 0 ++ drop k l) e
 
 pub drained_log : (m : ℕ) (log : List ℕ) → log_of m (cleared_at log) ≡ empty_log
 unfolding cleared_at

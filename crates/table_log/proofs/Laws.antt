@@ -1,5 +1,38 @@
 -- The log after one delivery more: records, forced count, tallies; its head in range again. Assumes nothing.
-use Rattle.std.proofs.Common.{◌≡◌, ℕ, ◌+◌, ◌*◌, ◌≤◌, Bool, true, false, cond, ◌&&◌, eqb, ltb, leb, List, [], ◌∷◌, length, get_or, take, drop, set, sym, refl, ap, ◌∙◌, arith, length-drop, get_or-drop, get_or-take, drop-drop, le-ltb, eqb-true}
+use Rattle.std.proofs.Common.{
+  ◌≡◌,
+  ℕ,
+  ◌+◌,
+  ◌*◌,
+  ◌≤◌,
+  Bool,
+  true,
+  false,
+  cond,
+  ◌&&◌,
+  eqb,
+  ltb,
+  leb,
+  List,
+  [],
+  ◌∷◌,
+  length,
+  get_or,
+  take,
+  drop,
+  set,
+  sym,
+  refl,
+  ap,
+  ◌∙◌,
+  arith,
+  length-drop,
+  get_or-drop,
+  get_or-take,
+  drop-drop,
+  le-ltb,
+  eqb-true,
+}
 use borrow.Author.Tests.{eqb-false}
 use Rattle.table_shift.specs.Shift.{put_words}
 use Rattle.table_rows.specs.Table.{rows_of}
@@ -11,7 +44,28 @@ use Rattle.table_ring.proofs.Table.{sound_true, sound_same, length_written, writ
 use Rattle.table_delivery.specs.declared.Delivery.{Delivery}
 use Rattle.table_delivery.specs.Delivery as delivery
 use Rattle.table_delivery.proofs.Laws as delivery-laws
-use Rattle.table_log.specs.Log.{tally_exact, wrap, no_tally, tallied, logged, classes, tally_width, forced_at, tallies_at, records_at, size_of, tally_form, records_of, tallies_of, log_of, SoundLog, tally_at, tallied_at, noted_at, pushed}
+use Rattle.table_log.specs.Log.{
+  tally_exact,
+  wrap,
+  no_tally,
+  tallied,
+  logged,
+  classes,
+  tally_width,
+  forced_at,
+  tallies_at,
+  records_at,
+  size_of,
+  tally_form,
+  records_of,
+  tallies_of,
+  log_of,
+  SoundLog,
+  tally_at,
+  tallied_at,
+  noted_at,
+  pushed,
+}
 use Rattle.table_log.proofs.Writing.{tallied_length, tallied_head, tallied_records, tallied_tallies, noted_length, noted_head, noted_rest, noted_forced}
 
 -- a cell, read from a part that holds it
@@ -122,11 +176,18 @@ module _ (m : ℕ) (log : List ℕ) (d : Delivery) (room : size_of m ≤ length 
   written_tallies =
       let lw = length-drop tallies_at written in
       let ln = length-drop tallies_at noted in
-      rows_within tally_form tally_exact (drop tallies_at noted) (drop tallies_at written) classes (between tallies_at (classes * tally_width) (omega arith) (omega arith)) (omega (arith, ln, note_length)) (omega (arith, lw, written_length))
+      rows_within tally_form tally_exact (drop tallies_at noted) (drop tallies_at written) classes
+      (between tallies_at (classes * tally_width) (omega arith) (omega arith)) (omega (arith, ln, note_length)) (omega (arith, lw, written_length))
       ∙ ap (λ (w : List ℕ). rows_of tally_form w classes) (noted_rest m tally (omega (arith, tally_length)))
       ∙ tallied_tallies log d.class d.wire (omega arith)
 
-  written_log : log_of m written ≡ record { records = push m (records_of m log) d; forced = cond (ltb (length (records_of m log)) m) (get_or log forced_at 0) (wrap (get_or log forced_at 0 + 1)); tallies = set (tallies_of log) d.class (tallied (get_or (tallies_of log) d.class no_tally) d.wire) }
+  written_log : log_of m written ≡ record {
+    records = push m (records_of m log) d;
+    forced =
+        cond (ltb (length (records_of m log)) m) (get_or log forced_at 0) (wrap (get_or log forced_at 0 + 1));
+    tallies =
+        set (tallies_of log) d.class (tallied (get_or (tallies_of log) d.class no_tally) d.wire);
+  }
   written_log j = record { records = written_records j; forced = written_forced j; tallies = written_tallies j }
 
   again : Sound m 0 written
@@ -142,7 +203,13 @@ module _ (m : ℕ) (log : List ℕ) (d : Delivery) (room : size_of m ≤ length 
   log_pushed = go (eqb m 0) refl
     where
       go : (b : Bool) → eqb m 0 ≡ b → log_of m (pushed m log d)
-          ≡ cond b (log_of m log) (record { records = push m (records_of m log) d; forced = cond (ltb (length (records_of m log)) m) (get_or log forced_at 0) (wrap (get_or log forced_at 0 + 1)); tallies = set (tallies_of log) d.class (tallied (get_or (tallies_of log) d.class no_tally) d.wire) })
+          ≡ cond b (log_of m log) (record {
+            records = push m (records_of m log) d;
+            forced =
+                cond (ltb (length (records_of m log)) m) (get_or log forced_at 0) (wrap (get_or log forced_at 0 + 1));
+            tallies =
+                set (tallies_of log) d.class (tallied (get_or (tallies_of log) d.class no_tally) d.wire);
+          })
       go true z = ap (log_of m) (off m log d (eqb-true m 0 z))
       go false z = let s = on false z refl in ap (log_of m) (pushed_is m log d room s) ∙ written_log m log d room s
 

@@ -1,5 +1,40 @@
 -- The steps of a push: the tally, the forced count, and what they leave alone. Assumes nothing.
-use Rattle.std.proofs.Common.{◌≡◌, ℕ, ◌+◌, ◌*◌, ◌<◌, ◌≤◌, Bool, true, false, cond, eqb, ltb, List, length, get_or, take, drop, set, sym, refl, ap, ◌∙◌, arith, length-drop, length-set, get_or-set_same, drop-set-lt, ltb-false, ltb-true, le-ltb, lt-ltb, eq-eqb, ne_eqb, eqb-true}
+use Rattle.std.proofs.Common.{
+  ◌≡◌,
+  ℕ,
+  ◌+◌,
+  ◌*◌,
+  ◌<◌,
+  ◌≤◌,
+  Bool,
+  true,
+  false,
+  cond,
+  eqb,
+  ltb,
+  List,
+  length,
+  get_or,
+  take,
+  drop,
+  set,
+  sym,
+  refl,
+  ap,
+  ◌∙◌,
+  arith,
+  length-drop,
+  length-set,
+  get_or-set_same,
+  drop-set-lt,
+  ltb-false,
+  ltb-true,
+  le-ltb,
+  lt-ltb,
+  eq-eqb,
+  ne_eqb,
+  eqb-true,
+}
 use lib.ListN.{get_or-eq_default}
 use lib.Seq.{drop-drop, take-set-le, set_out}
 use borrow.Author.Tests.{eqb-false}
@@ -64,7 +99,8 @@ module _ (log : List ℕ) (class wire : ℕ) (room : records_at ≤ length log) 
   at : ℕ
   at = tallies_at + class * tally_width
 
-  by_class : {A : Type 0} (F : List ℕ → A) → (class < classes → F (put_words log (tallies_at + class * tally_width) (tally_form.words (tallied (tally_at log class) wire))) ≡ F log) → F (tallied_at log class wire) ≡ F log
+  by_class : {A : Type 0} (F : List ℕ → A) →
+      (class < classes → F (put_words log (tallies_at + class * tally_width) (tally_form.words (tallied (tally_at log class) wire))) ≡ F log) → F (tallied_at log class wire) ≡ F log
   unfolding tallied_at
   by_class F k = go (ltb class classes) refl
     where
@@ -76,7 +112,8 @@ module _ (log : List ℕ) (class wire : ℕ) (room : records_at ≤ length log) 
   tallied_length = by_class length (λ h. length_put log (tallies_at + class * tally_width) (tally_form.words (tallied (tally_at log class) wire)) (omega arith))
 
   pub tallied_head : (t n : ℕ) → t + n ≤ tallies_at → take n (drop t (tallied_at log class wire)) ≡ take n (drop t log)
-  tallied_head t n q = by_class (λ (w : List ℕ). take n (drop t w)) (λ h. put_before log (tallies_at + class * tally_width) (tally_form.words (tallied (tally_at log class) wire)) t n (omega arith) (omega arith))
+  tallied_head t n q = by_class (λ (w : List ℕ). take n (drop t w))
+      (λ h. put_before log (tallies_at + class * tally_width) (tally_form.words (tallied (tally_at log class) wire)) t n (omega arith) (omega arith))
 
   pub tallied_records : drop records_at (tallied_at log class wire) ≡ drop records_at log
   tallied_records = by_class (drop records_at) (λ h. put_behind log (tallies_at + class * tally_width) (tally_form.words (tallied (tally_at log class) wire)) records_at (omega arith) (omega arith))

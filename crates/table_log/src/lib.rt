@@ -4,7 +4,7 @@
 ghost use Rattle.std.specs.Prelude.{◌≡◌, ◌+◌, ◌*◌, ◌<◌, ◌≤◌, length, if◌then◌else◌, slice_index, refl};
 ghost use Rattle.table_delivery.specs.Delivery as delivery;
 ghost use Rattle.table_rows.specs.Table.{over};
-ghost use Rattle.table_ring.specs.Ring.{most, count_at};
+ghost use Rattle.table_ring.specs.Ring.{count_at};
 ghost use Rattle.table_log.specs.Log.{records_at, forced_at, size_of, tally_form, tally_exact, SoundLog, sound_log, records_of, record_at, tally_at, tallied_at, noted_at, pushed, cleared_at};
 
 use table_delivery::Delivery;
@@ -53,6 +53,8 @@ impl Row for Tally {
     ghost wide = { refl };
 }
 
+// `records_at ≤ length log`, and below `size_of capacity ≤ length log`: head and records stand in one lent table; as an array of its own the head would be apart from the
+// records, which `push` and `drain` write with it.
 // How many records the log holds.
 pub fn count(log: &[u64]) -> u64
     requires { records_at ≤ length log.now }
@@ -122,7 +124,7 @@ fn note_forced(log: &mut [u64], capacity: usize)
 
 // A delivery logged. In a log of capacity 0 no slot is in range: it keeps neither records nor tallies.
 pub fn push(log: &mut [u64], capacity: usize, d: Delivery)
-    requires { (capacity ≤ most) × (size_of capacity ≤ length log.old) }
+    requires { size_of capacity ≤ length log.old }
     ensures { log.new ≡ pushed capacity log.old d }
 {
     if !table_ring::is_sound(log, 0, capacity) {
@@ -143,9 +145,10 @@ fn clear(log: &mut [u64])
     log[..RECORDS].fill(0);
 }
 
+// `SoundLog`, here and below: the head is in range, as `is_sound` answers of it. A type for it would be made of the lent log at each call, and ask the same there, no plainer.
 // The k-th oldest record.
 pub fn oldest(log: &[u64], capacity: usize, k: usize) -> Delivery
-    requires { (capacity ≤ most) × (size_of capacity ≤ length log.now) × (SoundLog capacity log.now) × (k < count_at 0 log.now) }
+    requires { (size_of capacity ≤ length log.now) × (SoundLog capacity log.now) × (k < count_at 0 log.now) }
     ensures { result ≡ record_at capacity log.now k }
 {
     let first = log[1] as usize;
@@ -155,7 +158,7 @@ pub fn oldest(log: &[u64], capacity: usize, k: usize) -> Delivery
 
 // The records, oldest first, to the front of out.
 fn copy_out(log: &[u64], capacity: usize, out: &mut [u64])
-    requires { (capacity ≤ most) × (size_of capacity ≤ length log.now) × (capacity * delivery.width ≤ length out.old) × (SoundLog capacity log.now) }
+    requires { (size_of capacity ≤ length log.now) × (capacity * delivery.width ≤ length out.old) × (SoundLog capacity log.now) }
     ensures { out.new ≡ over delivery.form (records_of capacity log.now) out.old }
 {
     let count = log[0] as usize;
@@ -167,7 +170,7 @@ fn copy_out(log: &[u64], capacity: usize, out: &mut [u64])
 
 // The records, oldest first, to the front of out, and how many; then the log is empty. Nothing where the head is not in range.
 pub fn drain(log: &mut [u64], capacity: usize, out: &mut [u64]) -> u64
-    requires { (capacity ≤ most) × (size_of capacity ≤ length log.old) × (capacity * delivery.width ≤ length out.old) }
+    requires { (size_of capacity ≤ length log.old) × (capacity * delivery.width ≤ length out.old) }
     ensures many { result ≡ (if sound_log capacity log.old then count_at 0 log.old else 0) }
     ensures copied { out.new ≡ (if sound_log capacity log.old then over delivery.form (records_of capacity log.old) out.old else out.old) }
     ensures emptied { log.new ≡ (if sound_log capacity log.old then cleared_at log.old else log.old) }

@@ -1,7 +1,7 @@
 -- Both parts of a till's ids in a table: where they stand, and what one id more and one id less leave. Assumes nothing.
 use mathlib.Core.Path.{◌≡◌, refl, sym, ap, ap₂, ◌∙◌}
 use mathlib.Core.List.{List, [], ◌∷◌, ◌++◌, append-nil}
-use mathlib.Core.Bool.{Bool, true, false, cond, ◌||◌}
+use mathlib.Core.Bool.{Bool, true, false, cond}
 use Prim.Native.Nat.{ℕ, ◌+◌, ◌-◌, ◌%◌, ◌≤◌, ◌<◌}
 use native.Mathlib.Omega.{arith}
 use lib.Dec.{eqb}
@@ -11,7 +11,7 @@ use borrow.Author.Tests.{eq-eqb, ne_eqb}
 use Rattle.table_shift.specs.Shift.{put_words, closed}
 use Rattle.table_shift.proofs.Laws.{drop_take, length_put}
 use Rattle.table_shift.proofs.Parts.{is_put, part_closed, put_before, put_here, put_behind}
-use Rattle.table_marks.specs.Marks.{ids_of, found_in, placed_in, removed_in, merged, refilled, newest, older, old_of, new_of, found, grown, listed, placed, removed}
+use Rattle.table_marks.specs.Marks.{ids_of, found_in, placed_in, removed_in, merged, refilled, newest, older, old_of, new_of, grown, listed, placed, removed}
 use Rattle.table_marks.proofs.Rising.{length_placed_in, length_removed_in, length_found_in}
 use Rattle.table_marks.proofs.Search.{length_ids}
 use Rattle.table_marks.proofs.Parts.{length_merged}
@@ -56,21 +56,24 @@ module _ (seen : List ℕ) (start left n : ℕ) (room : start + left + 1 + n ≤
       let e : behind ≡ [] = ap (λ (j : ℕ). ids_of seen (start + left + 1) j) z in
       is_put seen seen start left before (length_ids seen start left 0 (omega arith)) refl refl refl ∙ ap (λ (b : List ℕ). put_words seen start (refilled before b)) (sym e)
 
-  pub filled_some : (id : ℕ) (l₁ l₂ : List ℕ) → (n ≡ 0 → ⊥) → id ≡ get_or seen (start + left + 1) 0 → l₁ ≡ put_words seen start (placed_in id before) → l₂ ≡ closed l₁ (start + left + 1 + 1) (start + left + 1 + n) 1
+  pub filled_some : (id : ℕ) (l₁ l₂ : List ℕ) → (n ≡ 0 → ⊥) → id ≡ get_or seen (start + left + 1) 0 → l₁ ≡ put_words seen start (placed_in id before) →
+      l₂ ≡ closed l₁ (start + left + 1 + 1) (start + left + 1 + n) 1
       → l₂ ≡ put_words seen start (refilled before behind)
   filled_some id l₁ l₂ h e p q =
       let some : 0 < n = omega (arith, h) in
       let lb : length behind ≡ n = length_ids seen (start + left + 1) n 0 room in
       let lp : length (placed_in id before) ≡ left + 1 = length_placed_in id before ∙ omega (arith, length_ids seen start left 0 (omega arith)) in
       let f : id ≡ get_or behind 0 0
-      = e ∙ sym (get_or-take n (drop (start + left + 1) seen) 0 0 some ∙ get_or-drop (start + left + 1) seen 0 0 ∙ ap (λ (j : ℕ). get_or seen j 0) (let z : start + left + 1 + 0 ≡ start + left + 1 = omega arith in z)) in
+      = e ∙ sym (get_or-take n (drop (start + left + 1) seen) 0 0 some ∙ get_or-drop (start + left + 1) seen 0 0 ∙
+      ap (λ (j : ℕ). get_or seen j 0) (let z : start + left + 1 + 0 ≡ start + left + 1 = omega arith in z)) in
       let cons : behind ≡ id ∷ drop 1 behind = drop-cons behind 0 0 (omega (arith, lb)) ∙ ap (λ (j : ℕ). j ∷ drop 1 behind) (sym f) in
       let same : ids_of l₁ (start + left + 1) n ≡ behind
       = ap (λ (x : List ℕ). ids_of x (start + left + 1) n) p ∙ ap (take n) (put_behind seen start (placed_in id before) (start + left + 1) (omega (arith, lp)) (omega (arith, lp))) in
       let len : length l₁ ≡ length seen = ap length p ∙ length_put seen start (placed_in id before) (omega (arith, lp)) in
       let n0 : start + left + 1 + 1 ≡ start + left + 1 + 0 + 1 = omega arith in
       let d : closed l₁ (start + left + 1 + 1) (start + left + 1 + n) 1 ≡ put_words l₁ (start + left + 1) (drop 1 behind)
-      = ap (λ (j : ℕ). closed l₁ j (start + left + 1 + n) 1) n0 ∙ part_closed l₁ (start + left + 1) n 0 1 (omega arith) (omega (arith, len)) ∙ ap (λ (x : List ℕ). put_words l₁ (start + left + 1) (drop 1 x)) same in
+      = ap (λ (j : ℕ). closed l₁ j (start + left + 1 + n) 1) n0 ∙ part_closed l₁ (start + left + 1) n 0 1 (omega arith) (omega (arith, len)) ∙
+      ap (λ (x : List ℕ). put_words l₁ (start + left + 1) (drop 1 x)) same in
       let one : length (drop 1 behind) ≡ n - 1 = rw length-drop (omega (arith, lb)) in
       let at : start + left + 1 ≡ start + (left + 1) = omega arith in
       let own : ids_of l₁ start (left + 1) ≡ placed_in id before
@@ -94,7 +97,8 @@ settled_tail l ys start k n room e =
     let whole : take m t ≡ t = take_all m t (omega arith) in
     let none : drop m t ≡ [] = ap (λ (j : ℕ). drop j t) (sym lt) ∙ drop-length t in
     let v : List ℕ = merged (take k t) (take n (drop k t)) in
-    let lv : length v ≡ k + n = length_merged (take k t) (take n (drop k t)) ∙ ap₂ (λ (a b : ℕ). a + b) (length-take-le k t (omega arith)) (length-take-le n (drop k t) (rw length-drop (omega arith))) in
+    let lv : length v ≡ k + n = length_merged (take k t) (take n (drop k t)) ∙
+    ap₂ (λ (a b : ℕ). a + b) (length-take-le k t (omega arith)) (length-take-le n (drop k t) (rw length-drop (omega arith))) in
     let far : start + (k + n) ≡ start + length v = ap (λ (j : ℕ). start + j) (sym lv) in
     ap₂ (λ (y z : List ℕ). take start l ++ (y ++ z)) (e ∙ ap (λ (x : List ℕ). merged (take k x) (take n (drop k x)) ++ drop (k + n) x) whole) none
     ∙ ap (λ (x : List ℕ). take start l ++ x) (append-nil (v ++ drop (k + n) t))
@@ -127,12 +131,6 @@ module _ (seen : List ℕ) (start count id : ℕ) (fits : start + count ≤ leng
 
   length_new : length new ≡ count % newest
   length_new = length_ids seen (start + older count) (count % newest) id (omega arith)
-
-  pub has_old : {b : Bool} → b ≡ found_in id old → b ≡ true → true ≡ found id ids
-  has_old e h = sym (ap (λ (b : Bool). b || found_in id (new_of ids)) (ap (found_in id) old_is ∙ sym e ∙ h))
-
-  pub has_new : {b r : Bool} → b ≡ found_in id old → b ≡ false → r ≡ found_in id new → r ≡ found id ids
-  has_new e h n = n ∙ sym (ap₂ (λ (x y : Bool). x || y) (ap (found_in id) old_is ∙ sym e ∙ h) (ap (found_in id) new_is))
 
   -- how many are left in a part
   pub left_old : {b : Bool} (r : ℕ) → b ≡ found_in id old → b ≡ true → r ≡ length (removed_in id old) → r + 1 ≡ older count
@@ -219,7 +217,8 @@ module _ (seen : List ℕ) (start count id : ℕ) (room : start + count + 1 ≤ 
       = length_merged (ids_of seen start (older count)) more ∙ omega (arith, length_ids seen start (older count) id (omega arith)) in
       q ∙ ap₂ (λ (x y : List ℕ). put_words seen₁ start (merged x y)) a b ∙ ap (λ (x : List ℕ). put_words x start (merged (ids_of seen start (older count)) more)) p
       ∙ put_over seen start (older count) more (merged (ids_of seen start (older count)) more) (omega (arith, lv)) (omega (arith, lv, far))
-      ∙ ap (put_words seen start) (sym (placed_is ∙ ap (λ (b : Bool). cond b (merged (ids_of seen start (older count)) more) (ids_of seen start (older count) ++ more)) (eq-eqb (length more) newest lm)))
+      ∙ ap (put_words seen start) (sym
+      (placed_is ∙ ap (λ (b : Bool). cond b (merged (ids_of seen start (older count)) more) (ids_of seen start (older count) ++ more)) (eq-eqb (length more) newest lm)))
 
 -- ids copied to the front of another table, then listed
 pub copied_listed : (own out l₁ l₂ : List ℕ) (n : ℕ) → length own ≡ n → l₁ ≡ own ++ drop n out → l₂ ≡ listed (take n l₁) ++ drop n l₁ → l₂ ≡ listed own ++ drop n out

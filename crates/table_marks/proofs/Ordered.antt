@@ -377,7 +377,8 @@ ordered_placed j l f k = go (eqb (length (placed_in j (new_of l))) newest) refl
         let ne : length (placed_in j (new_of l)) ≡ newest → ⊥ = eqb-false (length (placed_in j (new_of l))) newest e in
         parts_ordered (old_of l) (placed_in j (new_of l)) (length l) (length_old l) (omega (arith, ne, length_placed_in j (new_of l), length_new l)) k.0 more free
 
-ordered_refilled : (c : ℕ) (old new : List ℕ) (j : ℕ) → length old ≡ older c → length new < newest → found_in j old ≡ true → Rises old → Rises new → Each (λ (i : ℕ). member i old ≡ false) new → Ordered (refilled (removed_in j old) new)
+ordered_refilled : (c : ℕ) (old new : List ℕ) (j : ℕ) → length old ≡ older c → length new < newest → found_in j old ≡ true → Rises old → Rises new →
+    Each (λ (i : ℕ). member i old ≡ false) new → Ordered (refilled (removed_in j old) new)
 ordered_refilled c old [] j lo ln f r s e = rises_ordered (removed_in j old) (rises_removed_in j old r)
 ordered_refilled c old (y ∷ new) j lo ln f r s e =
     let cut : Rises (removed_in j old) = rises_removed_in j old r in

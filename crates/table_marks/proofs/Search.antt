@@ -6,7 +6,7 @@ use Prim.Native.Nat.{ℕ, zero, suc, ◌+◌, ◌-◌, ◌/◌, ◌≤◌, ◌<�
 use native.Mathlib.Omega.{arith}
 use lib.Dec.{ltb, eqb}
 use lib.ListN.{length, get_or, take, drop, set, length-take, length-drop, length-append}
-use lib.Seq.{get_or-take, get_or-drop, length-take-le, take-suc, take-suc-set}
+use lib.Seq.{get_or-take, get_or-drop, length-take-le}
 use borrow.Author.Tests.{lt-ltb, le-ltb, eq-eqb, ne_eqb, eqb-true, eqb-false}
 use Rattle.table_shift.specs.Shift.{put_words, opened, closed}
 use Rattle.table_shift.proofs.Laws.{opened_set}
@@ -53,30 +53,6 @@ pub narrows : (b : Bool) (lo n : ℕ) → 0 < n → cond b (lo + (n - 1) / 2 + 1
 narrows true lo n h = omega arith
 narrows false lo n h = omega arith
 
--- the ids behind the first `count` do not matter
-pub halve_take : (t : ℕ) (l : List ℕ) (count id lo n : ℕ) → lo + n ≤ count → halve t (take count l) id lo n ≡ halve t l id lo n
-halve_take t l count id lo n h = go t lo n h
-  where
-    go : (t lo n : ℕ) → lo + n ≤ count → halve t (take count l) id lo n ≡ halve t l id lo n
-    go zero lo n h = zero_same lo n
-      where
-        zero_same : (lo n : ℕ) → halve zero (take count l) id lo n ≡ halve zero l id lo n
-        zero_same lo n = at_zero (take count l) id lo n ∙ sym (at_zero l id lo n)
-    go (suc t) lo n h = turn (eqb n 0) refl (λ k q. go t k (n / 2) q)
-      where
-        turn : (b : Bool) → eqb n 0 ≡ b → ((k : ℕ) → k + n / 2 ≤ count → halve t (take count l) id k (n / 2) ≡ halve t l id k (n / 2)) → halve (suc t) (take count l) id lo n ≡ halve (suc t) l id lo n
-        turn true e f = let z = eqb-true n 0 e in over (suc t) (take count l) id lo n z ∙ sym (over (suc t) l id lo n z)
-        turn false e f =
-            let z = eqb-false n 0 e in
-            let some : 0 < n = omega (arith, z) in
-            let mid : ℕ = lo + (n - 1) / 2 in
-            let same : get_or (take count l) (lo + (n - 1) / 2) 0 ≡ get_or l (lo + (n - 1) / 2) 0 = get_or-take count l (lo + (n - 1) / 2) 0 (omega arith) in
-            let in-it = narrows (ltb (get_or l (lo + (n - 1) / 2) 0) id) lo n some in
-            one t (take count l) id lo n some
-            ∙ ap (λ (x : ℕ). halve t (take count l) id (cond (ltb x id) (lo + (n - 1) / 2 + 1) lo) (n / 2)) same
-            ∙ f (cond (ltb (get_or l (lo + (n - 1) / 2) 0) id) (lo + (n - 1) / 2 + 1) lo) (omega arith)
-            ∙ sym (one t l id lo n some)
-
 -- the ways out of `halve_once`
 module _ (ids : List ℕ) (id : ℕ) (s : Span) where
   pub once_none : s.n ≡ 0 → s ≡ halved ids id s
@@ -88,7 +64,8 @@ module _ (ids : List ℕ) (id : ℕ) (s : Span) where
   once_some mid lo a h em ea el =
       let e : lo ≡ cond (ltb (get_or ids (s.lo + (s.n - 1) / 2) 0) id) (s.lo + (s.n - 1) / 2 + 1) s.lo
       = el ∙ ap (λ (x : ℕ). cond (ltb x id) (mid + 1) s.lo) ea ∙ ap (λ (x : ℕ). cond (ltb (get_or ids x 0) id) (x + 1) s.lo) em in
-      ap (λ (x : ℕ). record { lo = x; n = s.n / 2 }) e ∙ sym (ap (λ (b : Bool). cond b s (record { lo = cond (ltb (get_or ids (s.lo + (s.n - 1) / 2) 0) id) (s.lo + (s.n - 1) / 2 + 1) s.lo; n = s.n / 2 })) (ne_eqb s.n 0 h))
+      ap (λ (x : ℕ). record { lo = x; n = s.n / 2 }) e ∙
+      sym (ap (λ (b : Bool). cond b s (record { lo = cond (ltb (get_or ids (s.lo + (s.n - 1) / 2) 0) id) (s.lo + (s.n - 1) / 2 + 1) s.lo; n = s.n / 2 })) (ne_eqb s.n 0 h))
 
 -- one halving leads to the same place
 pub leads_on : (ids : List ℕ) (id : ℕ) (s : Span) → halve s.n ids id s.lo s.n ≡ halve (halved ids id s).n ids id (halved ids id s).lo (halved ids id s).n
@@ -148,15 +125,15 @@ on_less ids id s h = rw (ne_eqb s.n 0 (λ z. omega arith)) (omega arith)
 pub on_end : (ids : List ℕ) (id goal lo n : ℕ) → n ≤ 0 → goal ≡ halve n ids id lo n → lo ≡ goal
 on_end ids id goal lo n h g = sym (g ∙ over n ids id lo n (omega arith))
 
+-- the part of a table, as it is lent
+pub part_is : (seen : List ℕ) (start count : ℕ) → take (start + count - start) (drop start seen) ≡ ids_of seen start count
+part_is seen start count = let e : start + count - start ≡ count = omega arith in ap (λ (k : ℕ). take k (drop start seen)) e
+
 -- twelve halvings, and those left
-pub found_at : (seen : List ℕ) (start count id : ℕ) (a b c : Span) (r : ℕ) → start + count ≤ length seen
-    → leads_to (drop start seen) id a ≡ leads_to (drop start seen) id (record { lo = 0; n = count }) → leads_to (drop start seen) id b ≡ leads_to (drop start seen) id a
-    → leads_to (drop start seen) id c ≡ leads_to (drop start seen) id b → r ≡ leads_to (drop start seen) id c → r ≡ position id (ids_of seen start count)
+pub found_at : (ids : List ℕ) (id : ℕ) (a b c : Span) (r : ℕ) → leads_to ids id a ≡ leads_to ids id (record { lo = 0; n = length ids }) → leads_to ids id b ≡ leads_to ids id a
+    → leads_to ids id c ≡ leads_to ids id b → r ≡ leads_to ids id c → r ≡ position id ids
 unfolding position
-found_at seen start count id a b c r fits ea eb ec er =
-    let l : List ℕ = drop start seen in
-    let ln : length (take count l) ≡ count = length-take-le count l (rw length-drop (omega arith)) in
-    er ∙ ec ∙ eb ∙ ea ∙ sym (ap (λ (k : ℕ). halve k (take count l) id 0 k) ln ∙ halve_take count l count id 0 count (omega arith))
+found_at ids id a b c r ea eb ec er = er ∙ ec ∙ eb ∙ ea
 
 module _ (seen : List ℕ) (start count id : ℕ) (fits : start + count ≤ length seen) where
   pub length_ids : length (ids_of seen start count) ≡ count
@@ -181,7 +158,9 @@ module _ (seen : List ℕ) (start count id : ℕ) (fits : start + count ≤ leng
     -- nothing is removed_in
     pub kept : false ≡ found_in id (ids_of seen start count) → (count ≡ length (removed_in id (ids_of seen start count))) × (seen ≡ put_words seen start (removed_in id (ids_of seen start count)))
     kept f =
-        let none : ids_of seen start count ≡ removed_in id (ids_of seen start count) = ap (λ (b : Bool). cond b (take (position id (ids_of seen start count)) (ids_of seen start count) ++ drop (suc (position id (ids_of seen start count))) (ids_of seen start count)) (ids_of seen start count)) f in
+        let none : ids_of seen start count ≡ removed_in id (ids_of seen start count) =
+        ap (λ (b : Bool). cond b (take (position id (ids_of seen start count)) (ids_of seen start count) ++
+        drop (suc (position id (ids_of seen start count))) (ids_of seen start count)) (ids_of seen start count)) f in
         (sym length_ids ∙ ap length none, is_put seen seen start count (ids_of seen start count) length_ids refl refl refl ∙ ap (put_words seen start) none)
 
     -- the id at the place is removed_in
@@ -204,15 +183,3 @@ added seen start count id p l room h e =
     ap (λ (x : List ℕ). set x (start + p) id) e
     ∙ opened_set seen (start + p) (start + count) id (omega arith) room
     ∙ part_inserted seen start count p (id ∷ []) h room
-
--- one word more is copied
-pub copied_more : (seen out : List ℕ) (start i : ℕ) → i < length out → start + i < length seen → take i out ≡ ids_of seen start i
-    → take (i + 1) (set out i (get_or seen (start + i) 0)) ≡ ids_of seen start (i + 1)
-copied_more seen out start i h k e =
-    let s : i + 1 ≡ suc i = omega arith in
-    ap (λ (m : ℕ). take m (set out i (get_or seen (start + i) 0))) s
-    ∙ take-suc-set out i (get_or seen (start + i) 0) h
-    ∙ ap (λ (l : List ℕ). l ++ (get_or seen (start + i) 0 ∷ [])) e
-    ∙ ap (λ (x : ℕ). take i (drop start seen) ++ (x ∷ [])) (sym (get_or-drop start seen i 0))
-    ∙ sym (take-suc (drop start seen) i 0 (rw length-drop (omega arith)))
-    ∙ ap (λ (m : ℕ). take m (drop start seen)) (sym s)

@@ -1,9 +1,11 @@
 // The marks of a till: the ids it has seen, in a part of a table: the older ones, then the newest, either part rising. An id's place is found by halving.
 #![tactic(auto)]
 
-ghost use Rattle.std.specs.Prelude.{◌≡◌, ◌+◌, ◌≤◌, ◌<◌, length, get_or, take, drop, cond, ◌&&◌, ◌++◌, ltb};
-ghost use Rattle.table_shift.specs.Shift.{put_words, opened};
+ghost use Rattle.std.specs.Prelude.{◌≡◌, ◌+◌, ◌≤◌, ◌<◌, length, get_or, take, drop, ◌&&◌, ◌++◌, ltb};
+ghost use Rattle.table_shift.specs.Shift.{put_words};
 ghost use Rattle.table_marks.specs.Marks.{ids_of, halve, halved, leads_to, position, found_in, placed_at, placed_in, removed_in, merged, refilled, newest, found, listed, placed, removed};
+
+use std::hint::select_unpredictable;
 
 // So many of the newest ids stand apart, or fewer.
 const NEWEST: usize = 128;
@@ -15,19 +17,11 @@ struct Span {
     n: usize,
 }
 
-fn pick(first: bool, a: usize, b: usize) -> usize
-    ensures { result ≡ cond first a b }
-{
-    if first {
-        return a;
-    }
-    b
-}
-
+// `s.lo + s.n ≤ length ids`, here and in the halvings below: a span of the lent ids; as a slice of its own it would lose the place that is asked for.
 // One halving. It branches on the count alone, so that no id is guessed at.
-fn halve_once(seen: &[u64], start: usize, s: Span, id: u64) -> Span
-    requires { start + (s.lo + s.n) ≤ length seen.now }
-    ensures is { result ≡ halved (drop start seen.now) id s }
+fn halve_once(ids: &[u64], s: Span, id: u64) -> Span
+    requires { s.lo + s.n ≤ length ids.now }
+    ensures is { result ≡ halved ids.now id s }
     ensures within { result.lo + result.n ≤ s.lo + s.n }
 {
     let lo = s.lo;
@@ -36,14 +30,14 @@ fn halve_once(seen: &[u64], start: usize, s: Span, id: u64) -> Span
         return s;
     }
     let mid = lo + (n - 1) / 2;
-    let next = pick(seen[start + mid] < id, mid + 1, lo);
+    let next = select_unpredictable(ids[mid] < id, mid + 1, lo);
     Span { lo: next, n: n / 2 }
 }
 
 // Two at once, where so many are left: the ids that the second may ask for are read beside the first's.
-fn halve_two(seen: &[u64], start: usize, s: Span, id: u64) -> Span
-    requires { start + (s.lo + s.n) ≤ length seen.now }
-    ensures is { leads_to (drop start seen.now) id result ≡ leads_to (drop start seen.now) id s }
+fn halve_two(ids: &[u64], s: Span, id: u64) -> Span
+    requires { s.lo + s.n ≤ length ids.now }
+    ensures is { leads_to ids.now id result ≡ leads_to ids.now id s }
     ensures within { result.lo + result.n ≤ s.lo + s.n }
 {
     let lo = s.lo;
@@ -55,9 +49,9 @@ fn halve_two(seen: &[u64], start: usize, s: Span, id: u64) -> Span
     let mid = lo + (n - 1) / 2;
     let low = lo + (half - 1) / 2;
     let high = mid + 1 + (half - 1) / 2;
-    let left = pick(seen[start + low] < id, low + 1, lo);
-    let right = pick(seen[start + high] < id, high + 1, mid + 1);
-    let next = pick(seen[start + mid] < id, right, left);
+    let left = select_unpredictable(ids[low] < id, low + 1, lo);
+    let right = select_unpredictable(ids[high] < id, high + 1, mid + 1);
+    let next = select_unpredictable(ids[mid] < id, right, left);
     Span {
         lo: next,
         n: half / 2,
@@ -65,66 +59,67 @@ fn halve_two(seen: &[u64], start: usize, s: Span, id: u64) -> Span
 }
 
 // Four of them, where so many are left.
-fn halve_four(seen: &[u64], start: usize, s: Span, id: u64) -> Span
-    requires { start + (s.lo + s.n) ≤ length seen.now }
-    ensures is { leads_to (drop start seen.now) id result ≡ leads_to (drop start seen.now) id s }
+fn halve_four(ids: &[u64], s: Span, id: u64) -> Span
+    requires { s.lo + s.n ≤ length ids.now }
+    ensures is { leads_to ids.now id result ≡ leads_to ids.now id s }
     ensures within { result.lo + result.n ≤ s.lo + s.n }
 {
-    let a = halve_two(seen, start, s, id);
-    halve_two(seen, start, a, id)
+    let a = halve_two(ids, s, id);
+    halve_two(ids, a, id)
 }
 
-// As many as are left.
-fn halve_on(seen: &[u64], start: usize, s: Span, id: u64) -> usize
-    requires { start + (s.lo + s.n) ≤ length seen.now }
-    ensures is { result ≡ halve s.n (drop start seen.now) id s.lo s.n }
+// As many as are left. The `while` counts no index: it goes on until none is left.
+fn halve_on(ids: &[u64], s: Span, id: u64) -> usize
+    requires { s.lo + s.n ≤ length ids.now }
+    ensures is { result ≡ halve s.n ids.now id s.lo s.n }
     ensures within { result ≤ s.lo + s.n }
 {
     let mut lo = s.lo;
     let mut n = s.n;
     while 0 < n {
-        let a = halve_once(seen, start, Span { lo: lo, n: n }, id);
+        let a = halve_once(ids, Span { lo: lo, n: n }, id);
         lo = a.lo;
         n = a.n;
     }
     lo
 }
 
-// The place of id among the `count` ids from `start` on. Twelve halvings stand in a row: they leave at most one below 4,096 ids.
-fn find(seen: &[u64], start: usize, count: usize, id: u64) -> usize
-    requires { start + count ≤ length seen.now }
-    ensures is { result ≡ position id (ids_of seen.now start count) }
-    ensures within { result ≤ count }
+// The place of id. Twelve halvings stand in a row: they leave at most one below 4,096 ids.
+fn find(ids: &[u64], id: u64) -> usize
+    ensures is { result ≡ position id ids.now }
+    ensures within { result ≤ length ids.now }
 {
-    let a = halve_four(seen, start, Span { lo: 0, n: count }, id);
-    let b = halve_four(seen, start, a, id);
-    let c = halve_four(seen, start, b, id);
-    halve_on(seen, start, c, id)
+    let a = halve_four(
+        ids,
+        Span {
+            lo: 0,
+            n: ids.len(),
+        },
+        id,
+    );
+    let b = halve_four(ids, a, id);
+    let c = halve_four(ids, b, id);
+    halve_on(ids, c, id)
 }
 
 // Does id stand in a part?
-fn has_in(seen: &[u64], start: usize, count: usize, id: u64) -> bool
-    requires { start + count ≤ length seen.now }
-    ensures { result ≡ found_in id (ids_of seen.now start count) }
+fn has_in(ids: &[u64], id: u64) -> bool
+    ensures { result ≡ found_in id ids.now }
 {
-    let p = find(seen, start, count, id);
-    if p < count {
-        return seen[start + p] == id;
-    }
-    false
+    let p = find(ids, id);
+    p < ids.len() && ids[p] == id
 }
 
+// `start + count ≤ length seen`, here and below: the till's part of the table of all tills. No slice of the ids: `insert` takes the free word behind them and `remove` leaves one,
+// so the count would stand beside the slice as well, no plainer.
 // Does id stand among them?
 pub fn has(seen: &[u64], start: usize, count: usize, id: u64) -> bool
     requires { start + count ≤ length seen.now }
     ensures { result ≡ found id (ids_of seen.now start count) }
 {
-    let n = count % NEWEST;
-    let k = count - n;
-    if has_in(seen, start, k, id) {
-        return true;
-    }
-    has_in(seen, start + k, n, id)
+    let ids = &seen[start..start + count];
+    let k = ids.len() - ids.len() % NEWEST;
+    has_in(&ids[..k], id) || has_in(&ids[k..], id)
 }
 
 // id at place p; those from there on move up.
@@ -133,7 +128,7 @@ fn insert_at(seen: &mut [u64], start: usize, count: usize, p: usize, id: u64)
     ensures { seen.new ≡ put_words seen.old start (placed_at p id (ids_of seen.old start count)) }
 {
     let at = start + p;
-    table_shift::move_up(seen, at, start + count, 1);
+    table_shift::move_up_by::<1>(seen, at, start + count);
     seen[at] = id;
 }
 
@@ -142,34 +137,8 @@ fn insert_in(seen: &mut [u64], start: usize, count: usize, id: u64)
     requires { start + count + 1 ≤ length seen.old }
     ensures { seen.new ≡ put_words seen.old start (placed_in id (ids_of seen.old start count)) }
 {
-    let p = find(seen, start, count, id);
+    let p = find(&seen[start..start + count], id);
     insert_at(seen, start, count, p, id);
-}
-
-// The n words from `start` on, up to NEWEST of them.
-fn copied(seen: &[u64], start: usize, n: usize) -> [u64; NEWEST]
-    requires { (n ≤ newest) × (start + n ≤ length seen.now) }
-    ensures { (length result ≡ newest) × (take n result ≡ ids_of seen.now start n) }
-{
-    let mut out = [0u64; NEWEST];
-    let mut i: usize = 0;
-    while i < n {
-        out[i] = seen[start + i];
-        i += 1;
-    }
-    out
-}
-
-// The first n words move up by `by` places, the last one first. shift's is kept for one distance, which LLVM makes a memmove of.
-fn lift(ws: &mut [u64], n: usize, by: usize)
-    requires { n + by ≤ length ws.old }
-    ensures { ws.new ≡ opened ws.old 0 n by }
-{
-    let mut k = n;
-    while 0 < k {
-        k -= 1;
-        ws[k + by] = ws[k];
-    }
 }
 
 // Is i below k, and then the id at place p below id?
@@ -183,7 +152,8 @@ fn below(seen: &[u64], i: usize, k: usize, p: usize, id: u64) -> bool
     false
 }
 
-// The n newer ids go among the k older ones, which stand n places up from the front.
+// The n newer ids go among the k older ones, which stand n places up from the front. By hand: of two indices each turn moves one.
+// `n` stands beside `new`, as it says too where in `ws` the older ones are.
 fn merge(ws: &mut [u64], k: usize, n: usize, new: &[u64])
     requires { (k + n ≤ length ws.old) × (n ≤ length new.now) }
     ensures { ws.new ≡ merged (take k (drop n ws.old)) (take n new.now) ++ drop (k + n) ws.old }
@@ -206,8 +176,9 @@ fn settle(ws: &mut [u64], k: usize, n: usize)
     requires { (n ≤ newest) × (k + n ≤ length ws.old) }
     ensures { ws.new ≡ merged (take k ws.old) (take n (drop k ws.old)) ++ drop (k + n) ws.old }
 {
-    let new = copied(ws, k, n);
-    lift(ws, k, n);
+    let mut new = [0u64; NEWEST];
+    new[..n].copy_from_slice(&ws[k..k + n]);
+    table_shift::move_up(ws, 0, k, n);
     merge(ws, k, n, &new);
 }
 
@@ -220,6 +191,7 @@ fn settle_at(seen: &mut [u64], start: usize, k: usize, n: usize)
 }
 
 // A till's ids, the first count words, all of them rising.
+// `count` stands beside `ws`, no plainer as a slice: the one caller's clause is of the whole output that C lends, and would put together again what this one says.
 pub fn list(ws: &mut [u64], count: usize)
     requires { count ≤ length ws.old }
     ensures { ws.new ≡ listed (take count ws.old) ++ drop count ws.old }
@@ -247,7 +219,7 @@ fn remove_in(seen: &mut [u64], start: usize, count: usize, id: u64) -> usize
     ensures left { result ≡ length (removed_in id (ids_of seen.old start count)) }
     ensures table { seen.new ≡ put_words seen.old start (removed_in id (ids_of seen.old start count)) }
 {
-    let p = find(seen, start, count, id);
+    let p = find(&seen[start..start + count], id);
     if count <= p {
         return count;
     }
@@ -281,7 +253,7 @@ pub fn remove(seen: &mut [u64], start: usize, count: usize, id: u64) -> usize
 {
     let n = count % NEWEST;
     let k = count - n;
-    if has_in(seen, start, k, id) {
+    if has_in(&seen[start..start + k], id) {
         let left = remove_in(seen, start, k, id);
         refill(seen, start, left, n);
         return left + n;

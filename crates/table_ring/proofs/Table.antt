@@ -8,7 +8,7 @@ use native.Mathlib.Omega.{arith}
 use lib.Dec.{ltb, leb}
 use lib.ListN.{length, get_or, take, drop, length-drop, get_or-eq_default}
 use lib.Seq.{get_or-take, get_or-drop, drop-drop, drop_at, length-take-le}
-use borrow.Author.Tests.{ltb-true, ltb-false, leb-true, lt-ltb, le-leb, lt-leb}
+use borrow.Author.Tests.{ltb-true, ltb-false, leb-true, lt-ltb, le-leb}
 use Rattle.table_shift.specs.Shift.{put_words}
 use Rattle.table_shift.proofs.Laws.{length_put}
 use Rattle.table_shift.proofs.Parts.{put_before, put_here, put_behind}
@@ -28,13 +28,6 @@ true_sound m h ws = go (leb (count_at h ws) m) refl (ltb (first_at h ws) m) refl
     go true p true q e = record { counted = leb-true (count_at h ws) m p; begun = ltb-true (first_at h ws) m q }
     go true p false q e = absurd (false≢true e)
     go false p b q e = absurd (false≢true e)
-
--- the ways out of `is_sound`
-pub head_in : (m h : ℕ) (ws : List ℕ) → count_at h ws ≤ m → ltb (first_at h ws) m ≡ sound_at m h ws
-head_in m h ws p = sym (rw (le-leb (count_at h ws) m p))
-
-pub head_out : (m h : ℕ) (ws : List ℕ) → m < count_at h ws → false ≡ sound_at m h ws
-head_out m h ws p = sym (rw (lt-leb (count_at h ws) m p))
 
 -- a head read from the two words that hold it
 two : (h : ℕ) (ws ws' : List ℕ) → take 2 (drop h ws') ≡ take 2 (drop h ws) → (count_at h ws' ≡ count_at h ws) × (first_at h ws' ≡ first_at h ws)
@@ -76,7 +69,8 @@ module _ {R : Type 0} (f : Form R) (x : Exact f) (m h base : ℕ) where
       go true t =
           sym (ring_at_lem (slot_at f m h base ws) m (first_at h ws) 0 (count_at h ws) k none (ltb-true k (count_at h ws) t)
           ∙ ap (λ (j : ℕ). slot_at f m h base ws (slot_of m (first_at h ws) j)) (zero-add k))
-      go false t = sym (get_or-eq_default (ring_at f m h base ws) none (let q = ltb-false k (count_at h ws) t in let l = length_from (slot_at f m h base ws) m (first_at h ws) 0 (count_at h ws) in omega arith))
+      go false t = sym (get_or-eq_default (ring_at f m h base ws) none (let q = ltb-false k (count_at h ws) t in let l =
+          length_from (slot_at f m h base ws) m (first_at h ws) 0 (count_at h ws) in omega arith))
 
   -- ONE ENTRY MORE
   module _ (ws : List ℕ) (e : R) (head : h + 2 ≤ base) (room : base + m * f.width ≤ length ws) (sound : Sound m h ws) where
@@ -104,7 +98,8 @@ module _ {R : Type 0} (f : Form R) (x : Exact f) (m h base : ℕ) where
     heads =
         let v : List ℕ = (next_at f m h base ws).count ∷ (next_at f m h base ws).first ∷ [] in
         let here : take 2 (drop h (put_words put h v)) ≡ v = put_here put h v (omega (arith, length_slot)) in
-        let cell : (i : ℕ) → i < 2 → get_or (put_words put h v) (h + i) 0 ≡ get_or v i 0 = λ i q. (sym (get_or-take 2 (drop h (put_words put h v)) i 0 q ∙ get_or-drop h (put_words put h v) i 0) ∙ ap (λ (w : List ℕ). get_or w i 0) here) in
+        let cell : (i : ℕ) → i < 2 → get_or (put_words put h v) (h + i) 0 ≡ get_or v i 0 = λ i q.
+        (sym (get_or-take 2 (drop h (put_words put h v)) i 0 q ∙ get_or-drop h (put_words put h v) i 0) ∙ ap (λ (w : List ℕ). get_or w i 0) here) in
         (ap (λ (j : ℕ). get_or (put_words put h v) j 0) (sym (add-zero h)) ∙ cell 0 (omega arith), cell 1 (omega arith))
 
     pub written_sound : Sound m h (written_at f m h base ws e)
@@ -138,7 +133,8 @@ module _ {R : Type 0} (f : Form R) (x : Exact f) (m h base : ℕ) where
             let c : base + t * f.width + f.width ≤ base + s * f.width = omega (arith, add-mul t 1 f.width) in
             let before : take (base + s * f.width) (put_words ws (base + s * f.width) (f.words e)) ≡ take (base + s * f.width) ws
             = put_before ws (base + s * f.width) (f.words e) 0 (base + s * f.width) (omega arith) (omega (arith, fits)) in
-            read_within f x ws (put_words ws (base + s * f.width) (f.words e)) (base + s * f.width) (base + t * f.width) before c (omega (arith, fits)) (omega (arith, fits, length_put ws (base + s * f.width) (f.words e) (omega (arith, fits))))
+            read_within f x ws (put_words ws (base + s * f.width) (f.words e)) (base + s * f.width) (base + t * f.width) before c (omega (arith, fits))
+            (omega (arith, fits, length_put ws (base + s * f.width) (f.words e) (omega (arith, fits))))
         go false w =
             let l = ltb-false t s w in
             let u : (s + 1) * f.width ≤ t * f.width = mul-le-mul_right f.width (omega (arith, n)) in

@@ -18,7 +18,8 @@ pub use Rattle.table_rings.specs.Rings.{exact}
 
 -- the ways out of `get`
 module _ (rings : ℕ) (ws : List ℕ) (r k : ℕ) where
-  pub got : (e : Entry) (s : ℕ) → sound_at slots (head_of r) ws ≡ true → k < count_of ws r → s ≡ slot_of slots (first_at (head_of r) ws) k → e ≡ read (drop (base_of rings r + s * width) ws) → e ≡ entry_of rings ws r k
+  pub got : (e : Entry) (s : ℕ) → sound_at slots (head_of r) ws ≡ true → k < count_of ws r → s ≡ slot_of slots (first_at (head_of r) ws) k →
+      e ≡ read (drop (base_of rings r + s * width) ws) → e ≡ entry_of rings ws r k
   unfolding entry_at
   got e s h q w is = is ∙ ap (λ (j : ℕ). read (drop (base_of rings r + j * width) ws)) w ∙ sym (rw (h, lt-ltb k (count_of ws r) q))
 

@@ -41,6 +41,7 @@ pub fn number(kind: usize, scope: usize) -> usize
     kind * SCOPES + scope
 }
 
+// The entry of zeros.
 fn no_entry() -> Entry
     ensures { result ≡ none }
 {
@@ -77,6 +78,7 @@ impl Row for Entry {
     ghost wide = { refl };
 }
 
+// `Fits rings r ws`, here and below: ring r's head and entries stand in the lent table. Each caller has the table anew, so that a type for it would ask the same where it is made.
 // How many entries ring r has.
 pub fn count(ws: &[u64], rings: usize, r: usize) -> u64
     requires { Fits rings r ws.now }
@@ -93,7 +95,7 @@ pub fn is_sound(ws: &[u64], rings: usize, r: usize) -> bool
     table_ring::is_sound(ws, r * HEAD, SLOTS)
 }
 
-// The k-th oldest entry of ring r; zeros where there is none.
+// The k-th oldest entry of ring r; zeros where there is none. No Option: the engine's callers have asked the count, and would match a None that cannot be.
 pub fn get(ws: &[u64], rings: usize, r: usize, k: usize) -> Entry
     requires { Fits rings r ws.now }
     ensures { result ≡ entry_of rings ws.now r k }

@@ -45,7 +45,8 @@ module _ {A : Type 0} where
 
   pub up_to_same : (n : ℕ) (f g : ℕ → A) → ((k : ℕ) → k < n → g k ≡ f k) → up_to n g ≡ up_to n f
   up_to_same zero f g h = refl
-  up_to_same (suc n) f g h = ap (λ (a : A). a ∷ up_to n (λ k. g (suc k))) (h 0 (omega arith)) ∙ ap (λ (l : List A). f 0 ∷ l) (up_to_same n (λ k. f (suc k)) (λ k. g (suc k)) (λ k q. h (suc k) (omega arith)))
+  up_to_same (suc n) f g h = ap (λ (a : A). a ∷ up_to n (λ k. g (suc k))) (h 0 (omega arith)) ∙
+      ap (λ (l : List A). f 0 ∷ l) (up_to_same n (λ k. f (suc k)) (λ k. g (suc k)) (λ k q. h (suc k) (omega arith)))
 
   -- one place anew
   pub up_to_set : (n : ℕ) (f g : ℕ → A) (r : ℕ) → r < n → ((k : ℕ) → k < n → (k ≡ r → ⊥) → g k ≡ f k) → up_to n g ≡ set (up_to n f) r (g r)

@@ -72,7 +72,8 @@ module _ {R : Type 0} (f : Form R) (x : Exact f) where
       let ld : length (drop (p * S) ws) ≡ length ws - p * S = length-drop (p * S) ws in
       let a : flat f.words (take p rs) ≡ take (p * S) ws = ap (flat f.words) (take_rows S f.read ws n p h) ∙ flat_rows p ws (omega arith) in
       let b : flat f.words (drop p rs) ≡ take (n * S - p * S) (drop (p * S) ws)
-      = ap (flat f.words) (drop_rows S f.read ws n p h) ∙ flat_rows (n - p) (drop (p * S) ws) (omega arith) ∙ (let k : (n - p) * S ≡ n * S - p * S = omega arith in ap (λ (j : ℕ). take j (drop (p * S) ws)) k) in
+      = ap (flat f.words) (drop_rows S f.read ws n p h) ∙ flat_rows (n - p) (drop (p * S) ws) (omega arith) ∙
+      (let k : (n - p) * S ≡ n * S - p * S = omega arith in ap (λ (j : ℕ). take j (drop (p * S) ws)) k) in
       let ll : length (take p rs ++ (e ∷ drop p rs)) ≡ n + 1 = length_inserted_rows rs e p (omega arith) ∙ (let z : suc (length rs) ≡ n + 1 = omega arith in z) in
       let back : n * S + length (f.words e) ≡ length (take p rs ++ (e ∷ drop p rs)) * S = rw (lw, ll) q1 in
       ap (λ (j : ℕ). take (p * S) ws ++ (f.words e ++ (take (n * S - p * S) (drop (p * S) ws) ++ drop j ws))) back

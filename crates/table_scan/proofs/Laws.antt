@@ -3,15 +3,14 @@ use mathlib.Core.Path.{◌≡◌, refl, sym, ap, ◌∙◌}
 use mathlib.Core.List.{List, [], ◌∷◌}
 use mathlib.Core.Bool.{Bool, true, false, ◌&&◌, false≢true}
 use Prim.Native.Nat.{ℕ, zero, suc, ◌+◌, ◌*◌, ◌≤◌, ◌<◌}
-use native.Mathlib.Nat.{add-mul, mul-le-mul_right, zero-mul, add-zero}
+use native.Mathlib.Nat.{add-mul, mul-le-mul_right}
 use native.Mathlib.Omega.{arith}
 use lib.Dec.{ltb, leb}
-use lib.ListN.{length, get_or, take, drop}
-use borrow.Author.Tests.{ltb-true, leb-true, lt-ltb, le-ltb}
+use lib.ListN.{length, get_or, take}
+use borrow.Author.Tests.{ltb-true, leb-true}
 use Rattle.table_rows.specs.Rows.{all_of}
 use Rattle.table_rows.specs.Lists.{up_to}
 use Rattle.table_rows.proofs.Rows.{length_rows}
-use Rattle.table_rows.proofs.Table.{row_at}
 use Rattle.table_rows.proofs.Lists.{length_up_to, get_d_up_to}
 use Rattle.table_rows.proofs.Scans.{pass_more, pass_stop, pass_all, pass_at}
 use Rattle.table_delivery.specs.declared.Delivery.{Delivery}
@@ -29,33 +28,6 @@ use Rattle.table_log.proofs.Writing.{sound_log_lem}
 use Rattle.table_scan.specs.declared.Limits.{Limits}
 use Rattle.table_scan.specs.Scan.{near, near_entry, copies_near, log_near, ring_near, rings_near, column}
 
--- the ways out of `is_near`
-module _ (l : Limits) (d : Delivery) where
-  pub no_from : l.hosts ≤ d.from → false ≡ near l d
-  unfolding near
-  no_from h = sym (rw (le-ltb d.from l.hosts h))
-
-  pub no_to : d.from < l.hosts → l.hosts ≤ d.to → false ≡ near l d
-  unfolding near
-  no_to g h = sym (rw (lt-ltb d.from l.hosts g, le-ltb d.to l.hosts h))
-
-  pub no_kind : d.from < l.hosts → d.to < l.hosts → l.kinds ≤ d.kind → false ≡ near l d
-  unfolding near
-  no_kind g h k = sym (rw (lt-ltb d.from l.hosts g, lt-ltb d.to l.hosts h, le-ltb d.kind l.kinds k))
-
-  pub by_class : d.from < l.hosts → d.to < l.hosts → d.kind < l.kinds → ltb d.class l.classes ≡ near l d
-  unfolding near
-  by_class g h k = sym (rw (lt-ltb d.from l.hosts g, lt-ltb d.to l.hosts h, lt-ltb d.kind l.kinds k))
-
-module _ (l : Limits) (e : Entry) where
-  pub no_class : l.classes ≤ e.class → false ≡ near_entry l e
-  unfolding near_entry
-  no_class h = sym (rw (le-ltb e.class l.classes h))
-
-  pub by_wire : e.class < l.classes → leb e.wire l.wire ≡ near_entry l e
-  unfolding near_entry
-  by_wire h = sym (rw (lt-ltb e.class l.classes h))
-
 -- ONE SCAN for every table: `at` gives the i-th of n rows
 module _ {R : Type 0} (q : R → Bool) (l : List R) (n : ℕ) (long : length l ≡ n) where
   abbrev pub Passed : ℕ → Type 0
@@ -71,9 +43,6 @@ module _ {R : Type 0} (q : R → Bool) (l : List R) (n : ℕ) (long : length l �
   ends i d h p = pass_all q d l i (omega arith) p
 
 -- the rows of each table
-pub copy_row : (ws : List ℕ) (n i : ℕ) (c : Copy) → i < n → c ≡ waiting.read (drop (i * waiting.width) ws) → get_or (waiting.copies ws n) i c ≡ c
-copy_row ws n i c h e = row_at waiting.form ws n i c h ∙ sym e
-
 pub copies_long : (ws : List ℕ) (n : ℕ) → length (waiting.copies ws n) ≡ n
 copies_long ws n = length_rows waiting.width waiting.read n ws
 
@@ -121,12 +90,6 @@ module _ (ws : List ℕ) (start stride n : ℕ) where
 
   pub column_row : (i at : ℕ) → i < n → at ≡ start + i * stride → get_or (column ws start stride n) i (get_or ws at 0) ≡ get_or ws at 0
   column_row i at h e = get_d_up_to n (λ k. get_or ws (start + k * stride) 0) i (get_or ws at 0) h ∙ ap (λ (k : ℕ). get_or ws k 0) (sym e)
-
-  pub column_start : start ≡ start + 0 * stride
-  column_start = sym (ap (λ (k : ℕ). start + k) (zero-mul stride) ∙ add-zero start)
-
-  pub column_next : (i at : ℕ) → at ≡ start + i * stride → at + stride ≡ start + (i + 1) * stride
-  column_next i at e = omega (arith, add-mul i 1 stride)
 
   pub column_in : (i at : ℕ) → i < n → at ≡ start + i * stride → 1 ≤ stride → start + n * stride ≤ length ws → at + stride ≤ length ws
   column_in i at h e s room = let u : (i + 1) * stride ≤ n * stride = mul-le-mul_right stride (omega arith) in omega (arith, add-mul i 1 stride)

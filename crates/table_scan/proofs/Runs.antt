@@ -6,12 +6,10 @@ use mathlib.Core.Bool.{Bool, true, false, ◌&&◌}
 use Prim.Native.Nat.{ℕ, zero, suc, ◌+◌, ◌*◌, ◌-◌, ◌≤◌, ◌<◌}
 use native.Mathlib.Nat.{add-zero}
 use native.Mathlib.Omega.{arith}
-use lib.ListN.{length, get_or, drop}
+use lib.ListN.{drop}
 use lib.Seq.{drop-drop}
 use Rattle.table_rows.specs.Rows.{all_of}
 use Rattle.table_rows.specs.Table.{rows_of}
-use Rattle.table_rows.proofs.Rows.{length_rows}
-use Rattle.table_rows.proofs.Table.{row_at}
 use Rattle.table_ring.specs.Ring.{slot_of, ring_from, slot_at, count_at, first_at}
 use Rattle.table_ring.proofs.Laws.{slot_is}
 use Rattle.table_delivery.specs.declared.Delivery.{Delivery}
@@ -26,13 +24,6 @@ all_both q (r ∷ a) b = ap (λ (x : Bool). q r && x) (all_both q a b) ∙ three
     three : (x y z : Bool) → (x && (y && z)) ≡ ((x && y) && z)
     three true y z = refl
     three false y z = refl
-
--- the rows of a run
-pub run_row : (ws : List ℕ) (b n i : ℕ) (d : Delivery) → i < n → d ≡ delivery.read (drop (b + i * delivery.width) ws) → get_or (rows_of delivery.form (drop b ws) n) i d ≡ d
-run_row ws b n i d h e = row_at delivery.form (drop b ws) n i d h ∙ ap delivery.read (drop-drop (i * delivery.width) b ws) ∙ sym e
-
-pub run_long : (ws : List ℕ) (b n : ℕ) → length (rows_of delivery.form (drop b ws) n) ≡ n
-run_long ws b n = length_rows delivery.width delivery.read n (drop b ws)
 
 module _ (m first : ℕ) (ws : List ℕ) where
   abbrev at : ℕ → Delivery
@@ -72,7 +63,8 @@ module _ (m first : ℕ) (ws : List ℕ) where
       ∙ ap (λ (s : ℕ). rows_of delivery.form (drop (records_at + s * delivery.width) ws) n) e
       ∙ sym (rows_on (first + k - m) n))
 
-  run_both : (k a b : ℕ) → ring_from (slot_at delivery.form m 0 records_at ws) m first k (a + b) ≡ ring_from (slot_at delivery.form m 0 records_at ws) m first k a ++ ring_from (slot_at delivery.form m 0 records_at ws) m first (k + a) b
+  run_both : (k a b : ℕ) → ring_from (slot_at delivery.form m 0 records_at ws) m first k (a + b) ≡ ring_from (slot_at delivery.form m 0 records_at ws) m first k a ++
+      ring_from (slot_at delivery.form m 0 records_at ws) m first (k + a) b
   run_both k zero b =
       let e : zero + b ≡ b = omega arith in
       ap (ring_from (slot_at delivery.form m 0 records_at ws) m first k) e
@@ -113,12 +105,15 @@ module _ (q : Delivery → Bool) (m : ℕ) (ws : List ℕ) where
   pub none_there : count_at 0 ws ≡ 0 → true ≡ all_of q (records_of m ws)
   none_there e = sym (ap (λ (n : ℕ). all_of q (ring_from (slot_at delivery.form m 0 records_at ws) m (first_at 0 ws) 0 n)) e)
 
-  pub in_one : (b : Bool) → first_at 0 ws + count_at 0 ws ≤ m → b ≡ all_of q (rows_of delivery.form (drop (records_at + first_at 0 ws * delivery.width) ws) (count_at 0 ws)) → b ≡ all_of q (records_of m ws)
+  pub in_one : (b : Bool) → first_at 0 ws + count_at 0 ws ≤ m →
+      b ≡ all_of q (rows_of delivery.form (drop (records_at + first_at 0 ws * delivery.width) ws) (count_at 0 ws)) → b ≡ all_of q (records_of m ws)
   in_one b h e = e ∙ ap (all_of q) (one_run m ws h)
 
   module _ (a : ℕ) (h : first_at 0 ws < m) (e : a ≡ m - first_at 0 ws) (more : a ≤ count_at 0 ws) where
-    both : (all_of q (rows_of delivery.form (drop (records_at + first_at 0 ws * delivery.width) ws) a) && all_of q (rows_of delivery.form (drop records_at ws) (count_at 0 ws - a))) ≡ all_of q (records_of m ws)
-    both = sym (all_both q (rows_of delivery.form (drop (records_at + first_at 0 ws * delivery.width) ws) a) (rows_of delivery.form (drop records_at ws) (count_at 0 ws - a))) ∙ ap (all_of q) (two_runs m ws a h e more)
+    both : (all_of q (rows_of delivery.form (drop (records_at + first_at 0 ws * delivery.width) ws) a) &&
+        all_of q (rows_of delivery.form (drop records_at ws) (count_at 0 ws - a))) ≡ all_of q (records_of m ws)
+    both = sym (all_both q (rows_of delivery.form (drop (records_at + first_at 0 ws * delivery.width) ws) a)
+        (rows_of delivery.form (drop records_at ws) (count_at 0 ws - a))) ∙ ap (all_of q) (two_runs m ws a h e more)
 
     pub not_ahead : (b : Bool) → b ≡ all_of q (rows_of delivery.form (drop (records_at + first_at 0 ws * delivery.width) ws) a) → b ≡ false → false ≡ all_of q (records_of m ws)
     not_ahead b is f = ap (λ (x : Bool). x && all_of q (rows_of delivery.form (drop records_at ws) (count_at 0 ws - a))) (sym f ∙ is) ∙ both

@@ -6,7 +6,6 @@ ghost use Rattle.table_rows.specs.Rows.{all_of};
 ghost use Rattle.table_rows.specs.Table.{rows_of};
 ghost use Rattle.table_delivery.specs.Delivery as delivery;
 ghost use Rattle.table_waiting.specs.Waiting.{width};
-ghost use Rattle.table_ring.specs.Ring.{most};
 ghost use Rattle.table_rings.specs.Rings.{head_width, span, Fits, SoundRing, entries};
 ghost use Rattle.table_log.specs.Log.{size_of, SoundLog, records_of};
 ghost use Rattle.table_scan.specs.Scan.{near, near_entry, copies_near, log_near, ring_near, rings_near, column_within};
@@ -33,7 +32,7 @@ impl Limits {
         d.from < self.hosts && d.to < self.hosts && d.kind < self.kinds && d.class < self.classes
     }
 
-    // Are a carried message's class and wire length?
+    // Are a carried message's class and wire length in range?
     #[tactic(auto, unfolding(crate::specs::Scan::near_entry))]
     fn admits_entry(self, e: Entry) -> bool
         ensures { result ≡ near_entry self e }
@@ -42,6 +41,7 @@ impl Limits {
     }
 }
 
+// `n * width ≤ length ws`: how many rows of a lent table are in use; callers have the count and the table, and no slice of the rows.
 // Are the first n waiting copies in range?
 #[tactic(auto, unfolding(crate::specs::Scan::copies_near))]
 pub fn copies_near(ws: &[u64], n: usize, l: Limits) -> bool
@@ -59,9 +59,10 @@ fn run_near(ws: &[u64], at: usize, n: usize, l: Limits) -> bool
     table_rows::all(&ws[at..], n, |d: Delivery| l.admits(d))
 }
 
+// `size_of capacity ≤ length ws`, `SoundLog`, here and below, are table_log's own: the log is lent anew at each call, so a type for them would ask both again where it is made, no plainer.
 // Are the records of a log in range? They stand in one run, or in two: from the first slot to the last, then from slot 0 on.
 fn records_near(ws: &[u64], capacity: usize, l: Limits) -> bool
-    requires { (capacity ≤ most) × (size_of capacity ≤ length ws.now) × (SoundLog capacity ws.now) }
+    requires { (size_of capacity ≤ length ws.now) × (SoundLog capacity ws.now) }
     ensures { result ≡ all_of (near l) (records_of capacity ws.now) }
 {
     let count = ws[0] as usize;
@@ -79,12 +80,13 @@ fn records_near(ws: &[u64], capacity: usize, l: Limits) -> bool
 
 // Are a log's count, first slot and records in range?
 pub fn log_near(ws: &[u64], capacity: usize, l: Limits) -> bool
-    requires { (capacity ≤ most) × (size_of capacity ≤ length ws.now) }
+    requires { size_of capacity ≤ length ws.now }
     ensures { result ≡ log_near l capacity ws.now }
 {
     table_log::is_sound(ws, capacity) && records_near(ws, capacity, l)
 }
 
+// `Fits rings r ws`, here and below, is table_rings' own: ring r's head and entries stand in the lent table.
 // Are ring r's entries in range?
 fn entries_near(ws: &[u64], rings: usize, r: usize, l: Limits) -> bool
     requires { (Fits rings r ws.now) × (SoundRing ws.now r) }
@@ -108,7 +110,7 @@ fn ring_near(ws: &[u64], rings: usize, r: usize, l: Limits) -> bool
     table_rings::is_sound(ws, rings, r) && entries_near(ws, rings, r, l)
 }
 
-// Are all rings?
+// Are all rings in range?
 pub fn rings_near(ws: &[u64], rings: usize, l: Limits) -> bool
     requires { rings * (head_width + span) ≤ length ws.now }
     ensures { result ≡ rings_near l rings ws.now }

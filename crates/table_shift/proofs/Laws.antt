@@ -5,7 +5,7 @@ use Prim.Native.Nat.{ℕ, suc, ◌+◌, ◌-◌, ◌≤◌, ◌<◌}
 use native.Mathlib.Nat.{add-zero}
 use native.Mathlib.Omega.{arith}
 use lib.ListN.{length, get_or, take, drop, set, length-take, length-append, length-drop, take-append-drop, get_or-append, length-set}
-use lib.Seq.{append_snoc, drop-cons, take-suc, set_at, get_or-take, get_or-drop, length-take-le, get_or-append-add, take-append-le, take-take, drop_at, take_at, take-add, drop-drop, set_split, take-suc-set, drop-set-lt}
+use lib.Seq.{append_snoc, drop-cons, take-suc, set_at, get_or-take, length-take-le, take-append-le, take-take, drop_at, take_at, take-add, drop-drop, set_split, take-suc-set, drop-set-lt}
 use Rattle.table_shift.specs.Shift.{opened, closed, put_words, inserted_words}
 
 -- nothing is moved yet
@@ -39,12 +39,6 @@ up_more l k z by h room =
     ∙ set_at (take (k + by) l) (get_or l (k + by) 0) t (get_or l k 0) (k + by) (length-take-le (k + by) l (omega arith))
     ∙ ap (λ (x : List ℕ). take (k + by) l ++ (x ++ drop (z + by) l)) (sym d)
 
-pub down_none : (l : List ℕ) (a by : ℕ) → l ≡ closed l a a by
-unfolding closed
-down_none l a by =
-    let e : a - a ≡ 0 = omega arith in
-    sym (ap (λ (m : ℕ). take (a - by) l ++ (take m (drop a l) ++ drop (a - by) l)) e ∙ take-append-drop (a - by) l)
-
 sum_closed : (a z by n : ℕ) → by ≤ a → a ≤ z → z ≤ n → a - by + (z - a + (n - (z - by))) ≡ n
 sum_closed a z by n h k q = omega arith
 
@@ -54,40 +48,6 @@ length_closed l a z by h k q =
     let la : length (take (a - by) l) ≡ a - by = length-take-le (a - by) l (omega arith) in
     let lm : length (take (z - a) (drop a l)) ≡ z - a = length-take-le (z - a) (drop a l) (rw length-drop (omega arith)) in
     rw (length-append, length-append, la, lm, length-drop) (sum_closed a z by (length l) h k q)
-
--- one word more is moved down
-pub down_more : (l : List ℕ) (a k by : ℕ) → by ≤ a → a ≤ k → k < length l
-    → set (closed l a k by) (k - by) (get_or (closed l a k by) k 0) ≡ closed l a (k + 1) by
-unfolding closed
-down_more l a k by h q r =
-    let inside : k - by < length l = omega arith in
-    let inside' : k - a < length (drop a l) = rw length-drop (omega arith) in
-    let front : List ℕ = take (a - by) l in
-    let moved : List ℕ = take (k - a) (drop a l) in
-    let kept : List ℕ = drop (k - by) l in
-    let rest : List ℕ = drop (suc (k - by)) l in
-    let x : ℕ = get_or l k 0 in
-    let lf : length front ≡ a - by = length-take-le (a - by) l (omega arith) in
-    let lm : length moved ≡ k - a = length-take-le (k - a) (drop a l) (rw length-drop (omega arith)) in
-    let lp : length (front ++ moved) ≡ k - by = omega (arith, length-append front moved) in
-    let at : k ≡ length (front ++ moved) + by = omega arith in
-    let back : k - by + by ≡ k = omega arith in
-    let v : get_or ((front ++ moved) ++ kept) k 0 ≡ x
-    = ap (λ (j : ℕ). get_or ((front ++ moved) ++ kept) j 0) at ∙ get_or-append-add (front ++ moved) kept by 0 ∙ get_or-drop (k - by) l by 0 ∙ ap (λ (j : ℕ). get_or l j 0) back in
-    let n1 : k + 1 - a ≡ suc (k - a) = omega arith in
-    let n2 : k + 1 - by ≡ suc (k - by) = omega arith in
-    let n3 : a + (k - a) ≡ k = omega arith in
-    let one : take (k + 1 - a) (drop a l) ≡ moved ++ (x ∷ [])
-    = ap (λ (j : ℕ). take j (drop a l)) n1 ∙ take-suc (drop a l) (k - a) 0 inside'
-    ∙ ap (λ (y : ℕ). moved ++ (y ∷ [])) (get_or-drop a l (k - a) 0 ∙ ap (λ (j : ℕ). get_or l j 0) n3) in
-    ap (λ (y : List ℕ). set y (k - by) (get_or y k 0)) (sym (append_assoc front moved kept))
-    ∙ ap (λ (y : ℕ). set ((front ++ moved) ++ kept) (k - by) y) v
-    ∙ ap (λ (y : List ℕ). set ((front ++ moved) ++ y) (k - by) x) (drop-cons l (k - by) 0 inside)
-    ∙ set_at (front ++ moved) (get_or l (k - by) 0) rest x (k - by) lp
-    ∙ append_assoc front moved (x ∷ rest)
-    ∙ ap (λ (y : List ℕ). front ++ y) (sym (append_snoc moved x rest))
-    ∙ ap (λ (y : List ℕ). front ++ (y ++ rest)) (sym one)
-    ∙ ap (λ (j : ℕ). front ++ (take (k + 1 - a) (drop a l) ++ drop j l)) (sym n2)
 
 -- what a move up and a store leave: the words between the others
 pub opened_put : (ws : List ℕ) (b z by : ℕ) (v : List ℕ) → length v ≡ by → b ≤ z → z + by ≤ length ws → put_words (opened ws b z by) b v ≡ inserted_words ws b z v

@@ -60,7 +60,8 @@ module _ (ws : List ℕ) (s : ℕ) (v : List ℕ) where
       let front : List ℕ = take s ws in
       let lf : length front ≡ s = length-take-le s ws room in
       let rest : List ℕ = v ++ drop (s + length v) ws in
-      let own : (tail : List ℕ) → take n (drop t (front ++ tail)) ≡ take n (drop t front) = λ tail. (let ld = length-drop t front in ap (take n) (drop-append-le t front tail (omega arith)) ∙ take-append-le n (drop t front) tail (omega arith)) in
+      let own : (tail : List ℕ) → take n (drop t (front ++ tail)) ≡ take n (drop t front) = λ tail.
+      (let ld = length-drop t front in ap (take n) (drop-append-le t front tail (omega arith)) ∙ take-append-le n (drop t front) tail (omega arith)) in
       own rest ∙ sym (own (drop s ws)) ∙ ap (λ (x : List ℕ). take n (drop t x)) (take-append-drop s ws)
 
   pub put_here : s + length v ≤ length ws → take (length v) (drop s (put_words ws s v)) ≡ v

@@ -115,7 +115,8 @@ passes_none : (c : Copy) (w : List Copy) → passes c w ≡ false → Each (λ (
 passes_none c [] h = tt
 passes_none c (y ∷ w) h = go (before c y) refl h (λ k. passes_none c w k)
   where
-    go : (b : Bool) → before c y ≡ b → (not b || passes c w) ≡ false → (passes c w ≡ false → Each (λ (x : Copy). before x c ≡ false) w) → (before y c ≡ false) × Each (λ (x : Copy). before x c ≡ false) w
+    go : (b : Bool) → before c y ≡ b → (not b || passes c w) ≡ false → (passes c w ≡ false → Each (λ (x : Copy). before x c ≡ false) w) → (before y c ≡ false) ×
+        Each (λ (x : Copy). before x c ≡ false) w
     go true p k f = (none_before y c (λ e. never_self c (earlier_trans c y c (before_earlier c y p) e)), f k)
     go false p k f = absurd (true≢false k)
 
@@ -216,7 +217,8 @@ module _ (until : ℕ) where
 
       go : (b : Bool) → on_time until x ≡ b → behind (on_time until) w ≡ keep late_one w → cond b (behind (on_time until) w) (x ∷ w) ≡ pick (not b) (x ∷ keep late_one w) (keep late_one w)
       go true e r = r
-      go false e r = ap (λ (l : List Copy). x ∷ l) (sym (keep_all late_one w (each_map (λ (y : Copy). before y x ≡ false) (λ (y : Copy). late_one y ≡ true) w (λ y k. ap not (late until x y e k)) h.0)))
+      go false e r = ap (λ (l : List Copy). x ∷ l)
+          (sym (keep_all late_one w (each_map (λ (y : Copy). before y x ≡ false) (λ (y : Copy). late_one y ≡ true) w (λ y k. ap not (late until x y e k)) h.0)))
 
 -- THE TABLE after `insert` and after `drop_front`: what it holds, and that it is in order again
 module _ (ws : List ℕ) (n : ℕ) where

@@ -218,6 +218,7 @@ fn links() {
     }
 }
 
+// Prints the values of every kind, to be held against outside answers.
 fn main() {
     let mut buf = [0u8; 65701];
     fill(&mut buf);

@@ -1,5 +1,5 @@
 use Rattle.std.proofs.Common.{arith}
-use Rattle.fault_decide.proofs.Laws.{begin, hit, missed, ended}
+use Rattle.fault_decide.proofs.Laws.{hit, missed, ended}
 use Rattle.fault_decide.proofs.decide.Goals as goal
 
 pub returns-then-row_drops : goal.returns-then-row_drops

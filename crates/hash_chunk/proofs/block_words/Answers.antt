@@ -1,7 +1,5 @@
 use Rattle.hash_chunk.proofs.Copying.{words_head, words_joined}
-use Rattle.math_parts.proofs.Parts.{empty_left}
-use Rattle.hash_chunk.specs.Chunk.{words_of}
-use mathlib.Core.Path.{ap, ◌∙◌}
+use mathlib.Core.Path.{◌∙◌}
 use Rattle.hash_chunk.proofs.block_words.Goals as goal
 
 pub returns-then-head-ge64 : goal.returns-then-head-ge64

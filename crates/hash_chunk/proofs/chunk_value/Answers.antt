@@ -1,10 +1,7 @@
 use native.Mathlib.Omega.{arith}
-use lib.ListN.{length}
-use Prim.Native.Nat.{◌-◌, ◌/◌}
-use mathlib.Core.List.{◌++◌}
 use mathlib.Core.Path.{refl, ◌∙◌}
 use Rattle.hash_compress.specs.Compress.{iv}
-use Rattle.hash_chunk.specs.Chunk.{blocks, chunk}
+use Rattle.hash_chunk.specs.Chunk.{chunk}
 use Rattle.hash_chunk.proofs.Laws.{blocks_two, blocks_end, shorter}
 use Rattle.hash_chunk.proofs.chunk_value.Goals as goal
 
@@ -17,8 +14,11 @@ loop-front-smaller c = omega (arith, shorter c.loop-front.front.now c.loop-front
 
 pub loop-front-preserved : goal.loop-front-preserved
 loop-front-preserved c = let l = c.loop-front in
-    let a = c.args in
-    (blocks_two l.h l.front.now l.rest.now a.t l.d a.e c.saturating_sub.result c.loop-front-test.true c.saturating_sub.ensures c.back-more.ensures c.back-left.ensures c.block_words.ensures c.compress-next.ensures ∙ l.invariant.0, omega (arith, shorter l.front.now l.rest.now c.saturating_sub.result c.saturating_sub.ensures c.back-more.ensures c.back-left.ensures))
+    let a = c.args in (
+      blocks_two l.h l.front.now l.rest.now a.t l.d a.e c.saturating_sub.result c.loop-front-test.true c.saturating_sub.ensures c.back-more.ensures
+          c.back-left.ensures c.block_words.ensures c.compress-next.ensures ∙ l.invariant.0,
+      omega (arith, shorter l.front.now l.rest.now c.saturating_sub.result c.saturating_sub.ensures c.back-more.ensures c.back-left.ensures),
+    )
 
 pub returns : goal.returns
 returns c = let l = c.loop-front in

@@ -24,7 +24,13 @@ returns-then-head-tail t c = let a = c.args in
 
 pub subtree-r-requires : goal.subtree-r-requires
 subtree-r-requires t c = let a = c.args in
-    omega (arith, c.requires, double a.k c.if-k-eq0.false, c.power-n.ensures, right_length (1024 * c.power-n.result) c.saturating_sub-m.result a.head.now a.tail.now c.saturating_sub-m.ensures c.back.ensures c.back-2.ensures)
+    omega (
+      arith,
+      c.requires,
+      double a.k c.if-k-eq0.false,
+      c.power-n.ensures,
+      right_length (1024 * c.power-n.result) c.saturating_sub-m.result a.head.now a.tail.now c.saturating_sub-m.ensures c.back.ensures c.back-2.ensures,
+    )
 
 pub returns : goal.returns
 returns t c = let a = c.args in

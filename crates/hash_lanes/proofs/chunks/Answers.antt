@@ -18,7 +18,8 @@ loop-i-preserved c = let a = c.args in
     let i = c.loop-i in record {
       start_or_0 = omega arith;
       under = λ l g. let b = times a.n l g in
-          under_next a.s.now (a.n * l) _ i.i i.d (lane8 i.h l) (lane8 c.step-next.result l) c.back.result.now (omega arith) (omega arith) c.back.ensures (i.invariant.under l g) (c.step-next.ensures l g);
+          under_next a.s.now (a.n * l) _ i.i i.d (lane8 i.h l) (lane8 c.step-next.result l) c.back.result.now (omega arith) (omega arith) c.back.ensures
+          (i.invariant.under l g) (c.step-next.ensures l g);
     }
 
 pub step-requires : goal.step-requires

@@ -12,9 +12,6 @@ price-link-requires c = let a = c.args in
     row_room a.c.now.key a.regions a.a (c.loop-b.b - a.a) c.requires.1 c.requires.0 (omega arith)
     (c.loop-b.invariant.cursor.count ∙ ap (λ n. row_count a.c.now.key a.a n (c.loop-b.b - a.a)) c.requires.2)
 
-pub put_pair-requires : goal.put_pair-requires
-put_pair-requires c = (omega arith, omega arith, omega arith)
-
 pub loop-b-preserved : goal.loop-b-preserved
 loop-b-preserved c = let a = c.args in
     let l = c.loop-b in

@@ -9,19 +9,19 @@ pub loop-i-init : goal.loop-i-init
 loop-i-init c = let a = c.args in (refl, omega arith, refl, copied_none a.capacity a.log.now a.out.now)
 
 pub oldest-d-requires : goal.oldest-d-requires
-oldest-d-requires c = (c.requires.0, c.requires.1, c.requires.3, omega arith)
+oldest-d-requires c = (c.requires.0, c.requires.2, omega arith)
 
 pub overflow_mul-i : goal.overflow_mul-i
-overflow_mul-i c = let n = c.requires.3.counted in let p = c.requires.2 in let l = c.loop-i.invariant.2 in omega arith
+overflow_mul-i c = let n = c.requires.2.counted in let p = c.requires.1 in let l = c.loop-i.invariant.2 in omega arith
 
 pub put-requires : goal.put-requires
-put-requires c = let n = c.requires.3.counted in let p = c.requires.2 in let l = c.loop-i.invariant.2 in omega arith
+put-requires c = let n = c.requires.2.counted in let p = c.requires.1 in let l = c.loop-i.invariant.2 in omega arith
 
 pub loop-i-preserved : goal.loop-i-preserved
 loop-i-preserved c = let a = c.args in
     let at = c.loop-i in
-    let n = c.requires.3.counted in
-    let p = c.requires.2 in (
+    let n = c.requires.2.counted in
+    let p = c.requires.1 in (
       at.invariant.0,
       omega arith,
       c.put.auto.ws ∙ at.invariant.2,

@@ -20,7 +20,6 @@ pub copy_out-requires : goal.copy_out-requires
 copy_out-requires c = let a = c.args in (
   c.requires.0,
   c.requires.1,
-  c.requires.2,
   sound_log_lem a.capacity a.log.now
       (sym c.is_sound.ensures ∙ c.if-not-is_sound.false),
 )

@@ -4,11 +4,11 @@ use Rattle.table_delivery.specs.Delivery as delivery
 use Rattle.table_log.proofs.oldest.Goals as goal
 
 pub slot-s-requires : goal.slot-s-requires
-slot-s-requires c = let s = c.requires.2 in
-    let k = c.requires.3 in
+slot-s-requires c = let s = c.requires.1 in
+    let k = c.requires.2 in
     let n = s.counted in
     let b = s.begun (omega arith) in
-    (b, omega arith, c.requires.0)
+    (b, omega arith, omega arith)
 
 pub returns : goal.returns
 returns c = let a = c.args in c.get.ensures ∙ ap (λ (j : ℕ). delivery.read (drop (records_at + j * delivery.width) a.log.now)) c.slot-s.ensures.is

@@ -12,8 +12,8 @@ next-p-requires c = let a = c.args in
     let l = c.add_tally.auto.log in
     let k = c.note_forced.auto.log in (
       omega arith,
-      c.requires.0,
-      ready a.capacity a.log.now a.d c.requires.1 s c.add_tally.new.log
+      omega arith,
+      ready a.capacity a.log.now a.d c.requires s c.add_tally.new.log
           c.note_forced.new.log c.add_tally.ensures c.note_forced.ensures,
     )
 

@@ -22,7 +22,8 @@ returns-then-ws-start c = let a = c.args in
     let w = a.ws.now in
     let i = c.loop-i.i in
     let at : ℕ = a.start + i * a.stride in
-    stops (λ (c : ℕ). leb c a.limit) (column w a.start a.stride a.n) a.n (column_long w a.start a.stride a.n) i (get_or w at 0) false (omega arith) (column_row w a.start a.stride a.n i at (omega arith) refl) (sym (lt-leb _ _ c.if-ws-start.true)) refl
+    stops (λ (c : ℕ). leb c a.limit) (column w a.start a.stride a.n) a.n (column_long w a.start a.stride a.n) i (get_or w at 0) false (omega arith)
+    (column_row w a.start a.stride a.n i at (omega arith) refl) (sym (lt-leb _ _ c.if-ws-start.true)) refl
 
 pub loop-i-preserved : goal.loop-i-preserved
 loop-i-preserved c = let a = c.args in
@@ -30,7 +31,8 @@ loop-i-preserved c = let a = c.args in
     let i = c.loop-i.i in
     let at : ℕ = a.start + i * a.stride in (
       omega arith,
-      goes_on (λ (c : ℕ). leb c a.limit) (column w a.start a.stride a.n) a.n (column_long w a.start a.stride a.n) i (get_or w at 0) true (omega arith) (column_row w a.start a.stride a.n i at (omega arith) refl) (sym (le-leb _ _ c.if-ws-start.false)) refl c.loop-i.invariant.1,
+      goes_on (λ (c : ℕ). leb c a.limit) (column w a.start a.stride a.n) a.n (column_long w a.start a.stride a.n) i (get_or w at 0) true (omega arith)
+          (column_row w a.start a.stride a.n i at (omega arith) refl) (sym (le-leb _ _ c.if-ws-start.false)) refl c.loop-i.invariant.1,
     )
 
 pub returns : goal.returns

@@ -5,7 +5,4 @@ use Prim.Native.Nat.{◌≤◌}
 use Rattle.table_shift.proofs.lift.Given as goal
 
 abbrev pub invariant-loop-k : goal.invariant-loop-k
-invariant-loop-k l = (l.k ≤ l.n) × (length l.ws ≡ length l.initial.ws) × (l.ws ≡ opened l.initial.ws l.k l.n l.by)
-
-abbrev pub decreases-loop-k : goal.decreases-loop-k
-decreases-loop-k l = l.k
+invariant-loop-k g l = (l.k ≤ l.n) × (length l.ws ≡ length l.initial.ws) × (l.ws ≡ opened l.initial.ws l.k l.n g.row.BY)

@@ -14,9 +14,8 @@ returns-then-not-drain_fits c = refused _ _ _ _ _ c.drain_fits.ensures (ap not c
 
 pub drain-requires : goal.drain-requires
 drain-requires c = let a = c.args in
-    drain_room a.log.now
-    a.capacity _
-    a.out.now c.drain_fits.ensures (ap not c.if-not-drain_fits.false)
+    let room = drain_room a.log.now a.capacity _ a.out.now c.drain_fits.ensures (ap not c.if-not-drain_fits.false) in
+    (room.1, room.2)
 
 pub returns : goal.returns
 returns c = let a = c.args in

@@ -16,7 +16,7 @@ get-d-requires c = (push_room c.args.log.now c.args.capacity _
 pub push-requires : goal.push-requires
 push-requires c = let a = c.args in
     (push_room a.log.now a.capacity _
-    a.row.now c.push_fits.ensures (ap not c.if-not-push_fits.false)).1
+    a.row.now c.push_fits.ensures (ap not c.if-not-push_fits.false)).1.1
 
 pub returns : goal.returns
 unfolding push_of

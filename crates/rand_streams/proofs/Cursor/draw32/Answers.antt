@@ -1,4 +1,4 @@
-use Rattle.std.proofs.Common.{arith, ◌∙◌}
+use Rattle.std.proofs.Common.{arith}
 use Rattle.rand_streams.proofs.Laws.{word_there}
 use Rattle.rand_streams.proofs.Cursor.draw32.Goals as goal
 

@@ -1,9 +1,5 @@
-use Rattle.rand_streams.specs.Link.{link_bytes}
-use Rattle.math_word.specs.Word.{le4, le8}
-use borrow.Author.Rules.{rules}
+use Rattle.rand_streams.proofs.Bytes.{link_made}
 use Rattle.rand_streams.proofs.link.link_bytes.Goals as goal
 
--- src/link.rt:7:1
-pub returns : goal.returns
-unfolding link_bytes le4 le8
-returns c = search rules
+pub returns-clause-value : goal.returns-clause-value
+returns-clause-value c = link_made _ _ _ c.to_le_bytes-3.ensures c.to_le_bytes.ensures c.to_le_bytes-2.ensures c.joined-ends.ensures c.joined-named.ensures c.joined.ensures

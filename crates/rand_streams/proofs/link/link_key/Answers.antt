@@ -1,4 +1,3 @@
-use native.Mathlib.Omega.{arith}
 use Rattle.rand_streams.specs.Link.{link_key}
 use Rattle.hash_digest.specs.Blake3.{hash}
 use mathlib.Core.Path.{ap, ◌∙◌}

@@ -1,4 +1,4 @@
-use Rattle.std.proofs.Common.{arith, refl, ap, ap₂, ◌∙◌}
+use Rattle.std.proofs.Common.{ap₂, ◌∙◌}
 use borrow.Author.Tests.{lt-ltb, le-ltb}
 use Rattle.rand_streams.specs.Streams.{step_of, word_pair}
 use Rattle.rand_streams.proofs.record.draw_at.Goals as goal
