@@ -37,8 +37,11 @@ pub record Asked (setup tills : List ℕ) (m : Outgoing) : Type 0 where
 abbrev pub fresh_at : (words : List ℕ) → Outgoing → ℕ → Bool
 fresh_at words m t = ltb (cell words (link m.from t)) most_words
 
+abbrev pub slot_at : (setup seen : List ℕ) (id t : ℕ) → Bool
+slot_at setup seen id t = found id (ids_of seen (ids_start (sizes_at setup) t) (cell seen t)) || ltb (cell seen t) (sizes_at setup).seen_slots
+
 abbrev pub free_at : (setup seen : List ℕ) → Outgoing → ℕ → Bool
-free_at setup seen m t = found m.id (ids_of seen (ids_start (sizes_at setup) t) (cell seen t)) || ltb (cell seen t) (sizes_at setup).seen_slots
+free_at setup seen m t = slot_at setup seen m.id t
 
 -- 8 to 11
 unfoldable pub tail_number : (setup net tills words seen : List ℕ) → Outgoing → ℕ

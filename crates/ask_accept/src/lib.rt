@@ -1,21 +1,20 @@
 // Accept's questions, in order: 1, 4 to 7; then, for a payload that opens, 8 to 11. All tables stay as they are.
 #![tactic(auto)]
 
-ghost use Rattle.std.specs.Prelude.{◌≡◌, true, cond, ◌<◌, ◌≤◌, length};
+ghost use Rattle.std.specs.Prelude.{◌≡◌, Bool, ℕ, ◌&&◌, ltb, ◌<◌, ◌≤◌, length};
 ghost use Rattle.ask_refusal.specs.Refusals.{asked};
 ghost use Rattle.table_rows.specs.Rows.{all_of};
-ghost use Rattle.spec_network.specs.Opening.{links, most_tills};
-ghost use Rattle.spec_network.specs.Tables.{sizes_at, setup_width, net_width};
+ghost use Rattle.spec_network.specs.Opening.{link, links, most_tills, most_words};
+ghost use Rattle.spec_network.specs.Tables.{cell, sizes_at, setup_width, net_width};
 ghost use Rattle.call_offer.specs.Needed.{SeenHeld};
-ghost use Rattle.call_offer.specs.Offering.{selects_at};
 ghost use Rattle.call_recipients.specs.Turning.{remaining};
-ghost use Rattle.ask_accept.specs.Asking.{accept_lent, scope_exists, argument_number, fresh_at, free_at, tail_number, Asked};
+ghost use Rattle.ask_accept.specs.Asking.{accept_lent, scope_exists, argument_number, slot_at, tail_number, Asked};
 
 use ask_refusal::Refusal;
 use call_offer::Outgoing;
 use call_recipients::FixedTables;
 
-// Question 1, of every table but the log.
+// Question 1, of every table but the log. Each is lent alone: accept writes six of them afterwards, so a struct would be made for this question and taken apart at once, no plainer.
 #[tactic(auto, unfolding(crate::specs::Asking::accept_lent))]
 pub fn lent(
     fixed: FixedTables,
@@ -48,13 +47,22 @@ pub fn lent(
 
 // Question 5, of a scope: global, or a shard that exists.
 fn scope_exists(setup: &[u64], scope: u64) -> bool
-    requires { length setup.now ≡ setup_width }
     ensures { result ≡ scope_exists setup.now scope }
 {
-    scope == ask_tables::GLOBAL || scope < setup[ask_tables::SHARDS]
+    scope == ask_tables::GLOBAL || scope < ask_tables::cell(setup, ask_tables::SHARDS)
+}
+
+// Question 5, of type, class and scope.
+fn in_range(setup: &[u64], kind: u64, class: u64, scope: u64) -> bool
+    ensures { result ≡ (ltb kind (sizes_at setup.now).types && ltb «class» (sizes_at setup.now).classes && scope_exists setup.now scope) }
+{
+    kind < ask_tables::cell(setup, ask_tables::TYPES)
+        && class < ask_tables::cell(setup, ask_tables::CLASSES)
+        && scope_exists(setup, scope)
 }
 
 // Questions 4, 5, 6 and 7.
+#[tactic(auto, unfolding(crate::specs::Asking::argument_number))]
 pub fn arguments(
     setup: &[u64],
     from: u64,
@@ -64,19 +72,12 @@ pub fn arguments(
     wire: u64,
     at: u64,
 ) -> Result<(), Refusal>
-    requires { length setup.now ≡ setup_width }
     ensures { asked result ≡ argument_number setup.now «from» kind «class» scope wire at 0 }
 {
-    if setup[ask_tables::TILLS] <= from {
+    if ask_tables::cell(setup, ask_tables::TILLS) <= from {
         return Err(Refusal::Till);
     }
-    if setup[ask_tables::TYPES] <= kind {
-        return Err(Refusal::Range);
-    }
-    if setup[ask_tables::CLASSES] <= class {
-        return Err(Refusal::Range);
-    }
-    if !scope_exists(setup, scope) {
+    if !in_range(setup, kind, class, scope) {
         return Err(Refusal::Range);
     }
     if ask_tables::LONGEST_WIRE < wire {
@@ -88,51 +89,35 @@ pub fn arguments(
     Ok(())
 }
 
-// Question 8: has the link to the till, where it is selected, given fewer than 2^40 words?
-fn link_fresh(setup: &[u64], tills: &[u64], words: &[u64], m: Outgoing, to: usize) -> bool
-    requires { Asked setup.now tills.now m × (length words.now ≡ links) × (to < (sizes_at setup.now).tills) }
-    ensures { result ≡ cond (selects_at tills.now m.scope m.from to) (fresh_at words.now m to) true }
+// Question 8, of one till: has the link to it given fewer than 2^40 words?
+fn link_fresh(words: &[u64], from: u64, to: usize) -> bool
+    requires { («from» < most_tills) × (to < most_tills) × (length words.now ≡ links) }
+    ensures { result ≡ ltb (cell words.now (link «from» to)) most_words }
 {
-    !call_offer::selects(tills, m.scope, m.from, to)
-        || words[m.from as usize * ask_tables::LINK_ROW + to] < ask_tables::MOST_WORDS
+    words[from as usize * ask_tables::LINK_ROW + to] < ask_tables::MOST_WORDS
 }
 
-// And of every till.
-fn links_fresh(setup: &[u64], tills: &[u64], words: &[u64], m: Outgoing) -> bool
-    requires { Asked setup.now tills.now m × (length words.now ≡ links) }
-    ensures { result ≡ all_of (fresh_at words.now m) (remaining setup.now tills.now m 0) }
+// Question 10, of one till: has it this id, or a free seen slot?
+// `to < tills` is what call_offer's marked asks for the place of the till's ids; the loop over the tills gives it, and a till as a type would be made there anew for each.
+fn slot_free(setup: &[u64], seen: &[u64], id: u64, to: usize) -> bool
+    requires { (length setup.now ≡ setup_width) × SeenHeld (sizes_at setup.now) seen.now × (to < (sizes_at setup.now).tills) }
+    ensures { result ≡ slot_at setup.now seen.now id to }
+{
+    call_offer::marked(setup, seen, to, id) || seen[to] < setup[ask_tables::SEEN_SLOTS]
+}
+
+// Does every selected till pass the test?
+// `Asked setup tills m`, here and below: it joins three values that an accept is given; a struct of them would ask the same where it is made.
+fn each_selected<F: Fn(usize) -> bool>(setup: &[u64], tills: &[u64], m: Outgoing, test: F) -> bool
+    ghost passes: { ℕ → Bool }
+    requires asked { Asked setup.now tills.now m }
+    requires callable { (to : ℕ) → to < (sizes_at setup.now).tills → F.pre test to }
+    requires tells { (to : ℕ) (b : Bool) → to < (sizes_at setup.now).tills → F.post test to b → b ≡ passes to }
+    ensures { result ≡ all_of passes (remaining setup.now tills.now m 0) }
 {
     let n = setup[ask_tables::TILLS] as usize;
     for to in 0..n {
-        if !link_fresh(setup, tills, words, m, to) {
-            return false;
-        }
-    }
-    true
-}
-
-// Question 10: has the till, where it is selected and without this id, a free seen slot?
-fn slot_free(setup: &[u64], tills: &[u64], seen: &[u64], m: Outgoing, to: usize) -> bool
-    requires { Asked setup.now tills.now m × SeenHeld (sizes_at setup.now) seen.now × (to < (sizes_at setup.now).tills) }
-    ensures { result ≡ cond (selects_at tills.now m.scope m.from to) (free_at setup.now seen.now m to) true }
-{
-    if !call_offer::selects(tills, m.scope, m.from, to) {
-        return true;
-    }
-    if seen[to] < setup[ask_tables::SEEN_SLOTS] {
-        return true;
-    }
-    call_offer::marked(setup, seen, to, m.id)
-}
-
-// And of every till.
-fn slots_free(setup: &[u64], tills: &[u64], seen: &[u64], m: Outgoing) -> bool
-    requires { Asked setup.now tills.now m × SeenHeld (sizes_at setup.now) seen.now }
-    ensures { result ≡ all_of (free_at setup.now seen.now m) (remaining setup.now tills.now m 0) }
-{
-    let n = setup[ask_tables::TILLS] as usize;
-    for to in 0..n {
-        if !slot_free(setup, tills, seen, m, to) {
+        if call_offer::selects(tills, m.scope, m.from, to) && !test(to) {
             return false;
         }
     }
@@ -155,33 +140,39 @@ fn selected(setup: &[u64], tills: &[u64], m: Outgoing) -> u64
 
 // Questions 8, 9, 10 and 11.
 pub fn tail(
-    setup: &[u64],
+    fixed: FixedTables,
     net: &[u64],
-    tills: &[u64],
     words: &[u64],
     seen: &[u64],
     m: Outgoing,
 ) -> Result<(), Refusal>
-    requires { Asked setup.now tills.now m × (length words.now ≡ links) × SeenHeld (sizes_at setup.now) seen.now × (length net.now ≡ net_width) }
-    ensures { asked result ≡ tail_number setup.now net.now tills.now words.now seen.now m }
+    requires { Asked fixed.setup.now fixed.tills.now m × (length words.now ≡ links) × SeenHeld (sizes_at fixed.setup.now) seen.now × (length net.now ≡ net_width) }
+    ensures { asked result ≡ tail_number fixed.entry.setup.now net.now fixed.entry.tills.now words.now seen.now m }
 {
+    let FixedTables { setup, tills, .. } = fixed;
     if ask_tables::MOST_WORDS <= net[ask_tables::FAULT_WORDS] {
         return Err(Refusal::Words);
     }
-    if !links_fresh(setup, tills, words, m) {
+    let fresh = |to: usize|
+        requires { (m.from < most_tills) × (to < most_tills) × (length words.now ≡ links) }
+        ensures { result ≡ ltb (cell words.entry.now (link m.from to)) most_words }
+    { link_fresh(words, m.from, to) };
+    if !each_selected(setup, tills, m, fresh) {
         return Err(Refusal::Words);
     }
     let more = 3 * selected(setup, tills, m);
     if ask_tables::LAST_SEQUENCE - more < net[ask_tables::SEQUENCE] {
         return Err(Refusal::Sequences);
     }
-    if !slots_free(setup, tills, seen, m) {
+    let free = |to: usize|
+        requires { (length setup.now ≡ setup_width) × SeenHeld (sizes_at setup.now) seen.now × (to < (sizes_at setup.now).tills) }
+        ensures { result ≡ slot_at setup.entry.now seen.entry.now m.id to }
+    { slot_free(setup, seen, m.id, to) };
+    if !each_selected(setup, tills, m, free) {
         return Err(Refusal::SeenSlots);
     }
-    if setup[ask_tables::WAIT_SLOTS] < more {
-        return Err(Refusal::WaitingSlots);
-    }
-    if setup[ask_tables::WAIT_SLOTS] - more < net[ask_tables::WAITING] {
+    let slots = setup[ask_tables::WAIT_SLOTS];
+    if slots < more || slots - more < net[ask_tables::WAITING] {
         return Err(Refusal::WaitingSlots);
     }
     Ok(())

@@ -43,7 +43,7 @@ pub struct NetworkSizes {
     pub log: u64,
 }
 
-// A plan of regions, or none where `planned` is 0.
+// A plan of regions, or none where `planned` is 0: C gives it, so it is no Option.
 #[repr(C)]
 #[derive(Clone, Copy)]
 pub struct RegionPlan {
@@ -72,7 +72,7 @@ pub struct TableLengths {
 
 // The lengths as C gets them: the number of the question that refused the sizes, or 0; how many elements each table has that an opening wants lent.
 #[repr(C)]
-#[derive(Clone, Copy)]
+#[derive(Clone, Copy, Default)]
 pub struct TableSizes {
     pub number: u64,
     pub setup: u64,
@@ -90,7 +90,7 @@ pub struct TableSizes {
     pub log: u64,
 }
 
-// Question 3, of the latency.
+// Question 3, of the latency. One line of link_latency's question, as in ask_tables: a public function there for both would be no shorter. Fraction and rates: C gives f64 here, bits stand there.
 fn latency_in_range(ns: u64) -> bool
     ensures { result ≡ latency_admitted ns }
 {

@@ -10,6 +10,7 @@ use crate::{NetworkSizes, RegionPlan, TableLengths, TableSizes, lengths, limits}
 use ask_refusal::Refusal;
 
 // The prices: for each pair of regions a base and a rate, for each till its region. Without a plan there are none.
+// Its one caller has just asked question 2: the two bounds keep the products below 2^64, and a type for each number would be made for this call alone.
 fn prices_length(plan: RegionPlan, tills: u64) -> u64
     requires { (tills ≤ most_tills) × (plan.regions ≤ most_regions) }
     ensures { result ≡ prices_width (plan_of plan) tills }
@@ -47,19 +48,7 @@ impl From<Result<TableLengths, Refusal>> for TableSizes {
             },
             Err(refusal) => TableSizes {
                 number: refusal.number(),
-                setup: 0,
-                net: 0,
-                names: 0,
-                tills: 0,
-                words: 0,
-                keys: 0,
-                prices: 0,
-                seen: 0,
-                waiting: 0,
-                rings: 0,
-                rules: 0,
-                blocks: 0,
-                log: 0,
+                ..TableSizes::default()
             },
         }
     }

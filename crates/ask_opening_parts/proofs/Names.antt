@@ -12,6 +12,8 @@ use Rattle.table_rows.specs.Rows.{all_of}
 use Rattle.table_rows.specs.Lists.{up_to}
 use Rattle.table_rows.proofs.Lists.{length_up_to, get_d_up_to}
 use Rattle.table_rows.proofs.Scans.{pass_at}
+use Rattle.table_scan.specs.Scan.{column_within}
+use Rattle.ask_tables.proofs.Rows.{alike}
 use Rattle.spec_network.specs.Opening.{longest_name, longest_key}
 use Rattle.spec_network.specs.Lists.{every, below, same, some_of, unlike}
 use Rattle.spec_network.specs.Tables.{cell, text_at, shard_at}
@@ -45,6 +47,12 @@ module _ (names : List ℕ) (start stride n : ℕ) where
   pub text_met : (k : ℕ) (r b : Bool) → k < n → r ≡ some_of (same (text_at names (start + k * stride))) (drop (k + 1) (texts_from names start stride n)) → r ≡ b
       → some_of (same (get_or (texts_from names start stride n) k [])) (drop (k + 1) (texts_from names start stride n)) ≡ b
   text_met k r b h e w = ap (λ (t : List ℕ). some_of (same t) (drop (k + 1) (texts_from names start stride n))) (text_at_lem k h) ∙ sym e ∙ w
+
+-- the lengths are a column
+pub lengths : (names : List ℕ) (start stride n most : ℕ) → column_within names start stride n most ≡ all_of (λ k. leb (cell names (start + k * stride)) most) (below n)
+unfolding column_within
+lengths names start stride n most =
+    alike n (λ (x : ℕ). leb x most) (λ i. get_or names (start + i * stride) 0) (λ k. leb (cell names (start + k * stride)) most) (λ i. i) (λ i h. refl)
 
 -- texts whose lengths passed fit their places
 pub short_ones : (names : List ℕ) (start stride n most : ℕ) → most < stride → all_of (λ k. leb (cell names (start + k * stride)) most) (below n) ≡ true → Short names start stride n

@@ -1,20 +1,11 @@
 // Question 2, of the names: type names and shard keys within their lengths, and no two alike. A text is a length and so many bytes; the texts of a list start `stride` bytes apart.
-ghost use Rattle.std.specs.Prelude.{◌≡◌, [], ◌∷◌, ◌+◌, ◌*◌, ◌<◌, leb, drop};
-ghost use Rattle.table_rows.specs.Rows.{all_of};
-ghost use Rattle.spec_network.specs.Lists.{every, below, same, some_of, unlike};
-ghost use Rattle.spec_network.specs.Tables.{cell, text_at};
+ghost use Rattle.std.specs.Prelude.{◌≡◌, [], ◌∷◌, ◌+◌, ◌*◌, ◌<◌, drop};
+ghost use Rattle.spec_network.specs.Lists.{every, same, some_of, unlike};
+ghost use Rattle.spec_network.specs.Tables.{text_at};
 ghost use Rattle.spec_network.specs.Limits.{text_tests, unlike_tests};
 ghost use Rattle.ask_opening_parts.specs.Texts.{Laid, Short, NamesHeld, texts_from, Inside, counted};
 
 use math_parts::text;
-
-// Are the lengths of n texts at most `most`?
-fn lengths_fit(names: &[u8], start: usize, stride: usize, n: usize, most: u8) -> bool
-    requires { Laid names.now start stride n }
-    ensures { result ≡ all_of (λ k. leb (cell names.now (start + k * stride)) most) (below n) }
-{
-    ask_rows::lengths_within(names, start, stride, n, most)
-}
 
 // Are the texts at i and j alike?
 fn same_text(names: &[u8], i: usize, j: usize) -> bool
@@ -57,7 +48,7 @@ pub fn names_admitted(names: &[u8], types: u64, shards: u64) -> bool
 {
     let types = types as usize;
     let shards = shards as usize;
-    if !lengths_fit(
+    if !ask_rows::lengths_within(
         names,
         0,
         ask_rows::NAME_WIDTH,
@@ -66,7 +57,7 @@ pub fn names_admitted(names: &[u8], types: u64, shards: u64) -> bool
     ) {
         return false;
     }
-    if !lengths_fit(
+    if !ask_rows::lengths_within(
         names,
         ask_rows::KEYS,
         ask_rows::SHARD_KEY_WIDTH,

@@ -130,7 +130,8 @@ prices_say_lem setup prices h f =
     let r = at_least_one p.regions in
     let n = x.sizes.tills in
     let by : Bool → Bool
-    = λ b. eqb (length prices) (cond b 0 (pair_cells p + n)) && (cond b true (all_of (λ i. link_admitted (link_in prices i)) (below (r * r)) && all_of (λ t. ltb (region_at p prices t) r) (below n)) && true) in
+    = λ b. eqb (length prices) (cond b 0 (pair_cells p + n)) &&
+    (cond b true (all_of (λ i. link_admitted (link_in prices i)) (below (r * r)) && all_of (λ t. ltb (region_at p prices t) r) (below n)) && true) in
     let g : by false ≡ true = ap by (sym (ne_eqb p.planned 0 f)) ∙ h in
     let a = both _ _ g in
     let b = both _ _ (only _ a.1) in

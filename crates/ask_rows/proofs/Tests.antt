@@ -57,7 +57,8 @@ and_true false = refl
 pub log_near_lem : (z : Sizes) (m : ℕ) (ws : List ℕ) → log_near (limits_of z) m ws ≡ (log.sound_log m ws && (all_of (near_delivery z) (log.records_of m ws) && true))
 unfolding log_near
 log_near_lem z m ws =
-    ap (λ (b : Bool). log.sound_log m ws && b) (same_tests (near (limits_of z)) (near_delivery z) (log.records_of m ws) (near_delivery_lem z) ∙ and_true (all_of (near_delivery z) (log.records_of m ws)))
+    ap (λ (b : Bool). log.sound_log m ws && b) (same_tests (near (limits_of z)) (near_delivery z) (log.records_of m ws) (near_delivery_lem z) ∙
+    and_true (all_of (near_delivery z) (log.records_of m ws)))
 
 -- two tests of every row are two scans
 both_scans : {R : Type 0} (p q : R → Bool) (l : List R) → all_of (λ (r : R). p r && q r) l ≡ (all_of p l && (all_of q l && true))
@@ -89,11 +90,13 @@ module _ (ws : List ℕ) (start stride n limit : ℕ) where
   Within i = all_of fits (take i (column ws start stride n)) ≡ true
 
   pub byte_on : (i at : ℕ) → i < n → at ≡ start + i * stride → get_or ws at 0 ≤ limit → Within i → Within (i + 1)
-  byte_on i at h e t p = goes_on fits (column ws start stride n) n (column_long ws start stride n) i (get_or ws at 0) true h (column_row ws start stride n i at h e) (sym (le-leb (get_or ws at 0) limit t)) refl p
+  byte_on i at h e t p = goes_on fits (column ws start stride n) n (column_long ws start stride n) i (get_or ws at 0) true h (column_row ws start stride n i at h e)
+      (sym (le-leb (get_or ws at 0) limit t)) refl p
 
   pub byte_off : (i at : ℕ) → i < n → at ≡ start + i * stride → limit < get_or ws at 0 → false ≡ column_within ws start stride n limit
   unfolding column_within
-  byte_off i at h e t = stops fits (column ws start stride n) n (column_long ws start stride n) i (get_or ws at 0) false h (column_row ws start stride n i at h e) (sym (lt-leb (get_or ws at 0) limit t)) refl
+  byte_off i at h e t = stops fits (column ws start stride n) n (column_long ws start stride n) i (get_or ws at 0) false h (column_row ws start stride n i at h e)
+      (sym (lt-leb (get_or ws at 0) limit t)) refl
 
   pub bytes_done : (i : ℕ) → n ≤ i → Within i → true ≡ column_within ws start stride n limit
   unfolding column_within
@@ -157,7 +160,8 @@ module _ (setup prices : List ℕ) where
   tills = (sizes_at setup).tills
 
   abbrev rest : Bool
-  rest = all_of (λ i. link_admitted (link_in prices i)) (below (at_least_one plan.regions * at_least_one plan.regions)) && all_of (λ t. ltb (region_at plan prices t) (at_least_one plan.regions)) (below tills)
+  rest = all_of (λ i. link_admitted (link_in prices i)) (below (at_least_one plan.regions * at_least_one plan.regions)) &&
+      all_of (λ t. ltb (region_at plan prices t) (at_least_one plan.regions)) (below tills)
 
   abbrev by : Bool → Bool
   by b = eqb (length prices) (cond b 0 (pair_cells plan + tills)) && (cond b true rest && true)

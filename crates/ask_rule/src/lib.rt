@@ -8,9 +8,10 @@ ghost use Rattle.ask_rule.specs.Questions.{rules_lent, lent_number, place_number
 use ask_refusal::Refusal;
 use fault_rule::MessageContext;
 
-// The tiers are numbered from 0.
+// The tiers are numbered from 0: C and the cards give the number, so an enum would be made of it by this very comparison, no plainer.
 const LAST_TIER: u64 = 3;
 
+// Are the tables that a rule call is lent as they must be?
 #[tactic(auto, unfolding(crate::specs::Questions::rules_lent))]
 fn rules_lent(setup: &[u64], net: &[u64], rules: &[u64]) -> bool
     ensures { result ≡ rules_lent setup.now net.now rules.now }
@@ -20,7 +21,7 @@ fn rules_lent(setup: &[u64], net: &[u64], rules: &[u64]) -> bool
         && ask_tables::rules_held(rules)
 }
 
-// Question 1.
+// Question 1, as a refusal.
 pub fn lent(setup: &[u64], net: &[u64], rules: &[u64]) -> Result<(), Refusal>
     ensures { asked result ≡ lent_number setup.now net.now rules.now 0 }
 {

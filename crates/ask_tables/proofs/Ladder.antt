@@ -1,11 +1,8 @@
 -- Ladders of tests: the way down a chain of `&&` or of `cond`, and what a ladder that was passed says. Assumes nothing.
 use mathlib.Core.Path.{◌≡◌, refl, sym, ◌∙◌}
 use mathlib.Core.Bool.{Bool, true, false, cond, ◌&&◌, false≢true}
-use Prim.Native.Nat.{ℕ, suc, ◌≤◌, ◌<◌}
+use Prim.Native.Nat.{ℕ, suc}
 use native.Mathlib.Nat.{suc-ne-zero}
-use native.Mathlib.Omega.{arith}
-use lib.Dec.{leb}
-use borrow.Author.Tests.{le-leb, lt-leb}
 use Rattle.fault_rule.proofs.Laws as rule
 
 -- ---- Questions with numbers: `first_no` is a chain of `cond`
@@ -35,15 +32,6 @@ pub off : (a b : Bool) → a ≡ false → false ≡ (a && b)
 off true b e = absurd (false≢true (sym e))
 off false b e = refl
 
--- two tests that one call answers
-pub on_two : (a b r c : Bool) → (a && b) ≡ true → r ≡ c → r ≡ (a && (b && c))
-on_two true b r c e h = on b r c e h
-on_two false b r c e h = absurd (false≢true e)
-
-pub off_two : (a b c : Bool) → (a && b) ≡ false → false ≡ (a && (b && c))
-off_two true b c e = off b c e
-off_two false b c e = refl
-
 -- the last test
 pub last : (r a : Bool) → r ≡ a → r ≡ (a && true)
 last r true e = e
@@ -67,10 +55,3 @@ is_no r b e h = told r b false e h
 
 pub is_yes : (r b : Bool) → r ≡ b → r ≡ true → b ≡ true
 is_yes r b e h = told r b true e h
-
--- a bound k that a call gave as r
-pub over : (x k r : ℕ) → r ≡ k → r < x → leb x k ≡ false
-over x k r e h = lt-leb x k (omega arith)
-
-pub up_to : (x k r : ℕ) → r ≡ k → x ≤ r → leb x k ≡ true
-up_to x k r e h = le-leb x k (omega arith)

@@ -1,66 +1,24 @@
--- Tests of rows and columns: the turns of a scan over a table's rows, and tests that say the same. Assumes nothing.
+-- Tests of rows and columns that say the same, and numbers within limits. Assumes nothing.
 use mathlib.Core.Path.{◌≡◌, refl, sym, ap, ◌∙◌}
-use mathlib.Core.Bool.{Bool, true, false, ◌&&◌}
+use mathlib.Core.Bool.{Bool, true, ◌&&◌}
 use mathlib.Core.List.{List}
 use Prim.Native.Nat.{ℕ, zero, suc, ◌+◌, ◌*◌, ◌^◌, ◌%◌, ◌≤◌, ◌<◌}
-use native.Mathlib.Nat.{add-zero, one-mul, mul-le-mul}
+use native.Mathlib.Nat.{one-mul, mul-le-mul}
 use native.Mathlib.Omega.{arith}
-use lib.Dec.{ltb, leb}
-use lib.ListN.{length, get_or, take, drop}
+use lib.Dec.{leb}
+use lib.ListN.{get_or, drop}
 use lib.Pow.{pow_mono}
-use lib.Seq.{get_or-drop}
 use Rattle.table_rows.specs.Rows.{all_of}
 use Rattle.table_rows.specs.Lists.{up_to}
-use Rattle.table_rows.specs.Table.{Form, rows_of}
-use Rattle.table_rows.proofs.Rows.{length_rows}
-use Rattle.table_rows.proofs.Table.{row_at}
+use Rattle.table_rows.specs.Table.{rows_of}
 use Rattle.table_rows.proofs.Lists.{length_up_to, get_d_up_to}
 use Rattle.table_rows.proofs.Scans.{pass_at}
 use Rattle.table_scan.specs.Scan.{column_within}
-use Rattle.table_scan.proofs.Laws.{goes_on, stops, ends}
 use Rattle.spec_network.specs.Lists.{below}
-use Rattle.spec_network.specs.Live.{Till}
-use Rattle.spec_network.specs.Tables.{cell, till_form, block_form}
-use Rattle.ask_tables.specs.Held.{masks_below, ends_below}
-
--- ---- The rows of a table, one by one
-
-module _ {R : Type 0} (f : Form R) (q : R → Bool) (ws : List ℕ) (n : ℕ) where
-  abbrev pub Through : ℕ → Type 0
-  Through i = all_of q (take i (rows_of f ws n)) ≡ true
-
-  long : length (rows_of f ws n) ≡ n
-  long = length_rows f.width f.read n ws
-
-  -- row i passes
-  pub row_on : (i : ℕ) (b : Bool) → i < n → b ≡ q (f.read (drop (i * f.width) ws)) → b ≡ true → Through i → Through (i + 1)
-  row_on i b h e t p =
-      let r : R = f.read (drop (i * f.width) ws) in
-      goes_on q (rows_of f ws n) n long i r b h (row_at f ws n i r h) e t p
-
-  -- row i does not
-  pub row_off : (i : ℕ) (b : Bool) → i < n → b ≡ q (f.read (drop (i * f.width) ws)) → b ≡ false → false ≡ all_of q (rows_of f ws n)
-  row_off i b h e t =
-      let r : R = f.read (drop (i * f.width) ws) in
-      stops q (rows_of f ws n) n long i r b h (row_at f ws n i r h) e t
-
-  pub rows_done : (i : ℕ) → n ≤ i → Through i → true ≡ all_of q (rows_of f ws n)
-  rows_done i h p = ends q (rows_of f ws n) n long i (f.read ws) h p
-
--- ---- Tests of a row, by its words
-
-and_assoc : (a b c : Bool) → (a && b && c) ≡ (a && (b && c))
-and_assoc true b c = refl
-and_assoc false b c = refl
-
-pub till_row_lem : (types shards : ℕ) (ws : List ℕ) (b : ℕ)
-    → (ltb (get_or ws (b + 1) 0) types && (ltb (get_or ws (b + 2) 0) types && ltb (get_or ws (b + 3) 0) shards)) ≡ masks_below types shards (till_form.read (drop b ws))
-unfolding masks_below
-till_row_lem types shards ws b = sym (simp get_or-drop (and_assoc (ltb (get_or ws (b + 1) 0) types) (ltb (get_or ws (b + 2) 0) types) (ltb (get_or ws (b + 3) 0) shards)))
-
-pub block_row : (tills : ℕ) (ws : List ℕ) (b : ℕ) → (ltb (get_or ws b 0) tills && ltb (get_or ws (b + 1) 0) tills) ≡ ends_below tills (block_form.read (drop b ws))
-unfolding ends_below
-block_row tills ws b = sym (simp get_or-drop (ap (λ (k : ℕ). ltb (get_or ws k 0) tills && ltb (get_or ws (b + 1) 0) tills) (add-zero b)))
+use Rattle.spec_network.specs.Tables.{cell, till_form}
+use Rattle.ask_tables.specs.declared.Till.{Till}
+use Rattle.ask_tables.specs.TillRow.{till_width, form, live_till}
+use Rattle.ask_tables.specs.Held.{masks_below}
 
 -- ---- Tests that say the same of each place
 
@@ -95,5 +53,14 @@ power_is n h =
 pub product : (a b A B : ℕ) → a ≤ A → b ≤ B → a * b ≤ A * B
 product a b A B h k = mul-le-mul h k
 
-pub powers : (types shards a b : ℕ) (rs : List Till) → a ≡ 2 ^ types → b ≡ 2 ^ shards → all_of (masks_below a b) rs ≡ all_of (masks_below (2 ^ types) (2 ^ shards)) rs
-powers types shards a b rs p q = ap (λ (k : ℕ). all_of (masks_below k b) rs) p ∙ ap (λ (k : ℕ). all_of (masks_below (2 ^ types) k) rs) q
+-- the tills that the rows hold, with powers that a call worked out
+live_tills : (types shards : ℕ) (ws : List ℕ) (n : ℕ) → all_of (λ (t : Till). masks_below types shards (live_till t)) (rows_of form ws n) ≡ all_of (masks_below types shards) (rows_of till_form ws n)
+live_tills types shards ws zero = refl
+live_tills types shards ws (suc n) = ap (λ (b : Bool). masks_below types shards (till_form.read ws) && b) (live_tills types shards (drop till_width ws) n)
+
+pub powers : (types shards a b : ℕ) (ws : List ℕ) (n : ℕ) → a ≡ 2 ^ types → b ≡ 2 ^ shards
+    → all_of (λ (t : Till). masks_below a b (live_till t)) (rows_of form ws n) ≡ all_of (masks_below (2 ^ types) (2 ^ shards)) (rows_of till_form ws n)
+powers types shards a b ws n p q =
+    live_tills a b ws n
+    ∙ ap (λ (k : ℕ). all_of (masks_below k b) (rows_of till_form ws n)) p
+    ∙ ap (λ (k : ℕ). all_of (masks_below (2 ^ types) k) (rows_of till_form ws n)) q

@@ -7,7 +7,7 @@ ghost use Rattle.ask_till.specs.Questions.{tills_lent, seen_lent, both_lent, dow
 
 use ask_refusal::Refusal;
 
-// Question 1, by the tables that a call is lent.
+// Question 1, of a call that is lent `setup` and `tills`.
 #[tactic(auto, unfolding(crate::specs::Questions::tills_lent))]
 fn tills_lent(setup: &[u64], tills: &[u64]) -> bool
     ensures { result ≡ tills_lent setup.now tills.now }
@@ -15,6 +15,7 @@ fn tills_lent(setup: &[u64], tills: &[u64]) -> bool
     ask_tables::setup_held(setup) && ask_tables::tills_held(setup, tills)
 }
 
+// Question 1, of a call that is lent `setup` and `seen`.
 #[tactic(auto, unfolding(crate::specs::Questions::seen_lent))]
 fn seen_lent(setup: &[u64], seen: &[u64]) -> bool
     ensures { result ≡ seen_lent setup.now seen.now }
@@ -22,6 +23,7 @@ fn seen_lent(setup: &[u64], seen: &[u64]) -> bool
     ask_tables::setup_held(setup) && ask_tables::seen_held(setup, seen)
 }
 
+// Question 1, of a call that is lent the three.
 #[tactic(auto, unfolding(crate::specs::Questions::both_lent))]
 fn both_lent(setup: &[u64], tills: &[u64], seen: &[u64]) -> bool
     ensures { result ≡ both_lent setup.now tills.now seen.now }
@@ -31,7 +33,7 @@ fn both_lent(setup: &[u64], tills: &[u64], seen: &[u64]) -> bool
         && ask_tables::seen_held(setup, seen)
 }
 
-// Questions 1 and 4.
+// Questions 1 and 4, of a till that goes down.
 #[tactic(auto, unfolding(crate::specs::Questions::down_number))]
 pub fn down(setup: &[u64], tills: &[u64], seen: &[u64], t: u64) -> Result<(), Refusal>
     ensures { asked result ≡ down_number setup.now tills.now seen.now t }
@@ -45,6 +47,7 @@ pub fn down(setup: &[u64], tills: &[u64], seen: &[u64], t: u64) -> Result<(), Re
     Ok(())
 }
 
+// Questions 1 and 4, of a till that is read.
 #[tactic(auto, unfolding(crate::specs::Questions::read_number))]
 pub fn read(setup: &[u64], tills: &[u64], t: u64) -> Result<(), Refusal>
     ensures { asked result ≡ read_number setup.now tills.now t }
@@ -58,7 +61,7 @@ pub fn read(setup: &[u64], tills: &[u64], t: u64) -> Result<(), Refusal>
     Ok(())
 }
 
-// Questions 1, 4 and 5.
+// Questions 1, 4 and 5, of a till that comes up with these shards.
 #[tactic(auto, unfolding(crate::specs::Questions::up_number))]
 pub fn up(setup: &[u64], tills: &[u64], t: u64, shards: u64) -> Result<(), Refusal>
     ensures { asked result ≡ up_number setup.now tills.now t shards }
@@ -75,6 +78,7 @@ pub fn up(setup: &[u64], tills: &[u64], t: u64, shards: u64) -> Result<(), Refus
     Ok(())
 }
 
+// Questions 1, 4 and 5, of the types that a till gossips and hosts from now on.
 #[tactic(auto, unfolding(crate::specs::Questions::handlers_number))]
 pub fn handlers(setup: &[u64], tills: &[u64], t: u64, gossip: u64, host: u64) -> Result<(), Refusal>
     ensures { asked result ≡ handlers_number setup.now tills.now t gossip host }

@@ -23,7 +23,7 @@ use Rattle.spec_network.specs.Tables.{cell, sizes_at, settings_at, fault_words_a
 use Rattle.spec_network.specs.Real.{key_width, region_at, pair_cells}
 use Rattle.spec_book.proofs.Fitting.{length_keep}
 use Rattle.ask_tables.specs.Held.{prices_held}
-use Rattle.ask_tables.proofs.Ladder.{both, only, under}
+use Rattle.ask_tables.proofs.Ladder.{both, only, under, is_yes}
 use Rattle.ask_tables.proofs.Passed.{PassedSetup, PassedNet, setup_says_lem, net_says_lem}
 use Rattle.ask_tables.proofs.PassedRows.{PassedTills, PassedSeen, PassedBlocks, words_say, rules_say, keys_say, tills_say_lem, seen_says_lem, blocks_say_lem}
 use Rattle.ask_rows.proofs.Passed.{PassedWaiting, PassedRings, PassedNames, waiting_says_lem, rings_say_lem, names_say_lem, prices_say_lem}
@@ -121,7 +121,8 @@ module _ (setup net names tills words keys prices seen waiting rings rules block
       links = λ e i h. (prices_say_lem setup prices L.prices_say (eqb-false _ _ e)).links i h;
     }
       where
-        go : (b : Bool) → eqb (settings_at setup).plan.planned 0 ≡ b → (t : ℕ) → t < (sizes_at setup).tills → region_at (settings_at setup).plan prices t < at_least_one (settings_at setup).plan.regions
+        go : (b : Bool) → eqb (settings_at setup).plan.planned 0 ≡ b → (t : ℕ) → t < (sizes_at setup).tills →
+            region_at (settings_at setup).plan prices t < at_least_one (settings_at setup).plan.regions
         go true e t h =
             let z : region_at (settings_at setup).plan prices t ≡ 0 = get_or-eq_default prices 0 (omega (arith, unplanned e)) in
             omega (arith, one_region)
@@ -150,7 +151,8 @@ module _ (setup net names tills words keys prices seen waiting rings rules block
             go true e = (L.rings_say.near r k none h (ltb-true k (count_of rings r) e)).wire
             go false e =
                 let long = entries_long (rings_of (sizes_at setup)) rings r in
-                subst (λ (e : Entry). e.wire ≤ longest_wire) (sym (get_or-eq_default (entries (rings_of (sizes_at setup)) rings r) none (omega (arith, ltb-false k (count_of rings r) e)))) (omega arith)
+                subst (λ (e : Entry). e.wire ≤ longest_wire)
+                (sym (get_or-eq_default (entries (rings_of (sizes_at setup)) rings r) none (omega (arith, ltb-false k (count_of rings r) e)))) (omega arith)
 
     module _ (m : Outgoing) (from : m.from < (sizes_at setup).tills) (scope : m.scope ≤ global) where
       pub asked_facts : Asked setup tills m
@@ -181,9 +183,16 @@ module _ (setup net names tills words keys prices seen waiting rings rules block
             decisions = omega (arith, L.setup_says.sizes.tills);
             fresh = λ t l k e. ltb-true _ _ (selected_at (λ u. selects_at tills m.scope m.from u) (fresh_at words m) (sizes_at setup).tills f.1 t k e);
             numbers = leb-true _ _ b.0;
-            free = λ t l k e n. ltb-true (cell seen t) (sizes_at setup).seen_slots (sym (ap (λ (x : Bool). x || ltb (cell seen t) (sizes_at setup).seen_slots) n) ∙ selected_at (λ u. selects_at tills m.scope m.from u) (free_at setup seen m) (sizes_at setup).tills c.0 t k e);
+            free = λ t l k e n. ltb-true (cell seen t) (sizes_at setup).seen_slots (sym (ap (λ (x : Bool). x || ltb (cell seen t) (sizes_at setup).seen_slots) n) ∙
+                selected_at (λ u. selects_at tills m.scope m.from u) (free_at setup seen m) (sizes_at setup).tills c.0 t k e);
             slots = leb-true _ _ d.0;
           }
+
+-- as the call meets it
+pub lent_in : {setup net names tills words keys prices seen waiting rings rules blocks : List ℕ} {b : Bool} →
+    b ≡ accept_lent setup net names tills words keys prices seen waiting rings rules blocks → b ≡ true
+    → Lent setup net names tills words keys prices seen waiting rings rules blocks
+lent_in e h = lent_says _ _ _ _ _ _ _ _ _ _ _ _ (is_yes _ _ e h)
 
 -- ---- The arguments
 

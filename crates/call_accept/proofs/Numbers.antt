@@ -63,7 +63,8 @@ all_same q a b zero f h = refl
 all_same q a b (suc k) f h = go (q (f 0)) (all_same q a b k (λ i. f (suc i)) (λ i l. h (suc i) (omega arith)))
   where
     go : (x : Bool) → all_of a (keep q (up_to k (λ i. f (suc i)))) ≡ all_of b (keep q (up_to k (λ i. f (suc i))))
-        → all_of a (pick x (f 0 ∷ keep q (up_to k (λ i. f (suc i)))) (keep q (up_to k (λ i. f (suc i))))) ≡ all_of b (pick x (f 0 ∷ keep q (up_to k (λ i. f (suc i)))) (keep q (up_to k (λ i. f (suc i)))))
+        → all_of a (pick x (f 0 ∷ keep q (up_to k (λ i. f (suc i)))) (keep q (up_to k (λ i. f (suc i))))) ≡ all_of b
+        (pick x (f 0 ∷ keep q (up_to k (λ i. f (suc i)))) (keep q (up_to k (λ i. f (suc i)))))
     go true more = (λ j. h 0 (omega arith) j && more j)
     go false more = more
 
@@ -89,7 +90,8 @@ module _ (T : Tables) (e : Entry) (m : Outgoing) (from : m.from ≡ e.from) (sco
 
 -- ---- Question 1
 
-pub lent_is : (T : Tables) (e : Entry) (b : Bool) → question1 (sizes_at T.setup) T (accept e b) ≡ accept_lent T.setup T.net T.names T.tills T.words T.keys T.prices T.seen T.waiting T.rings T.rules T.blocks
+pub lent_is : (T : Tables) (e : Entry) (b : Bool) →
+    question1 (sizes_at T.setup) T (accept e b) ≡ accept_lent T.setup T.net T.names T.tills T.words T.keys T.prices T.seen T.waiting T.rings T.rules T.blocks
 unfolding accept_lent setup_held net_held names_held tills_held words_held keys_held prices_held seen_held waiting_held rings_held rules_held blocks_held
 lent_is T e b = refl
 
@@ -149,12 +151,16 @@ module _ (T : Tables) (e : Entry) (lends : accept_lent T.setup T.net T.names T.t
     number_late k t p z r =
         let c = chosen_is T e m from scope in
         let g = all_passed till near short soon k p z in
-        let free : all_of (λ (u : ℕ). marked (live (sizes_at T.setup) T) u (message_of (opening_at T) e).id || ltb (length (ids_at (live (sizes_at T.setup) T) u)) (sizes_at T.setup).seen_slots) (selected (opening_at T) (live (sizes_at T.setup) T) e.scope e.from)
+        let free : all_of (λ (u : ℕ). marked (live (sizes_at T.setup) T) u (message_of (opening_at T) e).id || ltb (length (ids_at (live (sizes_at T.setup) T) u))
+        (sizes_at T.setup).seen_slots) (selected (opening_at T) (live (sizes_at T.setup) T) e.scope e.from)
         ≡ all_of (free_at T.setup T.seen m) (remaining T.setup T.tills m 0) =
-        all_same (λ u. receives (live (sizes_at T.setup) T) e.scope u && not (eqb u e.from)) (λ (u : ℕ). marked (live (sizes_at T.setup) T) u (message_of (opening_at T) e).id || ltb (length (ids_at (live (sizes_at T.setup) T) u)) (sizes_at T.setup).seen_slots) (free_at T.setup T.seen m) (sizes_at T.setup).tills (λ i. i) free_same
+        all_same (λ u. receives (live (sizes_at T.setup) T) e.scope u && not (eqb u e.from))
+        (λ (u : ℕ). marked (live (sizes_at T.setup) T) u (message_of (opening_at T) e).id || ltb (length (ids_at (live (sizes_at T.setup) T) u))
+        (sizes_at T.setup).seen_slots) (free_at T.setup T.seen m) (sizes_at T.setup).tills (λ i. i) free_same
         ∙ ap (all_of (free_at T.setup T.seen m)) c in
         let long : length (live (sizes_at T.setup) T).queue.waiting ≡ cell T.net waiting_at = length_rows queue.width queue.read (cell T.net waiting_at) T.waiting in
         r
-        ∙ sym (λ j. cond (ltb (cell T.net fault_words_at) most_words && all_of (λ (u : ℕ). ltb (cell T.words (link (sym from j) u)) most_words) (c j)) (cond (leb (cell T.net sequence_at + 3 * length (c j)) last_number) (cond (free j) (cond (leb (long j + 3 * length (c j)) (sizes_at T.setup).wait_slots) 0 11) 10) 9) 8)
+        ∙ sym (λ j. cond (ltb (cell T.net fault_words_at) most_words && all_of (λ (u : ℕ). ltb (cell T.words (link (sym from j) u)) most_words) (c j))
+        (cond (leb (cell T.net sequence_at + 3 * length (c j)) last_number) (cond (free j) (cond (leb (long j + 3 * length (c j)) (sizes_at T.setup).wait_slots) 0 11) 10) 9) 8)
         ∙ sym (λ j. ladder (g.0 j) (g.1 j) (g.2 j) (g.3 j) late)
         ∙ number_open T e true lends

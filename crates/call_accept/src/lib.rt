@@ -6,13 +6,13 @@ ghost use Rattle.spec_network.specs.Calls.{accept as accept_call};
 ghost use Rattle.call_accept.specs.Accepting.{entry_in, accepted_reply, DoesAccept};
 
 use ask_refusal::Refusal;
+pub use call_offer::FixedTables;
 use call_offer::Outgoing;
-pub use call_recipients::FixedTables;
 use call_schedule::Counts;
 
 // An accept as C gets it: the number of the question that refused the call, or 0, and how many recipients went under each of the five.
 #[repr(C)]
-#[derive(Clone, Copy)]
+#[derive(Clone, Copy, Default)]
 pub struct Accepted {
     pub number: u64,
     pub sent: u64,
@@ -25,7 +25,7 @@ pub struct Accepted {
 impl From<Result<Counts, Refusal>> for Accepted {
     ghost from_gives = { λ r a. a ≡ accepted_reply r };
 
-    // A refusal answers its number, and zeros.
+    // C gets a number, 0 where no question refused; a refusal answers zeros.
     fn from(outcome: Result<Counts, Refusal>) -> Accepted {
         match outcome {
             Ok(counts) => Accepted {
@@ -38,11 +38,7 @@ impl From<Result<Counts, Refusal>> for Accepted {
             },
             Err(refusal) => Accepted {
                 number: refusal.number(),
-                sent: 0,
-                deduplicated: 0,
-                partition: 0,
-                loss: 0,
-                fault: 0,
+                ..Accepted::default()
             },
         }
     }
@@ -61,6 +57,7 @@ pub struct Entry<'a> {
 }
 
 // A message goes out to its recipients. A payload that does not open changes nothing.
+// The written tables stay parameters: `call_offer::FixedTables` says why.
 pub fn accept(
     fixed: FixedTables,
     net: &mut [u64],
@@ -74,39 +71,29 @@ pub fn accept(
     opens: bool,
 ) -> Result<Counts, Refusal>
     ensures { DoesAccept
-        fixed.entry.setup.now net.old names.now fixed.entry.tills.now words.old fixed.entry.keys.now
-        fixed.entry.prices.now seen.old waiting.old rings.old rules.old fixed.entry.blocks.now
+        fixed.entry.setup.now net.old names.now fixed.entry.tills.now words.old fixed.entry.keys.now fixed.entry.prices.now seen.old waiting.old rings.old rules.old fixed.entry.blocks.now
         net.new words.new seen.new waiting.new rings.new rules.new
         (accept_call (entry_in given.entry) opens) (accepted_reply result) }
 {
     if !ask_accept::lent(fixed, net, names, words, seen, waiting, rings, rules) {
         return Err(Refusal::Tables);
     }
-    let Entry {
-        wire,
-        from,
-        at,
-        kind,
-        class,
-        scope,
-        tag,
-    } = given;
-    let length = wire.len() as u64;
-    ask_accept::arguments(fixed.setup, from, kind, class, scope, length, at)?;
+    let setup = fixed.setup;
+    let (from, at, wire) = (given.from, given.at, given.wire.len() as u64);
+    ask_accept::arguments(setup, from, given.kind, given.class, given.scope, wire, at)?;
     if !opens {
-        return Ok(call_recipients::NONE);
+        return Ok(Counts::default());
     }
-    let id = call_message::id_of(names, kind as usize, scope as usize, wire);
     let m = Outgoing {
         from,
         now: at,
-        kind,
-        class,
-        scope,
-        wire: length,
-        id,
-        tag,
+        kind: given.kind,
+        class: given.class,
+        scope: given.scope,
+        wire,
+        id: call_message::id_of(names, given.kind as usize, given.scope as usize, given.wire),
+        tag: given.tag,
     };
-    ask_accept::tail(fixed.setup, net, fixed.tills, words, seen, m)?;
+    ask_accept::tail(fixed, net, words, seen, m)?;
     Ok(call_recipients::serve(fixed, net, words, seen, waiting, rings, rules, m))
 }

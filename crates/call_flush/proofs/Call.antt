@@ -21,7 +21,7 @@ use Rattle.spec_network.specs.Opening.{latest_now}
 use Rattle.spec_network.specs.Live.{Live}
 use Rattle.spec_network.specs.Flush.{stops, row_of, lands, rows_of, drops_of, handled, served}
 use Rattle.spec_network.specs.Calls.{moved_by}
-use Rattle.spec_network.specs.Tables.{Tables, cell, live, sizes_at, setup_width, net_width, waiting_at, blocks_at}
+use Rattle.spec_network.specs.Tables.{Tables, cell, live, sizes_at, net_width, waiting_at}
 use Rattle.spec_network.specs.Lending.{lend_flush}
 use Rattle.spec_network.specs.Writes.{Reply, row_width, row_words, output_of, call_reply}
 use Rattle.ask_tables.specs.Held.{setup_held, net_held, tills_held, seen_held, waiting_held, blocks_held, log_held}
@@ -36,7 +36,6 @@ use Rattle.ask_refusal.specs.declared.Refusal.{Refusal}
 use Rattle.ask_refusal.specs.Refusals.{number_of}
 use Rattle.ask_refusal.proofs.Laws.{number_not_0}
 use Rattle.call_flush_pass.specs.declared.Extents.{Extents}
-use Rattle.call_flush_pass.specs.declared.Moved.{Moved}
 use Rattle.call_flush_pass.specs.Pass.{flush_view, cleared_one, cleared_by, cleared, recorded, written, moved_of, Near}
 use Rattle.call_flush_pass.proofs.Passing.{length_map}
 use Rattle.call_flush.specs.declared.Flushed.{Flushed}
@@ -49,8 +48,13 @@ use Rattle.call_flush.proofs.Tables.{due_within, due_first, written_front, flush
 each_row : (P : Copy → Type 0) (k : ℕ) (w : List ℕ) → ((i : ℕ) → i < k → P (waiting.read (drop (i * waiting.width) w))) → Each P (copies w k)
 each_row P zero w h = tt
 each_row P (suc k) w h =
-    let one : (i : ℕ) → i * waiting.width + waiting.width ≡ suc i * waiting.width = λ i. omega (arith, suc-mul i waiting.width) in
-    (h 0 (omega arith), each_row P k (drop waiting.width w) (λ i l. subst (λ (x : List ℕ). P (waiting.read x)) (sym (drop-drop (i * waiting.width) waiting.width w ∙ (let e : waiting.width + i * waiting.width ≡ suc i * waiting.width = omega (arith, one i) in ap (λ (j : ℕ). drop j w) e))) (h (suc i) (omega arith))))
+    let one : (i : ℕ) → i * waiting.width + waiting.width ≡ suc i * waiting.width = λ i. omega (arith, suc-mul i waiting.width) in (
+      h 0 (omega arith),
+      each_row P k (drop waiting.width w)
+          (λ i l. subst (λ (x : List ℕ). P (waiting.read x))
+          (sym (drop-drop (i * waiting.width) waiting.width w ∙
+          (let e : waiting.width + i * waiting.width ≡ suc i * waiting.width = omega (arith, one i) in ap (λ (j : ℕ). drop j w) e))) (h (suc i) (omega arith))),
+    )
 
 -- ---- What the ladder says
 
@@ -101,7 +105,8 @@ module _ (s n t e w b l : List ℕ) where
     pub ready : (out : List ℕ) → k ≤ length out / row_width → Ready (extents_at s n) k n t e w b l out
     unfolding extents_at
     ready out room =
-        let N : cell n waiting_at * waiting.width ≤ length w = let m : cell n waiting_at * waiting.width ≤ (sizes_at s).wait_slots * waiting.width = mul-le-mul_right waiting.width h.net.waiting in omega (arith, m, h.waiting.size) in
+        let N : cell n waiting_at * waiting.width ≤ length w = let m : cell n waiting_at * waiting.width ≤ (sizes_at s).wait_slots * waiting.width =
+        mul-le-mul_right waiting.width h.net.waiting in omega (arith, m, h.waiting.size) in
         let K : k * waiting.width ≤ cell n waiting_at * waiting.width = mul-le-mul_right waiting.width within in
         let o : k * row_width ≤ length out / row_width * row_width = mul-le-mul_right row_width room in
         record {
@@ -266,12 +271,6 @@ module _ (s n t e w b l n' e' w' l' out out' : List ℕ) (now k : ℕ) (ek : k �
             ∙ sym (ap (λ (a : Reply). output_of a.answer ++ drop (length (output_of a.answer)) out) told ∙ (λ j. let new = flat row_words (rows_of L (one j)) in new ++ drop (length new) out)),
       )
 
--- ---- The small functions
-
-pub extents_made : (s n : List ℕ) → record { tills = cell s 0; slots = cell s 4; log = cell s 6; windows = cell n blocks_at } ≡ extents_at s n
-unfolding extents_at
-extents_made s n = refl
-
 -- ---- The ways through `flush`
 
 module _ (s n t e w b l : List ℕ) where
@@ -287,9 +286,6 @@ module _ (s n t e w b l : List ℕ) where
 
     pub net_long : length n ≡ net_width
     net_long = held.net.size
-
-    pub both_long : (length s ≡ setup_width) × (length n ≡ net_width)
-    both_long = (held.setup.size, held.net.size)
 
     pub rows_room : cell n waiting_at * waiting.width ≤ length w
     rows_room = let m : cell n waiting_at * waiting.width ≤ (sizes_at s).wait_slots * waiting.width = mul-le-mul_right waiting.width held.net.waiting in omega (arith, m, held.waiting.size)

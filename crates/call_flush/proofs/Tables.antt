@@ -40,7 +40,9 @@ clear_one z s c T h = go (stops s c) (is_original c)
     t = c.delivery.to
 
     go : (x y : Bool) → cond (x && y) (marks_t z T c.delivery.to (removed c.id (ids_at (live z T) c.delivery.to))) T
-        ≡ set_seen T (cond x (cond y (set (put_words T.seen (ids_start z c.delivery.to) (removed c.id (ids_of T.seen (ids_start z c.delivery.to) (cell T.seen c.delivery.to)))) c.delivery.to (length (removed c.id (ids_of T.seen (ids_start z c.delivery.to) (cell T.seen c.delivery.to))))) T.seen) T.seen)
+        ≡ set_seen T (cond x (cond y (set
+        (put_words T.seen (ids_start z c.delivery.to) (removed c.id (ids_of T.seen (ids_start z c.delivery.to) (cell T.seen c.delivery.to)))) c.delivery.to
+        (length (removed c.id (ids_of T.seen (ids_start z c.delivery.to) (cell T.seen c.delivery.to))))) T.seen) T.seen)
     go true true = ap (λ (ids : List ℕ). marks_t z T c.delivery.to (removed c.id ids)) (ids_at_lem z T c.delivery.to h)
     go true false = refl
     go false y = refl
@@ -96,13 +98,19 @@ module _ (z : Sizes) (T : Tables) (now rows k : ℕ) (e : k ≡ length (served n
   n = cell T.net waiting_at
 
   pub flush_tables : flush_t z T now rows
-      ≡ set_log (set_waiting (set_net (set_seen T (cleared z.tills z.seen_slots (live z T) (copies T.waiting k) T.seen)) (set T.net waiting_at (cell T.net waiting_at - k))) (over waiting.form (drop k (copies T.waiting (cell T.net waiting_at))) T.waiting))
+      ≡ set_log (set_waiting (set_net (set_seen T (cleared z.tills z.seen_slots (live z T) (copies T.waiting k) T.seen))
+      (set T.net waiting_at (cell T.net waiting_at - k))) (over waiting.form (drop k (copies T.waiting (cell T.net waiting_at))) T.waiting))
       (recorded z.log_slots (lands (live z T) (copies T.waiting k)) T.log)
   flush_tables =
       let N : ℕ = cell T.net waiting_at in
       let s = live z T in
       let first : served now rows s ≡ copies T.waiting k = due_first T.waiting N now k e in
-      (λ j. let T₁ = clear_t z s (first j) T in record_all_t z (set_waiting (set_net T₁ (set T₁.net waiting_at (length (later now rows s)))) (over waiting.form (later now rows s) T₁.waiting)) (lands s (first j)))
-      ∙ ap (λ (T₁ : Tables). record_all_t z (set_waiting (set_net T₁ (set T₁.net waiting_at (length (later now rows s)))) (over waiting.form (later now rows s) T₁.waiting)) (lands s (copies T.waiting k))) (clears z s (copies T.waiting k) T near)
-      ∙ (λ j. record_all_t z (set_waiting (set_net (set_seen T (cleared z.tills z.seen_slots s (copies T.waiting k) T.seen)) (set T.net waiting_at (later_count T.waiting N now k e j))) (over waiting.form (later_rest T.waiting N now k e j) T.waiting)) (lands s (copies T.waiting k)))
+      (λ j. let T₁ = clear_t z s (first j) T in record_all_t z
+      (set_waiting (set_net T₁ (set T₁.net waiting_at (length (later now rows s)))) (over waiting.form (later now rows s) T₁.waiting)) (lands s (first j)))
+      ∙ ap (λ (T₁ : Tables). record_all_t z
+      (set_waiting (set_net T₁ (set T₁.net waiting_at (length (later now rows s)))) (over waiting.form (later now rows s) T₁.waiting))
+      (lands s (copies T.waiting k))) (clears z s (copies T.waiting k) T near)
+      ∙ (λ j. record_all_t z (set_waiting
+      (set_net (set_seen T (cleared z.tills z.seen_slots s (copies T.waiting k) T.seen)) (set T.net waiting_at (later_count T.waiting N now k e j)))
+      (over waiting.form (later_rest T.waiting N now k e j) T.waiting)) (lands s (copies T.waiting k)))
       ∙ records z (lands s (copies T.waiting k)) _

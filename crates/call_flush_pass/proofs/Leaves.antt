@@ -24,30 +24,30 @@ use Rattle.spec_network.specs.Live.{Till, down_till}
 use Rattle.spec_network.specs.Flush.{stops}
 use Rattle.spec_network.specs.Tables.{till_form}
 use Rattle.spec_network.specs.Writes.{row_width, row_words}
+use Rattle.ask_tables.specs.declared.Till as row
+use Rattle.ask_tables.specs.TillRow.{form, live_till}
 use Rattle.call_stopped.specs.Stopped.{up_at, stopped_by}
 use Rattle.call_flush_pass.specs.declared.Extents.{Extents}
 use Rattle.call_flush_pass.specs.declared.Taken.{Taken}
 use Rattle.call_flush_pass.specs.declared.Moved.{Moved}
-use Rattle.call_flush_pass.specs.Pass.{till_in, up_in, flush_view, taken_by, row_as, handled_by, dropped_more, landed_more}
+use Rattle.call_flush_pass.specs.Pass.{till_in, up_in, flush_view, taken_by, row_as, landed_more}
 
 -- ---- A till's cells
 
 module _ (n : ℕ) (tills : List ℕ) (t : ℕ) (h : t < n) where
-  row : till_in n tills t ≡ till_form.read (drop (t * till_form.width) tills)
-  row = row_at till_form tills n t down_till h
+  row_is : till_in n tills t ≡ till_form.read (drop (t * till_form.width) tills)
+  row_is = row_at till_form tills n t down_till h
 
   pub up_at_lem : not (eqb (get_or tills (t * till_form.width) 0) 0) ≡ up_in n tills t
   unfolding up_in
   up_at_lem =
       ap (λ (i : ℕ). not (eqb (get_or tills i 0) 0)) (sym (add-zero (t * till_form.width)))
       ∙ ap (λ (x : ℕ). not (eqb x 0)) (sym (get_or-drop (t * till_form.width) tills 0 0))
-      ∙ ap (λ (x : Till). not (eqb x.up 0)) (sym row)
+      ∙ ap (λ (x : Till). not (eqb x.up 0)) (sym row_is)
 
-  pub gossip_at : get_or tills (t * till_form.width + 1) 0 ≡ (till_in n tills t).gossip
-  gossip_at = sym (get_or-drop (t * till_form.width) tills 1 0) ∙ ap (λ (x : Till). x.gossip) (sym row)
-
-  pub host_at : get_or tills (t * till_form.width + 2) 0 ≡ (till_in n tills t).host
-  host_at = sym (get_or-drop (t * till_form.width) tills 2 0) ∙ ap (λ (x : Till). x.host) (sym row)
+  -- the row that the code reads holds the till
+  till_lem : (x : row.Till) → x ≡ form.read (drop (t * till_form.width) tills) → live_till x ≡ till_in n tills t
+  till_lem x e = ap live_till e ∙ sym row_is
 
 -- ---- Stopped: by an end that is down, or by a block
 
@@ -63,20 +63,25 @@ module _ (z : Extents) (tills blocks : List ℕ) (c : Copy) where
 
 -- ---- Handlers
 
-module _ (n : ℕ) (tills : List ℕ) (c : Copy) (h : c.delivery.to < n) (g : Bool) (eg : g ≡ has (get_or tills (c.delivery.to * till_form.width + 1) 0) c.delivery.kind) where
+module _ (n : ℕ) (tills : List ℕ) (c : Copy) (h : c.delivery.to < n)
+    (x : row.Till) (e : x ≡ form.read (drop (c.delivery.to * till_form.width) tills))
+    (g : Bool) (eg : g ≡ has x.gossip c.delivery.kind) where
+  till : live_till x ≡ till_in n tills c.delivery.to
+  till = till_lem n tills c.delivery.to h x e
+
   gossip : g ≡ (taken_by n tills c).gossip
   unfolding taken_by has
-  gossip = eg ∙ ap (λ (m : ℕ). has m c.delivery.kind) (gossip_at n tills c.delivery.to h)
+  gossip = eg ∙ ap (λ (y : Till). has y.gossip c.delivery.kind) till
 
   pub shard_taken : (c.delivery.scope ≡ global → ⊥) → record { gossip = g; host = false } ≡ taken_by n tills c
   unfolding taken_by has
   shard_taken p = λ j. record { gossip = gossip j; host = sym (ne_eqb c.delivery.scope global p) j && has (till_in n tills c.delivery.to).host c.delivery.kind }
 
-  pub global_taken : (k : Bool) → c.delivery.scope ≡ global → k ≡ has (get_or tills (c.delivery.to * till_form.width + 2) 0) c.delivery.kind → record { gossip = g; host = k } ≡ taken_by n tills c
+  pub global_taken : (k : Bool) → c.delivery.scope ≡ global → k ≡ has x.host c.delivery.kind → record { gossip = g; host = k } ≡ taken_by n tills c
   unfolding taken_by has
   global_taken k p ek =
-      let e : k ≡ has (till_in n tills c.delivery.to).host c.delivery.kind = ek ∙ ap (λ (m : ℕ). has m c.delivery.kind) (host_at n tills c.delivery.to h) in
-      (λ j. record { gossip = gossip j; host = e j })
+      let host : k ≡ has (till_in n tills c.delivery.to).host c.delivery.kind = ek ∙ ap (λ (y : Till). has y.host c.delivery.kind) till in
+      (λ j. record { gossip = gossip j; host = host j })
       ∙ (λ j. record { gossip = (taken_by n tills c).gossip; host = sym (eq-eqb c.delivery.scope global p) j && has (till_in n tills c.delivery.to).host c.delivery.kind })
 
 -- ---- A row's words

@@ -23,7 +23,31 @@ use Rattle.spec_network.specs.Flush.{Row, stops, row_of, handled, lands, rows_of
 use Rattle.spec_network.specs.Writes.{row_width, row_words}
 use Rattle.call_flush_pass.specs.declared.Extents.{Extents}
 use Rattle.call_flush_pass.specs.declared.Moved.{Moved}
-use Rattle.call_flush_pass.specs.Pass.{flush_view, taken_by, row_as, handled_by, cleared_one, cleared_by, logged_by, row_by, dropped_more, landed_more, counted_by, cleared, recorded, row_form, written, moved_of, Near, SeenRoom, Due, Landed, Turned, Passed}
+use Rattle.call_flush_pass.specs.declared.Taken.{Taken}
+use Rattle.call_flush_pass.specs.Pass.{
+  flush_view,
+  taken_by,
+  row_as,
+  handled_by,
+  cleared_one,
+  cleared_by,
+  logged_by,
+  row_by,
+  dropped_more,
+  landed_more,
+  counted_by,
+  cleared,
+  recorded,
+  row_form,
+  written,
+  moved_of,
+  Near,
+  SeenRoom,
+  Due,
+  Landed,
+  Turned,
+  Passed,
+}
 use Rattle.call_flush_pass.proofs.Seen.{cleared_room}
 
 -- ---- The output's rows
@@ -61,14 +85,16 @@ module _ (z : Extents) (tills blocks : List ℕ) (c : Copy) (m : Moved) where
   unfolding handled_by taken_by flush_view
   own_handled = refl
 
-  pub turn_landed : (ns ls ls' os os' : List ℕ) (r : Moved) → stops (flush_view z tills blocks) c ≡ false → Landed z (taken_by z.tills tills c) c m ls ls' os os' r
+  pub turn_landed : (ns ls ls' os os' : List ℕ) (r : Moved) (k : Taken) → stops (flush_view z tills blocks) c ≡ false → k ≡ taken_by z.tills tills c → Landed z k c m ls ls' os os' r
       → Turned z (flush_view z tills blocks) c m ns ns ls ls' os os' r
   unfolding cleared_by logged_by row_by counted_by
-  turn_landed ns ls ls' os os' r h l = record {
+  turn_landed ns ls ls' os os' r k h e l = record {
     seen = ap (λ (b : Bool). cond b (cleared_one z.tills z.slots c ns) ns) (sym h);
     log = l.log ∙ ap (λ (b : Bool). cond b ls (pushed z.log ls c.delivery)) (sym h);
-    out = l.out ∙ ap (λ (x : Row). put_words os (m.rows * row_width) (row_words x)) own_row ∙ ap (λ (b : Bool). cond b os (put_words os (m.rows * row_width) (row_words (row_of s c)))) (sym h);
-    counts = l.counts ∙ ap (λ (x : ℕ). landed_more x m) own_handled ∙ ap (λ (b : Bool). cond b (dropped_more m) (landed_more (bit (handled (row_of s c))) m)) (sym h);
+    out = l.out ∙ ap (λ (q : Taken). put_words os (m.rows * row_width) (row_words (row_as c q))) e ∙ ap (λ (x : Row). put_words os (m.rows * row_width) (row_words x)) own_row
+        ∙ ap (λ (b : Bool). cond b os (put_words os (m.rows * row_width) (row_words (row_of s c)))) (sym h);
+    counts = l.counts ∙ ap (λ (q : Taken). landed_more (handled_by q) m) e ∙ ap (λ (x : ℕ). landed_more x m) own_handled
+        ∙ ap (λ (b : Bool). cond b (dropped_more m) (landed_more (bit (handled (row_of s c))) m)) (sym h);
   }
 
 -- ---- One copy more behind those that are done
@@ -128,9 +154,11 @@ module _ (s : Live) (c : Copy) where
   written_snoc cs out room = go (stops s c) refl
     where
       go : (b : Bool) → stops s c ≡ b
-          → over row_form (rows_of s (cs ++ (c ∷ []))) out ≡ cond b (over row_form (rows_of s cs) out) (put_words (over row_form (rows_of s cs) out) (length (lands s cs) * row_width) (row_words (row_of s c)))
+          → over row_form (rows_of s (cs ++ (c ∷ []))) out ≡ cond b (over row_form (rows_of s cs) out)
+          (put_words (over row_form (rows_of s cs) out) (length (lands s cs) * row_width) (row_words (row_of s c)))
       go true h = ap (λ (l : List Copy). over row_form (map (row_of s) l) out) (dropped_lands cs h)
-      go false h = ap (λ (l : List Row). over row_form l out) (landed_rows cs h) ∙ sym (over_more row_form exact (rows_of s cs) out (length (lands s cs)) (row_of s c) (length_map (row_of s) (lands s cs)) room)
+      go false h = ap (λ (l : List Row). over row_form l out) (landed_rows cs h) ∙
+          sym (over_more row_form exact (rows_of s cs) out (length (lands s cs)) (row_of s c) (length_map (row_of s) (lands s cs)) room)
 
   count_snoc : {A : Type 0} (p : A → Bool) (l : List A) (a : A) → count p (l ++ (a ∷ [])) ≡ count p l + bit (p a)
   count_snoc p [] a = let e : bit (p a) + 0 ≡ 0 + bit (p a) = omega arith in e
@@ -141,14 +169,17 @@ module _ (s : Live) (c : Copy) where
   moved_snoc cs = go (stops s c) refl
     where
       go : (b : Bool) → stops s c ≡ b
-          → moved_of s (cs ++ (c ∷ [])) ≡ cond b (record { rows = length (lands s cs); delivered = count handled (rows_of s cs); dropped = drops_of s cs + 1 }) (record { rows = length (lands s cs) + 1; delivered = count handled (rows_of s cs) + bit (handled (row_of s c)); dropped = drops_of s cs })
+          → moved_of s (cs ++ (c ∷ [])) ≡ cond b (record { rows = length (lands s cs); delivered = count handled (rows_of s cs); dropped = drops_of s cs + 1 })
+          (record { rows = length (lands s cs) + 1; delivered = count handled (rows_of s cs) + bit (handled (row_of s c)); dropped = drops_of s cs })
       go true h =
           let d : drops_of s (cs ++ (c ∷ [])) ≡ drops_of s cs + 1 = count_snoc (stops s) cs c ∙ ap (λ (b : Bool). drops_of s cs + bit b) h in
           λ j. record { rows = length (dropped_lands cs h j); delivered = count handled (map (row_of s) (dropped_lands cs h j)); dropped = d j }
       go false h =
-          let d : drops_of s (cs ++ (c ∷ [])) ≡ drops_of s cs = count_snoc (stops s) cs c ∙ ap (λ (b : Bool). drops_of s cs + bit b) h ∙ (let z : drops_of s cs + 0 ≡ drops_of s cs = omega arith in z) in
+          let d : drops_of s (cs ++ (c ∷ [])) ≡ drops_of s cs = count_snoc (stops s) cs c ∙ ap (λ (b : Bool). drops_of s cs + bit b) h ∙
+          (let z : drops_of s cs + 0 ≡ drops_of s cs = omega arith in z) in
           let r : length (lands s (cs ++ (c ∷ []))) ≡ length (lands s cs) + 1 = ap length (landed_lands cs h) ∙ length-append (lands s cs) (c ∷ []) in
-          let v : count handled (rows_of s (cs ++ (c ∷ []))) ≡ count handled (rows_of s cs) + bit (handled (row_of s c)) = ap (count handled) (landed_rows cs h) ∙ count_snoc handled (rows_of s cs) (row_of s c) in
+          let v : count handled (rows_of s (cs ++ (c ∷ []))) ≡ count handled (rows_of s cs) + bit (handled (row_of s c)) = ap (count handled) (landed_rows cs h) ∙
+          count_snoc handled (rows_of s cs) (row_of s c) in
           λ j. record { rows = r j; delivered = v j; dropped = d j }
 
   at_most_one : (b : Bool) → bit b ≤ 1
@@ -160,7 +191,8 @@ module _ (s : Live) (c : Copy) where
   counted_within i m r e h = subst (λ (x : Moved). (x.rows ≤ i + 1) × (x.delivered ≤ i + 1) × (x.dropped ≤ i + 1)) (sym e) (go (stops s c))
     where
       choice : Bool → Moved
-      choice b = cond b (record { rows = m.rows; delivered = m.delivered; dropped = m.dropped + 1 }) (record { rows = m.rows + 1; delivered = m.delivered + bit (handled (row_of s c)); dropped = m.dropped })
+      choice b = cond b (record { rows = m.rows; delivered = m.delivered; dropped = m.dropped + 1 })
+          (record { rows = m.rows + 1; delivered = m.delivered + bit (handled (row_of s c)); dropped = m.dropped })
 
       go : (b : Bool) → ((choice b).rows ≤ i + 1) × ((choice b).delivered ≤ i + 1) × ((choice b).dropped ≤ i + 1)
       go true = (omega arith, omega arith, omega arith)
@@ -180,7 +212,16 @@ pub record Mid (z : Extents) (s : Live) (ws : List ℕ) (k : ℕ) (ns ls os : Li
 module _ (z : Extents) (s : Live) (ws : List ℕ) (k : ℕ) (ns ls os : List ℕ) where
   pub begin : SeenRoom z.tills z.slots ns → Mid z s ws k ns ls os 0 ns ls os (record { rows = 0; delivered = 0; dropped = 0 })
   unfolding cleared recorded written moved_of over
-  begin f = record { within = omega arith; passed = record { seen = refl; log = refl; out = refl; counts = refl }; room = f; seen = refl; log = refl; out = refl; counts = (omega arith, omega arith, omega arith) }
+  begin f = record {
+    within = omega arith;
+    passed = record { seen = refl; log = refl; out = refl; counts = refl };
+    room = f;
+    seen = refl;
+    log = refl;
+    out =
+        refl;
+    counts = (omega arith, omega arith, omega arith);
+  }
 
   by_room : (c : Copy) (seen : List ℕ) → SeenRoom z.tills z.slots seen → c.delivery.to < z.tills → SeenRoom z.tills z.slots (cleared_by z.tills z.slots s c seen)
   unfolding cleared_by

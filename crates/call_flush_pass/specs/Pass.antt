@@ -119,6 +119,19 @@ pub record LogRoom (places : ℕ) (log : List ℕ) : Type 0 where
   pub few : places ≤ most
   pub size : size_of places ≤ length log
 
+-- all of them, as a pass goes on
+pub record Rooms (z : Extents) (ts bs ns ls : List ℕ) : Type 0 where
+  pub read : Room z ts bs
+  pub seen : SeenRoom z.tills z.slots ns
+  pub log : LogRoom z.log ls
+
+-- room for one row more, and counts that can go up
+pub record Countable (m : Moved) (os : List ℕ) : Type 0 where
+  pub room : (m.rows + 1) * row_width ≤ length os
+  pub rows : m.rows < most
+  pub delivered : m.delivered < most
+  pub dropped : m.dropped < most
+
 -- k copies, each with room for its row
 pub record Due (z : Extents) (ws os : List ℕ) (k : ℕ) : Type 0 where
   pub few : k ≤ most

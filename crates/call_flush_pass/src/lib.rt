@@ -6,11 +6,10 @@ ghost use Rattle.table_shift.specs.Shift.{put_words};
 ghost use Rattle.table_waiting.specs.Waiting.{copies};
 ghost use Rattle.table_ring.specs.Ring.{most};
 ghost use Rattle.spec_network.specs.Lists.{bit};
-ghost use Rattle.spec_network.specs.Tables.{till_form};
-ghost use Rattle.spec_network.specs.Flush.{stops, row_of};
 ghost use Rattle.spec_network.specs.Writes.{row_width, row_words};
-ghost use Rattle.call_flush_pass.specs.Pass.{flush_view, taken_by, unmarked, cleared_one, dropped_more, handled_by, row_as, Room, Near, SeenRoom, LogRoom, Due, Turned, Landed, Passed};
+ghost use Rattle.call_flush_pass.specs.Pass.{flush_view, cleared_one, dropped_more, handled_by, row_as, Near, Rooms, Countable, SeenRoom, LogRoom, Due, Turned, Landed, Passed};
 
+use ask_tables::Till;
 use table_rows::Row;
 use table_waiting::Copy;
 
@@ -31,6 +30,15 @@ pub struct Extents {
     pub windows: usize,
 }
 
+// The tables that a flush goes by and leaves alone, and how much of each table counts. Those that it writes stay parameters, here and in `call_flush`:
+// a struct of them would be made anew, field by field, at each call that is lent two of them (`call_offer`): no plainer.
+#[derive(Clone, Copy)]
+pub struct FixedTables<'a> {
+    pub tills: &'a [u64],
+    pub blocks: &'a [u64],
+    pub extents: Extents,
+}
+
 // Whether a gossip and a host handler take a row.
 #[derive(Clone, Copy)]
 pub struct Taken {
@@ -46,38 +54,44 @@ pub struct Moved {
     pub dropped: usize,
 }
 
-// Blocks at the copy's own time, tills as they are now.
-fn is_stopped(tills: &[u64], blocks: &[u64], z: Extents, c: Copy) -> bool
-    requires { Room z tills.now blocks.now × Near z c }
-    ensures { result ≡ stops (flush_view z tills.now blocks.now) c }
-{
-    let d = c.delivery;
-    call_stopped::stopped(
-        tills,
-        blocks,
-        z.windows,
-        d.from as usize,
-        d.to as usize,
-        d.time,
-    )
-}
+impl FixedTables<'_> {
+    ghost use Rattle.call_flush_pass.specs.Pass.{Room, Near, flush_view, taken_by};
+    ghost use Rattle.spec_network.specs.Flush.{stops};
+    ghost use Rattle.std.specs.Prelude.{◌≡◌};
 
-// A host handler takes global entries only.
-fn handlers_of(tills: &[u64], n: usize, c: Copy) -> Taken
-    requires { (c.delivery.to < n) × (n * till_form.width ≤ length tills.now) × (c.delivery.kind < 64) }
-    ensures { result ≡ taken_by n tills.now c }
-{
-    let d = c.delivery;
-    let b = d.to as usize * ask_tables::TILL_WIDTH;
-    let gossip = fault_rule::has(tills[b + 1], d.kind);
-    if d.scope != ask_tables::GLOBAL {
-        return Taken {
-            gossip,
-            host: false,
-        };
+    // Blocks at the copy's own time, tills as they are now.
+    fn is_stopped(self, c: Copy) -> bool
+        requires { Room self.extents self.tills.now self.blocks.now × Near self.extents c }
+        ensures { result ≡ stops (flush_view self.entry.extents self.entry.tills.now self.entry.blocks.now) c }
+    {
+        let d = c.delivery;
+        call_stopped::stopped(
+            self.tills,
+            self.blocks,
+            self.extents.windows,
+            d.from as usize,
+            d.to as usize,
+            d.time,
+        )
     }
-    let host = fault_rule::has(tills[b + 2], d.kind);
-    Taken { gossip, host }
+
+    // A host handler takes global entries only.
+    fn handlers_of(self, c: Copy) -> Taken
+        requires { Room self.extents self.tills.now self.blocks.now × Near self.extents c }
+        ensures { result ≡ taken_by self.entry.extents.tills self.entry.tills.now c }
+    {
+        let d = c.delivery;
+        let till = Till::get(self.tills, d.to as usize * ask_tables::TILL_WIDTH);
+        let gossip = fault_rule::has(till.gossip, d.kind);
+        if d.scope != ask_tables::GLOBAL {
+            return Taken {
+                gossip,
+                host: false,
+            };
+        }
+        let host = fault_rule::has(till.host, d.kind);
+        Taken { gossip, host }
+    }
 }
 
 // A row's words, stored from b.
@@ -90,29 +104,22 @@ fn put_row(out: &mut [u64], b: usize, c: Copy, k: Taken)
     out[b + HOST] = u64::from(k.host);
 }
 
-// The mark (t, id) goes, and the till's count follows.
-fn unmark(seen: &mut [u64], z: Extents, t: u64, id: u64)
-    requires { (t < z.tills) × (SeenRoom z.tills z.slots seen.old) }
-    ensures { seen.new ≡ unmarked z.tills z.slots t id seen.old }
-{
-    let at = t as usize;
-    let count = seen[at] as usize;
-    let left = table_marks::remove(seen, z.tills + at * z.slots, count, id);
-    seen[at] = left as u64;
-}
-
-// A dropped original loses its mark.
-fn clear(seen: &mut [u64], z: Extents, c: Copy)
+// A dropped original loses its mark, and the till's count follows.
+fn clear_mark(seen: &mut [u64], z: Extents, c: Copy)
     requires { (c.delivery.to < z.tills) × (SeenRoom z.tills z.slots seen.old) }
     ensures { seen.new ≡ cleared_one z.tills z.slots c seen.old }
 {
     if c.original == 0 {
         return;
     }
-    let d = c.delivery;
-    unmark(seen, z, d.to, c.id);
+    let at = c.delivery.to as usize;
+    let count = seen[at] as usize;
+    // The sizes are at hand: `ask_tables::ids_start` reads them of `setup`, which a pass is not lent.
+    let left = table_marks::remove(seen, z.tills + at * z.slots, count, c.id);
+    seen[at] = left as u64;
 }
 
+// One drop more.
 #[tactic(auto, unfolding(crate::specs::Pass::dropped_more))]
 fn one_dropped(m: Moved) -> Moved
     requires { m.dropped < most }
@@ -133,11 +140,10 @@ fn is_handled(k: Taken) -> bool
 }
 
 // The copy's row behind the others, and its delivery into the log.
-fn land(tills: &[u64], log: &mut [u64], out: &mut [u64], z: Extents, c: Copy, m: Moved) -> Moved
-    requires { Near z c × (z.tills * till_form.width ≤ length tills.now) × (LogRoom z.log log.old) × ((m.rows + 1) * row_width ≤ length out.old) × (m.rows < most) × (m.delivered < most) }
-    ensures { Landed z (taken_by z.tills tills.now c) c m log.old log.new out.old out.new result }
+fn land(log: &mut [u64], out: &mut [u64], z: Extents, c: Copy, k: Taken, m: Moved) -> Moved
+    requires { LogRoom z.log log.old × Countable m out.old }
+    ensures { Landed z k c m log.old log.new out.old out.new result }
 {
-    let k = handlers_of(tills, z.tills, c);
     put_row(out, m.rows * ROW, c, k);
     let d = c.delivery;
     table_log::push(log, z.log, d);
@@ -150,38 +156,37 @@ fn land(tills: &[u64], log: &mut [u64], out: &mut [u64], z: Extents, c: Copy, m:
 
 // One due copy: stopped, it is dropped; else it lands.
 fn turn(
-    tills: &[u64],
-    blocks: &[u64],
+    fixed: FixedTables,
     seen: &mut [u64],
     log: &mut [u64],
     out: &mut [u64],
-    z: Extents,
     c: Copy,
     m: Moved,
 ) -> Moved
-    requires { Room z tills.now blocks.now × Near z c × (SeenRoom z.tills z.slots seen.old) × (LogRoom z.log log.old) × ((m.rows + 1) * row_width ≤ length out.old) × (m.rows < most) × (m.delivered < most) × (m.dropped < most) }
-    ensures { Turned z (flush_view z tills.now blocks.now) c m seen.old seen.new log.old log.new out.old out.new result }
+    requires { Rooms fixed.extents fixed.tills.now fixed.blocks.now seen.old log.old × Near fixed.extents c × Countable m out.old }
+    ensures { Turned fixed.entry.extents (flush_view fixed.entry.extents fixed.entry.tills.now fixed.entry.blocks.now) c m
+        seen.old seen.new log.old log.new out.old out.new result }
 {
-    if is_stopped(tills, blocks, z, c) {
-        clear(seen, z, c);
+    let z = fixed.extents;
+    if fixed.is_stopped(c) {
+        clear_mark(seen, z, c);
         return one_dropped(m);
     }
-    land(tills, log, out, z, c, m)
+    land(log, out, z, c, fixed.handlers_of(c), m)
 }
 
 // The first k copies, one after the other.
 pub fn pass(
-    tills: &[u64],
-    blocks: &[u64],
+    fixed: FixedTables,
     waiting: &[u64],
     seen: &mut [u64],
     log: &mut [u64],
     out: &mut [u64],
-    z: Extents,
     k: usize,
 ) -> Moved
-    requires { Room z tills.now blocks.now × (Due z waiting.now out.old k) × (SeenRoom z.tills z.slots seen.old) × (LogRoom z.log log.old) }
-    ensures { Passed z (flush_view z tills.now blocks.now) (copies waiting.now k) seen.old seen.new log.old log.new out.old out.new result }
+    requires { Rooms fixed.extents fixed.tills.now fixed.blocks.now seen.old log.old × Due fixed.extents waiting.now out.old k }
+    ensures { Passed fixed.entry.extents (flush_view fixed.entry.extents fixed.entry.tills.now fixed.entry.blocks.now) (copies waiting.now k)
+        seen.old seen.new log.old log.new out.old out.new result }
 {
     let mut m = Moved {
         rows: 0,
@@ -190,7 +195,7 @@ pub fn pass(
     };
     for i in 0..k {
         let c = Copy::get(waiting, i * table_waiting::WIDTH);
-        m = turn(tills, blocks, seen, log, out, z, c, m);
+        m = turn(fixed, seen, log, out, c, m);
     }
     m
 }

@@ -1,9 +1,10 @@
 -- Tables stored one behind the other.
 use mathlib.Core.Path.{◌≡◌, refl, sym, ap, ◌∙◌}
-use Prim.Native.Nat.{ℕ, zero, suc, ◌+◌, ◌-◌, ◌≤◌}
+use Prim.Native.Nat.{ℕ, zero, suc, ◌+◌}
 use native.Mathlib.Omega.{arith}
-use mathlib.Core.List.{List, [], ◌∷◌, ◌++◌, append_assoc, append-nil}
-use lib.ListN.{length, take, drop, length-append, length-drop, drop_of_length-le}
+use mathlib.Core.List.{List, [], ◌∷◌, ◌++◌, append_assoc}
+use lib.ListN.{length, take, drop, length-append}
+use borrow.Rule.Slice.PartMut.{put_mid}
 use Rattle.call_keeping.specs.Copied.{stored_at, five}
 
 take_exact : (a b : List ℕ) → take (length a) (a ++ b) ≡ a
@@ -14,12 +15,6 @@ pub drop_exact : (a b : List ℕ) → drop (length a) (a ++ b) ≡ b
 drop_exact [] b = refl
 drop_exact (x ∷ a) b = drop_exact a b
 
-take_whole : (n : ℕ) (a : List ℕ) → length a ≤ n → take n a ≡ a
-take_whole zero [] h = refl
-take_whole (suc n) [] h = refl
-take_whole zero (x ∷ a) h = absurd (omega arith)
-take_whole (suc n) (x ∷ a) h = ap (λ (l : List ℕ). x ∷ l) (take_whole n a (omega arith))
-
 drop-drop : (a b : ℕ) (m : List ℕ) → drop b (drop a m) ≡ drop (a + b) m
 drop-drop zero b m = let e : b ≡ 0 + b = omega arith in ap (λ (k : ℕ). drop k m) e
 drop-drop (suc a) b [] = drop_none b ∙ sym (drop_none (suc a + b))
@@ -29,23 +24,10 @@ drop-drop (suc a) b [] = drop_none b ∙ sym (drop_none (suc a + b))
     drop_none (suc k) = refl
 drop-drop (suc a) b (x ∷ m) = drop-drop a b m ∙ (let e : suc (a + b) ≡ suc a + b = omega arith in ap (λ (k : ℕ). drop k (x ∷ m)) e)
 
-drop_whole : (n : ℕ) (a : List ℕ) → length a ≤ n → drop n a ≡ []
-drop_whole n a h = drop_of_length-le a h
-
--- a table out of a memory
-pub fetched : (memory table : List ℕ) (at : ℕ) → take (length table) (drop at memory) ++ drop (length table) table ≡ take (length table) (drop at memory)
-fetched memory table at = ap (λ (l : List ℕ). take (length table) (drop at memory) ++ l) (drop_whole (length table) table (omega arith)) ∙ append-nil _
-
 -- a table into a part of a memory
-pub part_stored : (m t ys : List ℕ) (at : ℕ) → at + length t ≤ length m → ys ≡ take (length t) (drop 0 t) ++ drop (length t) (take (length m - at) (drop at m))
-    → take at m ++ (ys ++ drop (length m - at) (drop at m)) ≡ stored_at m at t
+pub part_stored : (m t v : List ℕ) (at k : ℕ) → v ≡ t → k ≡ length t → put_mid at k m v ≡ stored_at m at t
 unfolding stored_at
-part_stored m t ys at h e =
-    let l : length (drop at m) ≡ length m - at = length-drop at m in
-    let whole : take (length m - at) (drop at m) ≡ drop at m = take_whole (length m - at) (drop at m) (omega arith) in
-    let rest : drop (length m - at) (drop at m) ≡ [] = drop_whole (length m - at) (drop at m) (omega arith) in
-    let is : ys ≡ t ++ drop (length t) (drop at m) = e ∙ ap (λ (x : List ℕ). x ++ drop (length t) (take (length m - at) (drop at m))) (take_whole (length t) t (omega arith)) ∙ ap (λ (x : List ℕ). t ++ drop (length t) x) whole in
-    ap (λ (x : List ℕ). take at m ++ (ys ++ x)) rest ∙ ap (λ (x : List ℕ). take at m ++ x) (append-nil ys ∙ is)
+part_stored m t v at k e f = ap (λ (y : List ℕ). take at m ++ (y ++ drop k (drop at m))) e ∙ ap (λ (n : ℕ). take at m ++ (t ++ drop n (drop at m))) f
 
 -- one table more
 stored_more : (p x m : List ℕ) (at : ℕ) → at ≡ length p → stored_at (p ++ drop (length p) m) at x ≡ (p ++ x) ++ drop (length (p ++ x)) m
@@ -69,5 +51,6 @@ kept_five net tills words seen waiting m₀ m₁ m₂ m₃ m₄ m₅ a b c d e =
     let p₃ = c ∙ ap (λ (m : List ℕ). stored_at m (length net + length tills) words) p₂ ∙ stored_more (net ++ tills) words m₀ _ q₂ in
     let q₃ : length net + length tills + length words ≡ length ((net ++ tills) ++ words) = ap (λ (n : ℕ). n + length words) q₂ ∙ sym (length-append (net ++ tills) words) in
     let p₄ = d ∙ ap (λ (m : List ℕ). stored_at m (length net + length tills + length words) seen) p₃ ∙ stored_more ((net ++ tills) ++ words) seen m₀ _ q₃ in
-    let q₄ : length net + length tills + length words + length seen ≡ length (((net ++ tills) ++ words) ++ seen) = ap (λ (n : ℕ). n + length seen) q₃ ∙ sym (length-append ((net ++ tills) ++ words) seen) in
+    let q₄ : length net + length tills + length words + length seen ≡ length (((net ++ tills) ++ words) ++ seen) = ap (λ (n : ℕ). n + length seen) q₃ ∙
+    sym (length-append ((net ++ tills) ++ words) seen) in
     e ∙ ap (λ (m : List ℕ). stored_at m (length net + length tills + length words + length seen) waiting) p₄ ∙ stored_more (((net ++ tills) ++ words) ++ seen) waiting m₀ _ q₄

@@ -10,7 +10,7 @@ pub fn store(table: &[u64], memory: &mut [u64], at: usize)
     ensures { memory.new ≡ stored_at memory.old at table.now }
 {
     let n = table.len();
-    ask_tables::copy_front(table, 0, n, &mut memory[at..]);
+    memory[at..at + n].copy_from_slice(table);
 }
 
 // A table out of the memory, from word `at` on.
@@ -19,10 +19,10 @@ pub fn fetch(memory: &[u64], at: usize, table: &mut [u64])
     ensures { table.new ≡ take (length table.old) (drop at memory.now) }
 {
     let n = table.len();
-    ask_tables::copy_front(memory, at, n, table);
+    table.copy_from_slice(&memory[at..at + n]);
 }
 
-// The first five of the nine tables, at the memory's front.
+// The first five of the nine tables, at the memory's front. Each has a line of its own: a struct of them would be made for this one call and taken apart at once, no plainer.
 pub fn keep_first(
     net: &[u64],
     tills: &[u64],
@@ -47,7 +47,7 @@ pub fn keep_first(
     d + waiting.len()
 }
 
-// The first five of the nine tables, out of the memory.
+// The first five of the nine tables, out of the memory. Each is written by a line of its own: a struct of them would be made for this one call and taken apart at once, no plainer.
 pub fn return_first(
     memory: &[u64],
     net: &mut [u64],

@@ -25,7 +25,7 @@ pub struct Emptied {
 
 // A drain as C gets it: first the number of the question that refused the call, or 0.
 #[repr(C)]
-#[derive(Clone, Copy)]
+#[derive(Clone, Copy, Default)]
 pub struct Drained {
     pub number: u64,
     pub records: u64,
@@ -35,7 +35,7 @@ pub struct Drained {
 
 // Deliveries and bytes of a class, as C gets them.
 #[repr(C)]
-#[derive(Clone, Copy)]
+#[derive(Clone, Copy, Default)]
 pub struct Tallied {
     pub number: u64,
     pub deliveries: u64,
@@ -45,7 +45,7 @@ pub struct Tallied {
 impl From<Result<Emptied, Refusal>> for Drained {
     ghost from_gives = { λ r d. d ≡ drained_reply r };
 
-    // A refusal answers its number, and zeros.
+    // C gets a number, 0 where no question refused; a refusal answers zeros.
     fn from(outcome: Result<Emptied, Refusal>) -> Drained {
         match outcome {
             Ok(emptied) => {
@@ -59,9 +59,7 @@ impl From<Result<Emptied, Refusal>> for Drained {
             }
             Err(refusal) => Drained {
                 number: refusal.number(),
-                records: 0,
-                forced: 0,
-                tallies: [0; TALLY_CELLS],
+                ..Drained::default()
             },
         }
     }
@@ -70,7 +68,7 @@ impl From<Result<Emptied, Refusal>> for Drained {
 impl From<Result<Tally, Refusal>> for Tallied {
     ghost from_gives = { λ r t. t ≡ tallied_reply r };
 
-    // A refusal answers its number, and zeros.
+    // C gets a number, 0 where no question refused; a refusal answers zeros.
     fn from(outcome: Result<Tally, Refusal>) -> Tallied {
         match outcome {
             Ok(tally) => Tallied {
@@ -80,8 +78,7 @@ impl From<Result<Tally, Refusal>> for Tallied {
             },
             Err(refusal) => Tallied {
                 number: refusal.number(),
-                deliveries: 0,
-                bytes: 0,
+                ..Tallied::default()
             },
         }
     }
@@ -108,7 +105,7 @@ fn drain_refusal(setup: &[u64], log: &[u64], rows: usize) -> Result<(), Refusal>
     Ok(())
 }
 
-// Questions 1 and 5.
+// Questions 1 and 5. Like those of `ask_till` but for the tables that question 1 is asked of: one function would take that question as a closure.
 fn tally_refusal(setup: &[u64], log: &[u64], class: u64) -> Result<(), Refusal>
     ensures { asked result ≡ tally_number setup.now log.now «class» }
 {
@@ -121,7 +118,7 @@ fn tally_refusal(setup: &[u64], log: &[u64], class: u64) -> Result<(), Refusal>
     Ok(())
 }
 
-// Deliveries and bytes of each class, as the log holds them.
+// Deliveries and bytes of each class, as the log holds them. Of the log it asks what `table_log`'s own readings do.
 fn tallies(log: &[u64]) -> [u64; TALLY_CELLS]
     requires { records_at ≤ length log.now }
     ensures { result ≡ tally_cells (tallies_of log.now) }

@@ -35,7 +35,8 @@ step d p s at e h = take-paste d at s (length s) (omega arith) (le_refl (length 
 
 module _ (buf names : List ℕ) (at scope : ℕ) where
   pub scope_global : scope ≡ global → at < length buf → take (at + 1) (set buf at 0) ≡ take at buf ++ scope_bytes names scope
-  scope_global e h = ap (λ (k : ℕ). take k (set buf at 0)) (add-one at) ∙ take-suc-set buf at 0 h ∙ ap (λ (b : _). take at buf ++ cond b (0 ∷ []) (1 ∷ text_at names (shard_at scope))) (sym (ap (λ (k : ℕ). eqb k global) e))
+  scope_global e h = ap (λ (k : ℕ). take k (set buf at 0)) (add-one at) ∙ take-suc-set buf at 0 h ∙
+      ap (λ (b : _). take at buf ++ cond b (0 ∷ []) (1 ∷ text_at names (shard_at scope))) (sym (ap (λ (k : ℕ). eqb k global) e))
 
   pub scope_shard : eqb scope global ≡ false → (key d : List ℕ) → key ≡ text_at names (shard_at scope) → at + 1 + length key ≤ length buf
       → d ≡ paste (set buf at 1) (at + 1) key (length key) → take (at + 1 + length key) d ≡ take at buf ++ scope_bytes names scope

@@ -79,7 +79,8 @@ module _ (T : Tables) (m : accept.Message) (t : ℕ) where
     is_loss h = (class_by false false true _ free going (loss_value ∙ h) refl, loss_words)
 
     module _ (past : hit ≡ false) (latency : ℕ) (c₂ : Cursor) (ha : Delayed x T.prices m.from t m.wire c₁ latency c₂)
-        (v : Ruling) (hv : decision_in (cell T.net rules_at) v ≡ decide_of (fault_key_of x.fault_key) (context (opening_at T) m t) (rules_of T.rules (cell T.net rules_at)) (cell T.net fault_words_at)) where
+        (v : Ruling) (hv : decision_in (cell T.net rules_at) v ≡ decide_of (fault_key_of x.fault_key) (context (opening_at T) m t)
+        (rules_of T.rules (cell T.net rules_at)) (cell T.net fault_words_at)) where
       same_key : c₁.key ≡ key
       same_key = hl.key ∙ st.key
 

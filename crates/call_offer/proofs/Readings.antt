@@ -15,6 +15,7 @@ use Rattle.table_rows.proofs.Table.{row_at}
 use Rattle.table_marks.specs.Marks.{found, ids_of}
 use Rattle.table_rings.specs.Rings.{entries, number_of, scopes}
 use Rattle.fault_blocks.specs.Blocks.{blocked, blocks_of}
+use Rattle.fault_rule.specs.Rule.{has}
 use Rattle.spec_network.specs.Lists.{bit_at}
 use Rattle.math_float.specs.Float.{zero64}
 use Rattle.spec_network.specs.Limits.{rate_of}
@@ -22,6 +23,8 @@ use Rattle.spec_network.specs.Opening.{Sizes, Settings, global}
 use Rattle.spec_network.specs.Live.{Live, Till, down_till, till_at, is_up, marked, stopped, rings_of}
 use Rattle.spec_network.specs.Accept.{Message, receives, ring_for}
 use Rattle.spec_network.specs.Tables.{cell, Tables, live, sizes_at, till_form, ids_start, blocks_at}
+use Rattle.ask_tables.specs.declared.Till as row
+use Rattle.ask_tables.specs.TillRow.{form}
 use Rattle.call_stopped.specs.Stopped.{up_at}
 use Rattle.call_offer.specs.Offering.{selects_at, stopped_at, echoing_at}
 
@@ -45,8 +48,12 @@ module _ (tills : List ℕ) (scope from t : ℕ) where
   pub everywhere : (t ≡ from → ⊥) → scope ≡ global → true ≡ selects_at tills scope from t
   everywhere h k = (λ j. (sym (eq-eqb scope global k) j || hosts) && not (sym (ne_eqb t from h) j))
 
-  pub hosted : (t ≡ from → ⊥) → (scope ≡ global → ⊥) → hosts ≡ selects_at tills scope from t
-  hosted h k = sym (and_on hosts) ∙ (λ j. (sym (ne_eqb scope global k) j || hosts) && not (sym (ne_eqb t from h) j))
+  pub hosted : (t ≡ from → ⊥) → (scope ≡ global → ⊥) → (x : row.Till) → x ≡ form.read (drop (t * till_form.width) tills)
+      → (b : Bool) → b ≡ has x.shards scope → b ≡ selects_at tills scope from t
+  unfolding has
+  hosted h k x e b q =
+      q ∙ ap (λ (y : row.Till). has y.shards scope) e ∙ ap (λ (n : ℕ). has n scope) (get_or-drop (t * till_form.width) tills 3 0)
+      ∙ sym (and_on hosts) ∙ (λ j. (sym (ne_eqb scope global k) j || hosts) && not (sym (ne_eqb t from h) j))
 
 -- a till's marks lie in the table
 pub marks_in_lem : (t n k : ℕ) → t < n → n + t * k + k ≤ n + n * k

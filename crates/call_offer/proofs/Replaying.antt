@@ -13,32 +13,17 @@ use Rattle.table_ring.specs.Ring.{ring_from, slot_at, first_at}
 use Rattle.table_ring.proofs.Laws.{length_from}
 use Rattle.table_rings.specs.Rings.{form, slots, none, entries, entry_of, head_of, base_of, count_of, SoundRing}
 use Rattle.table_rings.proofs.Laws.{get_oldest}
-use Rattle.link_draws.specs.Drawing.{Struck, Picked, Delayed, delay_draw}
+use Rattle.link_draws.specs.Drawing.{Struck, Picked, delay_draw}
 use Rattle.spec_network.specs.Opening.{Draw, Opening, Settings, longest_wire}
 use Rattle.spec_network.specs.Live.{Carried}
 use Rattle.spec_network.specs.Real.{chance}
 use Rattle.spec_network.specs.Accept as accept
 use Rattle.spec_network.specs.Accept.{Message, duplicate_of, replay_of, carried_of, is_empty, timed, replayed, echoed, echoes_of}
 use Rattle.call_offer.specs.declared.Echo.{Echo}
-use Rattle.call_offer.specs.declared.Echoes.{Echoes}
 use Rattle.call_offer.specs.Offering.{echoing_at, keyed, whats_in, echo_by, words_by, Timed, Replays, timed_as, Echoed}
 use Rattle.call_offer.proofs.Readings.{and_off}
 
--- ---- Latencies that are drawn where there is an echo
-
-module _ (x : Settings) (prices : List ℕ) (from to : ℕ) (entry : Option Carried) (c : Cursor) where
-  pub timed_none : entry ≡ None → Timed x prices from to entry c None c
-  timed_none e = subst (λ (q : Option Carried). Timed x prices from to q c None c) (sym e) (record { is = refl; words = refl; key = refl; few = omega arith; below = tt })
-
-  pub timed_some : (old : Carried) (latency : ℕ) (next : Cursor) → entry ≡ Some old → Delayed x prices from to old.wire c latency next
-      → Timed x prices from to entry c (Some (record { entry = old; latency = latency })) next
-  timed_some old latency next e d = subst (λ (q : Option Carried). Timed x prices from to q c (Some (record { entry = old; latency = latency })) next) (sym e) (record {
-    is = ap (λ (n : ℕ). Some (record { entry = old; latency = n })) d.is;
-    words = d.words;
-    key = d.key;
-    few = d.few;
-    below = d.below;
-  })
+-- ---- What is echoed
 
 -- what is echoed may be sent: the message itself, and an entry of the ring
 pub double_sent : (P : ℕ → Type 0) (hit : Bool) (e : Carried) (m : Message) {d : Option Carried} → d ≡ then_some hit e → e ≡ carried_of m → P m.wire → IfSome d (λ q. P q.wire)
@@ -98,19 +83,23 @@ module _ (x : Settings) (prices : List ℕ) (m : Message) (t many : ℕ) (rings 
 
   pub empty : (n g : ℕ) → g ≡ ring → n ≡ count_of rings g → n ≡ 0 → Replays (replayed o m t held c.count) c None after
   empty n g i p z =
-      let none_left : is_empty held ≡ true = ap (λ (k : ℕ). is_empty (ring_from (slot_at form slots (head_of ring) (base_of many ring) rings) slots (first_at (head_of ring) rings) 0 k)) (ap (count_of rings) (sym i) ∙ sym p ∙ z) in
+      let none_left : is_empty held ≡ true =
+      ap (λ (k : ℕ). is_empty (ring_from (slot_at form slots (head_of ring) (base_of many ring) rings) slots (first_at (head_of ring) rings) 0 k)) (ap (count_of rings) (sym i) ∙ sym p ∙ z) in
       unplayed (ap (λ (q : Bool). hits.value && not q) none_left ∙ sym (and_off hits.value))
 
-  pub played : hit ≡ true → (n g : ℕ) → g ≡ ring → n ≡ count_of rings g → (n ≡ 0 → ⊥) → (i : ℕ) (next : Cursor) → Picked n after i next → SoundRing rings ring → (old : Carried) → old ≡ entry_of many rings g i
+  pub played : hit ≡ true → (n g : ℕ) → g ≡ ring → n ≡ count_of rings g → (n ≡ 0 → ⊥) → (i : ℕ) (next : Cursor) → Picked n after i next → SoundRing rings ring →
+      (old : Carried) → old ≡ entry_of many rings g i
       → old.wire ≤ longest_wire → Replays (replayed o m t held c.count) c (Some old) next
   played e n g j₀ p₀ z i next k sound old q₀ w =
       let p : n ≡ count_of rings ring = p₀ ∙ ap (count_of rings) j₀ in
       let q : old ≡ entry_of many rings ring i = q₀ ∙ ap (λ (j : ℕ). entry_of many rings j i) j₀ in
       let long : length held ≡ n = length_from (slot_at form slots (head_of ring) (base_of many ring) rings) slots (first_at (head_of ring) rings) 0 (count_of rings ring) ∙ sym p in
-      let full : (hits.value && not (is_empty held)) ≡ true = (λ j. (sym s.hits ∙ e) j && not (some_left (slot_at form slots (head_of ring) (base_of many ring) rings) slots (first_at (head_of ring) rings) (count_of rings ring) (λ u. z (p ∙ u)) j)) in
+      let full : (hits.value && not (is_empty held)) ≡ true =
+      (λ j. (sym s.hits ∙ e) j && not (some_left (slot_at form slots (head_of ring) (base_of many ring) rings) slots (first_at (head_of ring) rings) (count_of rings ring) (λ u. z (p ∙ u)) j)) in
       let v : i ≡ at.value = k.is ∙ (λ j. whole32_at (s.key j) (s.words j) (sym long j)) in
       let u : next.count ≡ at.words = k.words ∙ (λ j. s.words j + words32_at (s.key j) (s.words j) (sym long j)) in
-      let is : old ≡ get_or held at.value (carried_of m) = q ∙ get_oldest many rings ring i sound ∙ any held i none (carried_of m) (omega (arith, k.below, long)) ∙ ap (λ (i : ℕ). get_or held i (carried_of m)) v in
+      let is : old ≡ get_or held at.value (carried_of m) = q ∙ get_oldest many rings ring i sound ∙ any held i none (carried_of m) (omega (arith, k.below, long)) ∙
+      ap (λ (i : ℕ). get_or held i (carried_of m)) v in
       let r : yes ≡ replayed o m t held c.count = ap (λ (b : Bool). cond b yes nothing) (sym full) in
       record {
         is = ap (λ (y : Carried). replay_of y ∷ []) is ∙ ap (λ (y : Draw (List accept.Echoed)). y.value) r;
@@ -151,7 +140,8 @@ module _ (x : Settings) (prices key : List ℕ) (m : Message) (t : ℕ) where
       → timed O m t w (whats_in duplicate_of d ++ whats_in replay_of old) ≡ record { all = timed_as duplicate_of a ++ timed_as replay_of b; words = wb }
   timed_is d old w a b wa wb p q r s =
       let last : timed O m t wa (whats_in replay_of old) ≡ record { all = timed_as replay_of b; words = wb } =
-      ap (timed O m t wa) (sym (append_nil (whats_in replay_of old))) ∙ timed_step replay_of (λ c. refl) old wa [] b wb r s ∙ ap (λ (l : List accept.Timed). record { all = l; words = wb }) (append_nil (timed_as replay_of b)) in
+      ap (timed O m t wa) (sym (append_nil (whats_in replay_of old))) ∙ timed_step replay_of (λ c. refl) old wa [] b wb r s ∙
+      ap (λ (l : List accept.Timed). record { all = l; words = wb }) (append_nil (timed_as replay_of b)) in
       timed_step duplicate_of (λ c. refl) d w (whats_in replay_of old) a wa p q ∙ ap (λ (e : accept.Echoes). record { all = timed_as duplicate_of a ++ e.all; words = e.words }) last
 
 module _ (x : Settings) (prices : List ℕ) (m : Message) (t : ℕ) (ring : List Carried) (c : Cursor) where
@@ -167,7 +157,8 @@ module _ (x : Settings) (prices : List ℕ) (m : Message) (t : ℕ) (ring : List
   doubles false e = refl
 
   -- from the cursor c past the duplicate's draw (c₁), the replay's (c₂) and the two latencies (c₃, c₄)
-  pub echoing_from : echoing_at x ≡ true → (hit : Bool) (c₁ : Cursor) → Struck x.config.duplicate c hit c₁ → (old : Option Carried) (c₂ : Cursor) → Replays (replayed (keyed x prices c₁.key) m t ring c₁.count) c₁ old c₂
+  pub echoing_from : echoing_at x ≡ true → (hit : Bool) (c₁ : Cursor) → Struck x.config.duplicate c hit c₁ → (old : Option Carried) (c₂ : Cursor) →
+      Replays (replayed (keyed x prices c₁.key) m t ring c₁.count) c₁ old c₂
       → (d : Option Carried) → d ≡ then_some hit (carried_of m) → (a b : Option Echo) (c₃ c₄ : Cursor) → Timed x prices m.from t d c₂ a c₃ → Timed x prices m.from t old c₃ b c₄
       → Echoed m t (echoes_of (keyed x prices c.key) m t ring c.count) (record { duplicate = a; replay = b; words = c₄.count })
   echoing_from h hit c₁ sd old c₂ sp d is a b c₃ c₄ sa sb =
@@ -179,7 +170,8 @@ module _ (x : Settings) (prices : List ℕ) (m : Message) (t : ℕ) (ring : List
       let same : replayed (keyed x prices c₁.key) m t ring c₁.count ≡ r = (λ j. replayed (keyed x prices (sd.key j)) m t ring (sd.words j)) in
       let w₂ : c₂.count ≡ e.words = sp.words ∙ ap (λ (q : Draw (List accept.Echoed)). q.words) same in
       let v : e.value ≡ whats_in duplicate_of d ++ whats_in replay_of old =
-      (λ j. (ap (λ (q : Bool). cond q (duplicate_of (carried_of m) ∷ []) []) (sym sd.hits) ∙ doubles hit (carried_of m) ∙ ap (whats_in duplicate_of) (sym is)) j ++ (ap (λ (q : Draw (List accept.Echoed)). q.value) (sym same) ∙ sym sp.is) j) in
+      (λ j. (ap (λ (q : Bool). cond q (duplicate_of (carried_of m) ∷ []) []) (sym sd.hits) ∙ doubles hit (carried_of m) ∙ ap (whats_in duplicate_of) (sym is)) j ++
+      (ap (λ (q : Draw (List accept.Echoed)). q.value) (sym same) ∙ sym sp.is) j) in
       let all : echoes_of o m t ring c.count ≡ record { all = timed_as duplicate_of a ++ timed_as replay_of b; words = c₄.count } =
       ap (λ (q : Bool). cond q (timed o m t e.words e.value) (record { all = []; words = c.count })) h
       ∙ ap (timed o m t e.words) v

@@ -6,7 +6,7 @@ use Rattle.fault_blocks.specs.Blocks.{block_slots, block_width}
 use Rattle.link_draws.specs.Drawing.{Priced}
 use Rattle.spec_network.specs.Opening.{Sizes, link, links, global, longest_wire, latest_now, most_words, most_types, most_slots}
 use Rattle.spec_network.specs.Live.{rings_of}
-use Rattle.spec_network.specs.Tables.{cell, sizes_at, till_form, net_width, rules_at, fault_words_at, blocks_at}
+use Rattle.spec_network.specs.Tables.{cell, sizes_at, till_form, setup_width, net_width, rules_at, fault_words_at, blocks_at}
 use Rattle.spec_network.specs.Real.{key_width}
 use Rattle.call_offer.specs.declared.Outgoing.{Outgoing}
 
@@ -47,8 +47,16 @@ pub record State (setup net words seen rings rules : List ℕ) : Type 0 where
   pub rings_held : RingsHeld (sizes_at setup) rings
   pub rules_size : length rules ≡ rule_slots * rule_width
 
+-- what the ring of a message needs
+pub record Ringed (setup rings : List ℕ) (m : Outgoing) : Type 0 where
+  pub setup_size : length setup ≡ setup_width
+  pub types : (sizes_at setup).types ≤ most_types
+  pub held : RingsHeld (sizes_at setup) rings
+  pub ranged : Ranged setup m
+
 -- what the rules' decision needs
-pub record Rulable (net rules : List ℕ) : Type 0 where
+pub record Rulable (setup net rules : List ℕ) : Type 0 where
+  pub setup_size : length setup ≡ setup_width
   pub net_size : length net ≡ net_width
   pub used : cell net rules_at ≤ rule_slots
   pub words : cell net fault_words_at < 2 * most_words

@@ -8,6 +8,7 @@ use Rattle.link_latency.specs.Latency.{longest}
 use Rattle.fault_decide.specs.Decide.{Decision, decision, decide_of}
 use Rattle.link_draws.specs.Drawing.{delay_draw}
 use Rattle.call_stopped.specs.Stopped.{stopped_by}
+use Rattle.fault_rule.specs.declared.MessageContext.{MessageContext}
 use Rattle.spec_network.specs.Lending.{lend_draws, lend_offer}
 use Rattle.spec_network.specs.Lists.{bit_at}
 use Rattle.spec_network.specs.Opening.{Draw, Opening, Settings, global, longest_wire}
@@ -28,6 +29,10 @@ use Rattle.call_offer.specs.declared.Offer.TheVariants.{Deduplicated, Partition,
 -- the message as `Accept` has it
 abbrev pub as_message : Outgoing → accept.Message
 as_message m = record { from = m.from; now = m.now; kind = m.kind; class = m.class; scope = m.scope; wire = m.wire; id = m.id; tag = m.tag }
+
+-- what the rules read of it, to one recipient
+abbrev pub context_of : Outgoing → ℕ → MessageContext
+context_of m t = record { kind = m.kind; from = m.from; to = t; tier = 0; now = m.now }
 
 -- ---- What the tables say of a till
 

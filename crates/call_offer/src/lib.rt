@@ -6,18 +6,33 @@ ghost use Rattle.table_marks.specs.Marks.{found, ids_of};
 ghost use Rattle.table_rings.specs.Rings.{entries, number_of};
 ghost use Rattle.fault_blocks.specs.Blocks.{block_width};
 ghost use Rattle.link_draws.specs.Drawing.{Sent};
-ghost use Rattle.spec_network.specs.Opening.{most_types, most_words, global, link};
+ghost use Rattle.spec_network.specs.Opening.{most_words, global, link};
 ghost use Rattle.spec_network.specs.Live.{rings_of};
 ghost use Rattle.spec_network.specs.Accept.{replayed, echoes_of};
 ghost use Rattle.fault_rules.specs.Rules.{rules_of};
 ghost use Rattle.fault_decide.specs.Decide.{decide_of};
 ghost use Rattle.spec_network.specs.Real.{fault_key_of};
-ghost use Rattle.spec_network.specs.Tables.{cell, sizes_at, settings_at, till_form, ids_start, setup_width, blocks_at, net_width, rules_at, fault_words_at};
-ghost use Rattle.call_offer.specs.Needed.{Fixed, Ranged, RingsHeld, SeenHeld, State, Rulable, Drawable};
-ghost use Rattle.call_offer.specs.Offering.{as_message, selects_at, stopped_at, echoing_at, keyed, Timed, Replays, Echoed, decision_in, Draws, Offers};
+ghost use Rattle.spec_network.specs.Tables.{cell, sizes_at, settings_at, till_form, ids_start, blocks_at, rules_at, fault_words_at};
+ghost use Rattle.call_offer.specs.Needed.{Fixed, Ranged, Ringed, SeenHeld, State, Rulable, Drawable};
+ghost use Rattle.call_offer.specs.Offering.{as_message, context_of, selects_at, stopped_at, echoing_at, keyed, Timed, Replays, Echoed, decision_in, Draws, Offers};
 
+use ask_tables::Till;
+use fault_rule::MessageContext;
 use rand_streams::Cursor;
 use table_rings::Entry;
+use table_rows::Row;
+
+// The tables that an accept goes by and leaves alone. Those that it writes stay parameters, in the crates above: the borrow checker covers no call that is lent
+// two fields of a struct of `&mut` slices (tried), so that the struct would be made anew, field by field, at each such call: no plainer than the parameters.
+// No ghost field holds `Fixed` or `Ranged`: the struct is made before question 1 is asked, and they follow from what the questions find.
+#[derive(Clone, Copy)]
+pub struct FixedTables<'a> {
+    pub setup: &'a [u64],
+    pub tills: &'a [u64],
+    pub keys: &'a [u32],
+    pub prices: &'a [u64],
+    pub blocks: &'a [u64],
+}
 
 // An entry with its id and its wire length.
 #[derive(Clone, Copy)]
@@ -108,27 +123,29 @@ pub fn selects(tills: &[u64], scope: u64, from: u64, to: usize) -> bool
     if scope == ask_tables::GLOBAL {
         return true;
     }
-    (tills[to * ask_tables::TILL_WIDTH + 3] >> scope) % 2 == 1
+    fault_rule::has(Till::get(tills, to * ask_tables::TILL_WIDTH).shards, scope)
 }
 
-// Does the till's mark for the id stand?
+// Does the till's mark for the id stand? `SeenHeld` and `to < tills` join `setup` to what is lent beside it, and `to` is another at each turn:
+// a type for either would be made anew at each call, and ask the same there.
 pub fn marked(setup: &[u64], seen: &[u64], to: usize, id: u64) -> bool
-    requires { (length setup.now ≡ setup_width) × SeenHeld (sizes_at setup.now) seen.now × (to < (sizes_at setup.now).tills) }
+    requires { SeenHeld (sizes_at setup.now) seen.now × (to < (sizes_at setup.now).tills) }
     ensures { result ≡ found id (ids_of seen.now (ids_start (sizes_at setup.now) to) (cell seen.now to)) }
 {
-    let start = setup[ask_tables::TILLS] as usize + to * (setup[ask_tables::SEEN_SLOTS] as usize);
+    let start = ask_tables::ids_start(setup, to);
     table_marks::has(seen, start, seen[to] as usize, id)
 }
 
-// Stopped by an end that is down, or by a block at that time.
+// Stopped by an end that is down, or by a block at that time. It asks what `call_stopped` asks of the tables that it hands on.
 fn stopped(net: &[u64], tills: &[u64], blocks: &[u64], from: usize, to: usize, at: u64) -> bool
-    requires { («from» * till_form.width < length tills.now) × (to * till_form.width < length tills.now) × (length net.now ≡ net_width) × (cell net.now blocks_at * block_width ≤ length blocks.now) }
+    requires { («from» * till_form.width < length tills.now) × (to * till_form.width < length tills.now)
+        × (cell net.now blocks_at * block_width ≤ length blocks.now) }
     ensures { result ≡ stopped_at net.now tills.now blocks.now «from» to at }
 {
     call_stopped::stopped(
         tills,
         blocks,
-        net[ask_tables::BLOCKS] as usize,
+        ask_tables::cell(net, ask_tables::BLOCKS) as usize,
         from,
         to,
         at,
@@ -137,19 +154,21 @@ fn stopped(net: &[u64], tills: &[u64], blocks: &[u64], from: usize, to: usize, a
 
 // Is either echo rate above 0?
 pub fn echoing(setup: &[u64]) -> bool
-    requires { length setup.now ≡ setup_width }
     ensures { result ≡ echoing_at (settings_at setup.now) }
 {
-    if link_draws::rate(setup, ask_tables::DUPLICATE) > 0.0 {
-        return true;
-    }
-    link_draws::rate(setup, ask_tables::REPLAY) > 0.0
+    let duplicate = math_float::of_any(ask_tables::cell(setup, ask_tables::DUPLICATE));
+    let replay = math_float::of_any(ask_tables::cell(setup, ask_tables::REPLAY));
+    duplicate > 0.0 || replay > 0.0
 }
 
 // The replay draw, then the place in the ring, which is drawn only after a hit on a ring that isn't empty: the entry there.
+// `count + n` stays a question, here and below: each draw takes another number of words, so that no one fact of the cursor says it.
 fn replayed(setup: &[u64], rings: &[u64], m: Outgoing, to: usize, c: &mut Cursor) -> Option<Entry>
-    requires { (length setup.now ≡ setup_width) × RingsHeld (sizes_at setup.now) rings.now × Ranged setup.now m × ((sizes_at setup.now).types ≤ most_types) × (c.old.count + 3 < 2 ^ 63) }
-    ensures { (prices : List ℕ) → Replays (replayed (keyed (settings_at setup.now) prices c.old.key) (as_message m) to (entries (rings_of (sizes_at setup.now)) rings.now (number_of m.kind m.scope)) c.old.count) c.old result c.new }
+    requires { Ringed setup.now rings.now m × (c.old.count + 3 < 2 ^ 63) }
+    ensures { (prices : List ℕ) → Replays
+        (replayed (keyed (settings_at setup.now) prices c.old.key) (as_message m) to
+        (entries (rings_of (sizes_at setup.now)) rings.now (number_of m.kind m.scope)) c.old.count)
+        c.old result c.new }
 {
     if !link_draws::chance(setup, ask_tables::REPLAY, c) {
         return None;
@@ -195,8 +214,11 @@ fn draw_echoes(
     to: usize,
     c: &mut Cursor,
 ) -> Echoes
-    requires { Sent setup.now prices.now m.from to m.wire × RingsHeld (sizes_at setup.now) rings.now × Ranged setup.now m × ((sizes_at setup.now).types ≤ most_types) × (c.old.count + 32 < 2 ^ 63) }
-    ensures { Echoed (as_message m) to (echoes_of (keyed (settings_at setup.now) prices.now c.old.key) (as_message m) to (entries (rings_of (sizes_at setup.now)) rings.now (number_of m.kind m.scope)) c.old.count) result }
+    requires { Sent setup.now prices.now m.from to m.wire × Ringed setup.now rings.now m × (c.old.count + 32 < 2 ^ 63) }
+    ensures { Echoed (as_message m) to
+        (echoes_of (keyed (settings_at setup.now) prices.now c.old.key) (as_message m) to
+        (entries (rings_of (sizes_at setup.now)) rings.now (number_of m.kind m.scope)) c.old.count)
+        result }
 {
     if !echoing(setup) {
         return Echoes {
@@ -217,16 +239,24 @@ fn draw_echoes(
     }
 }
 
-// The rules' decision. Where there are none, the fault stream is not looked at.
-fn decided(setup: &[u64], net: &[u64], rules: &[u64], x: fault_rule::MessageContext) -> Ruling
-    requires { (length setup.now ≡ setup_width) × Rulable net.now rules.now }
-    ensures { decision_in (cell net.now rules_at) result ≡ decide_of (fault_key_of (settings_at setup.now).fault_key) x (rules_of rules.now (cell net.now rules_at)) (cell net.now fault_words_at) }
+// The rules' decision on the message to the recipient. Where there are none, the fault stream is not looked at.
+fn decided(setup: &[u64], net: &[u64], rules: &[u64], m: Outgoing, to: usize) -> Ruling
+    requires { Rulable setup.now net.now rules.now }
+    ensures { decision_in (cell net.now rules_at) result
+        ≡ decide_of (fault_key_of (settings_at setup.now).fault_key) (context_of m to) (rules_of rules.now (cell net.now rules_at)) (cell net.now fault_words_at) }
 {
     let n = net[ask_tables::RULES] as usize;
     let words = net[ask_tables::FAULT_WORDS];
     if n == 0 {
         return Ruling { place: None, words };
     }
+    let x = MessageContext {
+        kind: m.kind,
+        from: m.from,
+        to: to as u64,
+        tier: 0,
+        now: m.now,
+    };
     let mut f = link_draws::fault_at(setup, words);
     let place = fault_decide::decide(rules, n, &mut f, x);
     Ruling {
@@ -236,40 +266,29 @@ fn decided(setup: &[u64], net: &[u64], rules: &[u64], x: fault_rule::MessageCont
 }
 
 // The draws of a recipient that no mark and no partition stops: one cursor goes through them all.
+// The tables behind `fixed` come one by one, here and in `consider`: the caller holds them as written ones, so that a struct would be made for this call alone.
 fn drawn(
-    setup: &[u64],
+    fixed: FixedTables,
     net: &[u64],
     words: &[u64],
-    keys: &[u32],
-    prices: &[u64],
     rings: &[u64],
     rules: &[u64],
     m: Outgoing,
     to: usize,
 ) -> Offer
-    requires { Drawable setup.now net.now words.now keys.now prices.now rings.now rules.now m to }
-    ensures { Draws setup.now net.now words.now keys.now prices.now rings.now rules.now m to result }
+    requires { Drawable fixed.setup.now net.now words.now fixed.keys.now fixed.prices.now rings.now rules.now m to }
+    ensures { Draws fixed.entry.setup.now net.now words.now fixed.entry.keys.now fixed.entry.prices.now rings.now rules.now m to result }
 {
+    let setup = fixed.setup;
     let from = m.from as usize;
-    let mut c = link_draws::link_at(
-        keys,
-        setup[ask_tables::TILLS] as usize,
-        from,
-        to,
-        words[from * ask_tables::LINK_ROW + to],
-    );
+    let tills = setup[ask_tables::TILLS] as usize;
+    let given = words[from * ask_tables::LINK_ROW + to];
+    let mut c = link_draws::link_at(fixed.keys, tills, from, to, given);
     if link_draws::chance(setup, ask_tables::LOSS, &mut c) {
         return Offer::Loss(c.count);
     }
-    let latency = link_draws::delay(setup, prices, from, to, m.wire, &mut c);
-    let x = fault_rule::MessageContext {
-        kind: m.kind,
-        from: m.from,
-        to: to as u64,
-        tier: 0,
-        now: m.now,
-    };
-    let v = decided(setup, net, rules, x);
+    let latency = link_draws::delay(setup, fixed.prices, from, to, m.wire, &mut c);
+    let v = decided(setup, net, rules, m, to);
     let fault = v.words;
     if let Some(place) = v.place {
         return Offer::Fault(Faulted {
@@ -278,7 +297,7 @@ fn drawn(
             place,
         });
     }
-    let echoes = draw_echoes(setup, prices, rings, m, to, &mut c);
+    let echoes = draw_echoes(setup, fixed.prices, rings, m, to, &mut c);
     Offer::Sent(Sending {
         latency: latency.ns,
         echoes,
@@ -288,27 +307,29 @@ fn drawn(
 
 // A recipient goes under the first that fits: its mark stands, it is stopped, the loss draw hits, a rule drops it; else sent.
 pub fn consider(
-    setup: &[u64],
+    fixed: FixedTables,
     net: &[u64],
-    tills: &[u64],
     words: &[u64],
-    keys: &[u32],
-    prices: &[u64],
     seen: &[u64],
     rings: &[u64],
     rules: &[u64],
-    blocks: &[u64],
     m: Outgoing,
     to: usize,
 ) -> Offer
-    requires { Fixed setup.now tills.now keys.now prices.now blocks.now × State setup.now net.now words.now seen.now rings.now rules.now × Ranged setup.now m × (to < (sizes_at setup.now).tills) × (cell words.now (link m.from to) < most_words) }
-    ensures { Offers setup.now net.now tills.now words.now keys.now prices.now seen.now rings.now rules.now blocks.now m to result }
+    requires { Fixed fixed.setup.now fixed.tills.now fixed.keys.now fixed.prices.now fixed.blocks.now
+        × State fixed.setup.now net.now words.now seen.now rings.now rules.now
+        × Ranged fixed.setup.now m
+        × (to < (sizes_at fixed.setup.now).tills)
+        × (cell words.now (link m.from to) < most_words) }
+    ensures { Offers
+        fixed.entry.setup.now net.now fixed.entry.tills.now words.now fixed.entry.keys.now fixed.entry.prices.now
+        seen.now rings.now rules.now fixed.entry.blocks.now m to result }
 {
-    if marked(setup, seen, to, m.id) {
+    if marked(fixed.setup, seen, to, m.id) {
         return Offer::Deduplicated;
     }
-    if stopped(net, tills, blocks, m.from as usize, to, m.now) {
+    if stopped(net, fixed.tills, fixed.blocks, m.from as usize, to, m.now) {
         return Offer::Partition;
     }
-    drawn(setup, net, words, keys, prices, rings, rules, m, to)
+    drawn(fixed, net, words, rings, rules, m, to)
 }

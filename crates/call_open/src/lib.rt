@@ -4,6 +4,7 @@
 ghost use Rattle.std.specs.Prelude.{◌≡◌, replicate};
 ghost use Rattle.spec_network.specs.Opening.{links};
 ghost use Rattle.spec_network.specs.Tables.{setup_of};
+ghost use Rattle.spec_network.specs.Lending.{tables_of};
 ghost use Rattle.spec_network.specs.Real.{keys_of, priced_by};
 ghost use Rattle.ask_opening.specs.Given.{settings_of};
 ghost use Rattle.call_reply.specs.Reply.{done_reply};
@@ -14,6 +15,7 @@ use ask_refusal::Refusal;
 use call_open_writes::{fill, links, prices, settings};
 
 // What the opening alone writes: settings, word counts, link keys, prices.
+// Each written table, here and below, is a parameter with a line of its own: a struct of them would be made for this one call and taken apart at once, no plainer.
 fn write_settled(
     config: NetworkConfig,
     sizes: NetworkSizes,
@@ -65,6 +67,7 @@ fn write_begun(
 }
 
 // An opening: refused with nothing changed, or every table written. `key` is the fault stream's, 32 bytes; `masks` has the shards of each till.
+// 13 tables, each a parameter and a length: C lends them one by one, and a struct of them would only move these lines, so it has more than 40.
 pub fn open_network(
     config: NetworkConfig,
     sizes: NetworkSizes,
@@ -87,36 +90,8 @@ pub fn open_network(
     log: &mut [u64],
 ) -> Result<(), Refusal>
     ensures { DoesOpen
-        (record {
-          setup = setup.old;
-          net = net.old;
-          names = names.now;
-          tills = tills.old;
-          words = words.old;
-          keys = keys.old;
-          prices = prices.old;
-          seen = seen.old;
-          waiting = waiting.now;
-          rings = rings.old;
-          rules = rules.now;
-          blocks = blocks.now;
-          log = log.old;
-        })
-        (record {
-          setup = setup.new;
-          net = net.new;
-          names = names.now;
-          tills = tills.new;
-          words = words.new;
-          keys = keys.new;
-          prices = prices.new;
-          seen = seen.new;
-          waiting = waiting.now;
-          rings = rings.new;
-          rules = rules.now;
-          blocks = blocks.now;
-          log = log.new;
-        })
+        (tables_of setup.old net.old names.now tills.old words.old keys.old prices.old seen.old waiting.now rings.old rules.now blocks.now log.old)
+        (tables_of setup.new net.new names.now tills.new words.new keys.new prices.new seen.new waiting.now rings.new rules.now blocks.now log.new)
         (settings_of config sizes plan seed key.now) masks.now (done_reply result) }
 {
     let lengths = TableLengths {

@@ -115,7 +115,8 @@ module _ (f : ℕ → ℕ) (n t : ℕ) (l now : List ℕ) where
       let s : n + t + 1 ≡ n + (t + 1) = omega arith in
       cell_more (take n l ++ up_to t f) l now (n + t) v a h e
       ∙ ap (λ (k : ℕ). ((take n l ++ up_to t f) ++ (v ∷ [])) ++ drop k l) s
-      ∙ ap (λ (x : List ℕ). x ++ drop (n + (t + 1)) l) (append_assoc (take n l) (up_to t f) (v ∷ []) ∙ ap (λ (x : List ℕ). take n l ++ x) (ap (λ (k : ℕ). up_to t f ++ (k ∷ [])) q ∙ sym (up_to_more t f)))
+      ∙ ap (λ (x : List ℕ). x ++ drop (n + (t + 1)) l) (append_assoc (take n l) (up_to t f) (v ∷ []) ∙
+      ap (λ (x : List ℕ). take n l ++ x) (ap (λ (k : ℕ). up_to t f ++ (k ∷ [])) q ∙ sym (up_to_more t f)))
 
   pub regions_all : (tills : ℕ) → t ≡ tills → length l ≡ n + tills → now ≡ (take n l ++ up_to t f) ++ drop (n + t) l → now ≡ take n l ++ up_to tills f
   regions_all tills e h q =
@@ -123,7 +124,8 @@ module _ (f : ℕ → ℕ) (n t : ℕ) (l now : List ℕ) where
       ∙ ap (λ (x : List ℕ). (take n l ++ up_to tills f) ++ x) (drop_of_length-le l {i = n + tills} (omega arith)) ∙ append-nil (take n l ++ up_to tills f)
 
   pub no_regions : t ≡ 0 → n ≤ length l → now ≡ l → now ≡ (take n l ++ up_to t f) ++ drop (n + t) l
-  no_regions e h q = q ∙ sym (take-append-drop n l) ∙ ap (λ (x : List ℕ). x ++ drop n l) (sym (append-nil (take n l))) ∙ sym (ap (λ (k : ℕ). (take n l ++ up_to k f) ++ drop (n + k) l) e ∙ ap (λ (k : ℕ). (take n l ++ []) ++ drop k l) (add-zero n))
+  no_regions e h q = q ∙ sym (take-append-drop n l) ∙ ap (λ (x : List ℕ). x ++ drop n l) (sym (append-nil (take n l))) ∙
+      sym (ap (λ (k : ℕ). (take n l ++ up_to k f) ++ drop (n + k) l) e ∙ ap (λ (k : ℕ). (take n l ++ []) ++ drop k l) (add-zero n))
 
 -- the pairs of regions, priced in the front part of a cleared table
 pub pairs_priced : (seed regions n : ℕ) (l cleared last : List ℕ) → cleared ≡ replicate n 0 ++ drop n l → last ≡ prices_of seed regions (take (n - 0) cleared)
@@ -156,7 +158,8 @@ module _ (p : RegionPlan) (tills : ℕ) where
   priced l mid last n h e k q w =
       let m : n ≡ pair_cells (plan_of p) = omega (arith, price_width h) in
       let long : length (prices_of p.seed p.regions (replicate n 0)) ≡ n = length_prices p.seed p.regions (replicate n 0) ∙ length-replicate n 0 in
-      w ∙ ap (λ (x : List ℕ). x ++ up_to tills (λ t. region_of p.seed p.regions t)) (ap (take n) q ∙ take_at (prices_of p.seed p.regions (replicate n 0)) (drop n l) n long ∙ ap (λ (j : ℕ). prices_of p.seed p.regions (replicate j 0)) m)
+      w ∙ ap (λ (x : List ℕ). x ++ up_to tills (λ t. region_of p.seed p.regions t))
+      (ap (take n) q ∙ take_at (prices_of p.seed p.regions (replicate n 0)) (drop n l) n long ∙ ap (λ (j : ℕ). prices_of p.seed p.regions (replicate j 0)) m)
       ∙ sym (ap (λ (c : Bool). cond c [] (prices_of p.seed p.regions (replicate (pair_cells (plan_of p)) 0) ++ up_to tills (λ t. region_of p.seed p.regions t))) (ne_eqb p.planned 0 h))
 
 pub priced_by_lem : (x : Settings) → prices_for x.plan x.sizes.tills ≡ priced_by x

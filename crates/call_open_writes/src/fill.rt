@@ -5,7 +5,7 @@ ghost use Rattle.spec_network.specs.Opening.{links};
 ghost use Rattle.spec_network.specs.Live.{open_tills};
 ghost use Rattle.spec_network.specs.Tables.{till_form};
 
-// The first n cells at 0.
+// The first n cells at 0; what lies behind stays. Cut at its five calls (`&mut s[..n]`), each caller would join zeros and rest in its own proof: no plainer.
 pub fn clear(s: &mut [u64], n: usize)
     requires { n ≤ length s.old }
     ensures { s.new ≡ replicate n 0 ++ drop n s.old }

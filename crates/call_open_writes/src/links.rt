@@ -13,7 +13,7 @@ fn put_key(keys: &mut [u32], b: usize, key: [u32; 8])
     keys[b..b + key.len()].copy_from_slice(&key);
 }
 
-// The key of each ordered pair of n tills.
+// The key of each ordered pair of n tills. `n ≤ most_tills` bounds the products; question 2 has asked it, and a type for it would be made for this one call.
 pub fn write_keys(keys: &mut [u32], seed: u64, n: u64)
     requires { (n ≤ most_tills) × (length keys.old ≡ n * n * key_width) }
     ensures { keys.new ≡ link_keys seed n }

@@ -10,7 +10,8 @@ ghost use Rattle.call_open_writes.specs.Written.{prices_for};
 use crate::fill;
 use ask_opening::RegionPlan;
 
-// The pairs, in the first n cells.
+// The pairs, in the first n cells: n is where the regions begin, here and below. Split in two there, write_prices would join the parts again in its proof: no plainer.
+// `regions ≤ most_regions` is what link_prices asks, `tills ≤ most_tills` keeps a till's number in a u32, here and below: question 2 has asked both, a type for each would be made for one call.
 fn price_pairs(prices: &mut [u64], n: usize, seed: u64, regions: u64)
     requires { (n ≤ length prices.old) × (regions ≤ most_regions) }
     ensures { prices.new ≡ prices_of seed regions (replicate n 0) ++ drop n prices.old }

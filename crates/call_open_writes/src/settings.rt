@@ -9,6 +9,7 @@ ghost use Rattle.ask_opening.specs.Given.{bits_of, config_of, settings_of, key_b
 
 use ask_opening::{NetworkConfig, NetworkSizes, RegionPlan};
 
+// The bits of a rate. A NaN has no one pattern, so it must be none: question 3 has refused it.
 fn rate_bits(rate: f64) -> u64
     requires { is_nan rate ≡ false }
     ensures { result ≡ bits_of rate }
@@ -64,6 +65,7 @@ fn cells(
     ]
 }
 
+// The settings into `setup`.
 pub fn write_setup(
     setup: &mut [u64],
     config: NetworkConfig,

@@ -26,7 +26,8 @@ use Rattle.call_recipients.proofs.Onward.{can_send, live_after_lem, goes_on, pas
 -- ---- One turn
 
 module _ (setup tills keys prices blocks net words seen waiting rings rules : List ℕ) (m : Outgoing) (to : ℕ) where
-  pub can_apply : Fixed setup tills keys prices blocks → Ranged setup m → AdmittedFrom setup net tills words seen waiting rings rules m to → to < (sizes_at setup).tills → selects_at tills m.scope m.from to ≡ true
+  pub can_apply : Fixed setup tills keys prices blocks → Ranged setup m → AdmittedFrom setup net tills words seen waiting rings rules m to →
+      to < (sizes_at setup).tills → selects_at tills m.scope m.from to ≡ true
       → (r : Offer) → Offers setup net tills words keys prices seen rings rules blocks m to r → Applicable setup net words seen waiting rings m to r
   unfolding Offers
   can_apply F R G b e r a = record {
@@ -36,10 +37,12 @@ module _ (setup tills keys prices blocks net words seen waiting rings rules : Li
     words_size = G.state.words_size;
     sendable = λ x h.
         let T = lend_serve no_tables setup net tills words keys prices seen waiting rings rules blocks in
-        can_send no_tables setup net tills words keys prices seen waiting rings rules blocks m to F R G b e x (subst (Answers (opening_at T) (as_message m) (live (sizes_at setup) T) to) h (a (set_waiting no_tables waiting)));
+        can_send no_tables setup net tills words keys prices seen waiting rings rules blocks m to F R G b e x
+        (subst (Answers (opening_at T) (as_message m) (live (sizes_at setup) T) to) h (a (set_waiting no_tables waiting)));
   }
 
-  pub passed_by : (c : counts.Counts) → selects_at tills m.scope m.from to ≡ false → Turned setup tills keys prices blocks net words seen waiting rings rules net words seen waiting rings rules m to c c
+  pub passed_by : (c : counts.Counts) → selects_at tills m.scope m.from to ≡ false →
+      Turned setup tills keys prices blocks net words seen waiting rings rules net words seen waiting rings rules m to c c
   unfolding Turned
   passed_by c e = λ L.
       let T = lend_serve L setup net tills words keys prices seen waiting rings rules blocks in (
@@ -80,6 +83,10 @@ plus_none a = (λ j. record { sent = p1 j; deduplicated = p2 j; partition = p3 j
 
     p5 : a.fault + 0 ≡ a.fault
     p5 = omega arith
+
+-- a default of the counts is the count of no recipient
+pub no_counts_made : (c : counts.Counts) → (c.sent ≡ 0) × ((c.deduplicated ≡ 0) × ((c.partition ≡ 0) × ((c.loss ≡ 0) × (c.fault ≡ 0)))) → counts_of c ≡ no_counts
+no_counts_made c h = (λ j. record { sent = h.0 j; deduplicated = h.1.0 j; partition = h.1.1.0 j; loss = h.1.1.1.0 j; fault = h.1.1.1.1 j })
 
 none_plus : (a : Counts) → plus no_counts a ≡ a
 none_plus a = (λ j. record { sent = p1 j; deduplicated = p2 j; partition = p3 j; loss = p4 j; fault = p5 j })
@@ -125,7 +132,8 @@ module _ (setup tills keys prices blocks net₀ words₀ seen₀ waiting₀ ring
       (L : Tables) → let T₀ = lend_serve L setup net₀ tills words₀ keys prices seen₀ waiting₀ rings₀ rules₀ blocks in
       let T = lend_serve L setup net tills words keys prices seen waiting rings rules blocks in
       (accept_t (opening_at T₀) (as_message m) T (remaining setup tills m to) ≡ accept_t (opening_at T₀) (as_message m) T₀ (remaining setup tills m 0))
-      × (plus (counts_of c) (tally (booked (opening_at T₀) (as_message m) (live (sizes_at setup) T) (remaining setup tills m to))) ≡ tally (booked (opening_at T₀) (as_message m) (live (sizes_at setup) T₀) (remaining setup tills m 0)))
+      × (plus (counts_of c) (tally (booked (opening_at T₀) (as_message m) (live (sizes_at setup) T) (remaining setup tills m to))) ≡ tally
+      (booked (opening_at T₀) (as_message m) (live (sizes_at setup) T₀) (remaining setup tills m 0)))
 
   pub done_none : (c : counts.Counts) → counts_of c ≡ no_counts → Done net₀ words₀ seen₀ waiting₀ rings₀ rules₀ c 0
   unfolding Done
@@ -135,19 +143,28 @@ module _ (setup tills keys prices blocks net₀ words₀ seen₀ waiting₀ ring
       (refl, ap (λ (a : Counts). plus a t) e ∙ none_plus t)
 
   module _ (net words seen waiting rings rules net' words' seen' waiting' rings' rules' : List ℕ) (c n : counts.Counts) (to : ℕ)
-      (F : Fixed setup tills keys prices blocks) (R : Ranged setup m) (class : m.class < (sizes_at setup).classes) (G : AdmittedFrom setup net tills words seen waiting rings rules m to) (b : to < (sizes_at setup).tills)
+      (F : Fixed setup tills keys prices blocks) (R : Ranged setup m) (class : m.class < (sizes_at setup).classes)
+      (G : AdmittedFrom setup net tills words seen waiting rings rules m to) (b : to < (sizes_at setup).tills)
       (turned : Turned setup tills keys prices blocks net words seen waiting rings rules net' words' seen' waiting' rings' rules' m to c n) where
     pub going_more : AdmittedFrom setup net' tills words' seen' waiting' rings' rules' m (to + 1)
     unfolding Turned
     going_more = go (selects_at tills m.scope m.from to) refl (turned no_tables).0
       where
-        go : (v : Bool) → selects_at tills m.scope m.from to ≡ v → lend_serve no_tables setup net' tills words' keys prices seen' waiting' rings' rules' blocks ≡ cond v (offered_t (opening_at (lend_serve no_tables setup net tills words keys prices seen waiting rings rules blocks)) (as_message m) (lend_serve no_tables setup net tills words keys prices seen waiting rings rules blocks) to) (lend_serve no_tables setup net tills words keys prices seen waiting rings rules blocks) → AdmittedFrom setup net' tills words' seen' waiting' rings' rules' m (to + 1)
-        go true e q = subst (λ (x : Tables). AdmittedFrom setup x.net tills x.words x.seen x.waiting x.rings x.rules m (to + 1)) (sym q) (goes_on no_tables setup net tills words keys prices seen waiting rings rules blocks m to F R G b e class)
-        go false e q = subst (λ (x : Tables). AdmittedFrom setup x.net tills x.words x.seen x.waiting x.rings x.rules m (to + 1)) (sym q) (passes_on no_tables setup net tills words keys prices seen waiting rings rules blocks m to F R G b e)
+        go : (v : Bool) → selects_at tills m.scope m.from to ≡ v →
+            lend_serve no_tables setup net' tills words' keys prices seen' waiting' rings' rules' blocks ≡ cond v
+            (offered_t (opening_at (lend_serve no_tables setup net tills words keys prices seen waiting rings rules blocks)) (as_message m)
+            (lend_serve no_tables setup net tills words keys prices seen waiting rings rules blocks) to)
+            (lend_serve no_tables setup net tills words keys prices seen waiting rings rules blocks) → AdmittedFrom setup net' tills words' seen' waiting' rings' rules' m (to + 1)
+        go true e q = subst (λ (x : Tables). AdmittedFrom setup x.net tills x.words x.seen x.waiting x.rings x.rules m (to + 1)) (sym q)
+            (goes_on no_tables setup net tills words keys prices seen waiting rings rules blocks m to F R G b e class)
+        go false e q = subst (λ (x : Tables). AdmittedFrom setup x.net tills x.words x.seen x.waiting x.rings x.rules m (to + 1)) (sym q)
+            (passes_on no_tables setup net tills words keys prices seen waiting rings rules blocks m to F R G b e)
 
     pub total_more : total (counts_of c) ≤ to → total (counts_of n) ≤ to + 1
     unfolding Turned
-    total_more h = go (selects_at tills m.scope m.from to) (fate_of (opening_at (lend_serve no_tables setup net tills words keys prices seen waiting rings rules blocks)) (as_message m) (live (sizes_at setup) (lend_serve no_tables setup net tills words keys prices seen waiting rings rules blocks)) to) (turned no_tables).1
+    total_more h = go (selects_at tills m.scope m.from to)
+        (fate_of (opening_at (lend_serve no_tables setup net tills words keys prices seen waiting rings rules blocks)) (as_message m)
+        (live (sizes_at setup) (lend_serve no_tables setup net tills words keys prices seen waiting rings rules blocks)) to) (turned no_tables).1
       where
         go : (v : Bool) (k : Fate) → counts_of n ≡ cond v (add k (counts_of c)) (counts_of c) → total (counts_of n) ≤ to + 1
         go true k q = omega (arith, ap total q, total_add k (counts_of c))
@@ -158,17 +175,27 @@ module _ (setup tills keys prices blocks net₀ words₀ seen₀ waiting₀ ring
     done_more d = λ L. go L (selects_at tills m.scope m.from to) refl (turned L).0 (turned L).1
       where
         go : (L : Tables) (v : Bool) → selects_at tills m.scope m.from to ≡ v
-            → lend_serve L setup net' tills words' keys prices seen' waiting' rings' rules' blocks ≡ cond v (offered_t (opening_at (lend_serve L setup net tills words keys prices seen waiting rings rules blocks)) (as_message m) (lend_serve L setup net tills words keys prices seen waiting rings rules blocks) to) (lend_serve L setup net tills words keys prices seen waiting rings rules blocks)
-            → counts_of n ≡ cond v (add (fate_of (opening_at (lend_serve L setup net tills words keys prices seen waiting rings rules blocks)) (as_message m) (live (sizes_at setup) (lend_serve L setup net tills words keys prices seen waiting rings rules blocks)) to) (counts_of c)) (counts_of c)
-            → (accept_t (opening_at (lend_serve L setup net₀ tills words₀ keys prices seen₀ waiting₀ rings₀ rules₀ blocks)) (as_message m) (lend_serve L setup net' tills words' keys prices seen' waiting' rings' rules' blocks) (remaining setup tills m (to + 1)) ≡ accept_t (opening_at (lend_serve L setup net₀ tills words₀ keys prices seen₀ waiting₀ rings₀ rules₀ blocks)) (as_message m) (lend_serve L setup net₀ tills words₀ keys prices seen₀ waiting₀ rings₀ rules₀ blocks) (remaining setup tills m 0))
-            × (plus (counts_of n) (tally (booked (opening_at (lend_serve L setup net₀ tills words₀ keys prices seen₀ waiting₀ rings₀ rules₀ blocks)) (as_message m) (live (sizes_at setup) (lend_serve L setup net' tills words' keys prices seen' waiting' rings' rules' blocks)) (remaining setup tills m (to + 1)))) ≡ tally (booked (opening_at (lend_serve L setup net₀ tills words₀ keys prices seen₀ waiting₀ rings₀ rules₀ blocks)) (as_message m) (live (sizes_at setup) (lend_serve L setup net₀ tills words₀ keys prices seen₀ waiting₀ rings₀ rules₀ blocks)) (remaining setup tills m 0)))
+            → lend_serve L setup net' tills words' keys prices seen' waiting' rings' rules' blocks ≡ cond v
+            (offered_t (opening_at (lend_serve L setup net tills words keys prices seen waiting rings rules blocks)) (as_message m)
+            (lend_serve L setup net tills words keys prices seen waiting rings rules blocks) to) (lend_serve L setup net tills words keys prices seen waiting rings rules blocks)
+            → counts_of n ≡ cond v (add (fate_of (opening_at (lend_serve L setup net tills words keys prices seen waiting rings rules blocks)) (as_message m)
+            (live (sizes_at setup) (lend_serve L setup net tills words keys prices seen waiting rings rules blocks)) to) (counts_of c)) (counts_of c)
+            → (accept_t (opening_at (lend_serve L setup net₀ tills words₀ keys prices seen₀ waiting₀ rings₀ rules₀ blocks)) (as_message m)
+            (lend_serve L setup net' tills words' keys prices seen' waiting' rings' rules' blocks) (remaining setup tills m (to + 1)) ≡ accept_t
+            (opening_at (lend_serve L setup net₀ tills words₀ keys prices seen₀ waiting₀ rings₀ rules₀ blocks)) (as_message m)
+            (lend_serve L setup net₀ tills words₀ keys prices seen₀ waiting₀ rings₀ rules₀ blocks) (remaining setup tills m 0))
+            × (plus (counts_of n) (tally (booked (opening_at (lend_serve L setup net₀ tills words₀ keys prices seen₀ waiting₀ rings₀ rules₀ blocks)) (as_message m)
+            (live (sizes_at setup) (lend_serve L setup net' tills words' keys prices seen' waiting' rings' rules' blocks)) (remaining setup tills m (to + 1)))) ≡
+            tally (booked (opening_at (lend_serve L setup net₀ tills words₀ keys prices seen₀ waiting₀ rings₀ rules₀ blocks)) (as_message m)
+            (live (sizes_at setup) (lend_serve L setup net₀ tills words₀ keys prices seen₀ waiting₀ rings₀ rules₀ blocks)) (remaining setup tills m 0)))
         go L true e q k =
             let T = lend_serve L setup net tills words keys prices seen waiting rings rules blocks in
             let o : Opening = opening_at T in
             let s : Live = live (sizes_at setup) T in
             let ts : List ℕ = remaining setup tills m (to + 1) in
             let r : remaining setup tills m to ≡ to ∷ ts = rest_on (λ t. selects_at tills m.scope m.from t) (sizes_at setup).tills to b e in
-            let p : live (sizes_at setup) (offered_t o (as_message m) T to) ≡ offered o (as_message m) s to = live_after_lem L setup net tills words keys prices seen waiting rings rules blocks m to F R G b e class in (
+            let p : live (sizes_at setup) (offered_t o (as_message m) T to) ≡ offered o (as_message m) s to =
+            live_after_lem L setup net tills words keys prices seen waiting rings rules blocks m to F R G b e class in (
               ap (λ (x : Tables). accept_t o (as_message m) x ts) q ∙ ap (accept_t o (as_message m) T) (sym r) ∙ (d L).0,
               (λ j. plus (k j) (tally (booked o (as_message m) ((ap (live (sizes_at setup)) q ∙ p) j) ts)))
                   ∙ plus_add (fate_of o (as_message m) s to) (counts_of c) (tally (booked o (as_message m) (offered o (as_message m) s to) ts))

@@ -8,30 +8,12 @@ ghost use Rattle.call_offer.specs.Needed.{Fixed, Ranged};
 ghost use Rattle.call_schedule.specs.Writing.{counts_of};
 ghost use Rattle.call_recipients.specs.Turning.{AdmittedFrom, Turned, Served};
 
+pub use call_offer::FixedTables;
 use call_offer::Outgoing;
 use call_schedule::Counts;
 
-// The tables that an accept goes by and leaves alone. Those that it writes stay parameters: lent out of a struct, each would take a lifetime of its own,
-// and what is read of one before it is written is then lost to the proof.
-#[derive(Clone, Copy)]
-pub struct FixedTables<'a> {
-    pub setup: &'a [u64],
-    pub tills: &'a [u64],
-    pub keys: &'a [u32],
-    pub prices: &'a [u64],
-    pub blocks: &'a [u64],
-}
-
-// The counts of no recipient.
-pub const NONE: Counts = Counts {
-    sent: 0,
-    deduplicated: 0,
-    partition: 0,
-    loss: 0,
-    fault: 0,
-};
-
 // One till: where it is selected, the message is offered to it, and it is counted under what became of it.
+// The written tables stay parameters, here and in `serve`: `call_offer::FixedTables` says why.
 fn turn(
     fixed: FixedTables,
     net: &mut [u64],
@@ -55,35 +37,12 @@ fn turn(
         net.new words.new seen.new waiting.new rings.new rules.new
         m to c result }
 {
+    let setup = fixed.setup;
     if !call_offer::selects(fixed.tills, m.scope, m.from, to) {
         return c;
     }
-    let r = call_offer::consider(
-        fixed.setup,
-        net,
-        fixed.tills,
-        words,
-        fixed.keys,
-        fixed.prices,
-        seen,
-        rings,
-        rules,
-        fixed.blocks,
-        m,
-        to,
-    );
-    call_schedule::apply(
-        fixed.setup,
-        net,
-        words,
-        seen,
-        waiting,
-        rings,
-        rules,
-        m,
-        to,
-        r,
-    );
+    let r = call_offer::consider(fixed, net, words, seen, rings, rules, m, to);
+    call_schedule::apply(setup, net, words, seen, waiting, rings, rules, m, to, r);
     call_schedule::count(c, r)
 }
 
@@ -109,7 +68,7 @@ pub fn serve(
         m result }
 {
     let n = fixed.setup[ask_tables::TILLS] as usize;
-    let mut c = NONE;
+    let mut c = Counts::default();
     for to in 0..n {
         c = turn(fixed, net, words, seen, waiting, rings, rules, m, to, c);
     }

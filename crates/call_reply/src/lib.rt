@@ -1,5 +1,5 @@
 // The replies of the calls that answer at most one number, as C gets them: first the number of the question that refused the call, 0 where none did.
-// A call itself answers a Result, and each kind of Result has one conversion here.
+// A call itself answers a Result, and each kind of Result has one conversion here: it alone writes numbers, for C.
 #![tactic(auto)]
 
 ghost use Rattle.std.specs.Prelude.{◌≡◌};
@@ -7,6 +7,7 @@ ghost use Rattle.call_reply.specs.Reply.{refused_by, answered_by, done_reply, va
 
 use ask_refusal::Refusal;
 
+// The reply of a call that answers nothing else.
 #[repr(C)]
 #[derive(Clone, Copy)]
 pub struct Done {
@@ -15,23 +16,24 @@ pub struct Done {
 
 // A number, and whether there is one (1 or 0).
 #[repr(C)]
-#[derive(Clone, Copy)]
+#[derive(Clone, Copy, Default)]
 pub struct Value {
     pub number: u64,
     pub found: u64,
     pub value: u64,
 }
 
+// The reply of a call that a question refused: its number, and zeros.
 pub fn refused(number: u64) -> Value
     ensures { result ≡ refused_by number }
 {
     Value {
         number,
-        found: 0,
-        value: 0,
+        ..Value::default()
     }
 }
 
+// The reply of a call that no question refused and that has a number to give.
 pub fn answered(value: u64) -> Value
     ensures { result ≡ answered_by value }
 {
@@ -71,7 +73,7 @@ impl From<Result<u64, Refusal>> for Value {
 impl From<Result<Option<u64>, Refusal>> for Value {
     ghost from_gives = { λ r v. v ≡ found_reply r };
 
-    // A number that there may be; without one all fields are 0, as of a refusal whose number is 0.
+    // A number that there may be. Where there is none, no question refused and nothing is found: three zeros, which are `refused(0)`.
     fn from(outcome: Result<Option<u64>, Refusal>) -> Value {
         match outcome {
             Ok(Some(value)) => answered(value),

@@ -73,7 +73,8 @@ module _ (c : Call) (s n r : List ℕ) (N : ℕ) (same : (T : Tables) → N ≡ 
   refused_by_lem v q h = λ T. (q ∙ reply.value_refused (lend_rules T s n r) c N (same T) h, reply.stays (lend_rules T s n r) c N (same T) h)
 
   changed_by : N ≡ 0 → (f v : ℕ) (n' r' : List ℕ) → ((T : Tables) → answer_of (opening_at (lend_rules T s n r)) (live (sizes_at s) (lend_rules T s n r)) c ≡ number f v)
-      → ((T : Tables) → step_t (opening_at (lend_rules T s n r)) (lend_rules T s n r) c ≡ lend_rules T s n' r') → (w : Value) → w ≡ record { number = 0; found = f; value = v } → Changes s n r n' r' c w
+      → ((T : Tables) → step_t (opening_at (lend_rules T s n r)) (lend_rules T s n r) c ≡ lend_rules T s n' r') → (w : Value) →
+      w ≡ record { number = 0; found = f; value = v } → Changes s n r n' r' c w
   unfolding Changes
   changed_by h f v n' r' answer step w w-is = λ T. (w-is ∙ reply.value (lend_rules T s n r) c N (same T) h f v (answer T), reply.steps (lend_rules T s n r) c N (same T) h ∙ step T)
 
@@ -91,7 +92,8 @@ module _ (s n r card : List ℕ) (N : ℕ) (e : N ≡ card_number s n r card) wh
   pub install_refused : (v : Value) → v ≡ refused_by N → (N ≡ 0 → ⊥) → Changes s n r n r (install card) v
   install_refused v q h = refused_by_lem (install card) s n r N (λ T. e ∙ number_install T s n r card) v q h
 
-  pub install_done : N ≡ 0 → (k ever : ℕ) (n' r' : List ℕ) → k ≡ cell n rules_at → ever ≡ cell n installed_at → r' ≡ install_table r k ever card → n' ≡ set (set n rules_at (k + 1)) installed_at (ever + 1)
+  pub install_done : N ≡ 0 → (k ever : ℕ) (n' r' : List ℕ) → k ≡ cell n rules_at → ever ≡ cell n installed_at → r' ≡ install_table r k ever card →
+      n' ≡ set (set n rules_at (k + 1)) installed_at (ever + 1)
       → (w : Value) → w ≡ answered_by ever → Changes s n r n' r' (install card) w
   install_done h k ever n' r' k-is ever-is p q w w-is =
       changed_by (install card) s n r N (λ T. e ∙ number_install T s n r card) h 1 ever n' r' (λ T. ap (number 1) (sym ever-is)) (λ T. rw (p, q, add-one k, add-one ever, k-is, ever-is)) w w-is

@@ -1,7 +1,6 @@
 // The rule calls on the network's tables: install, remove, fired, decide.
 #![tactic(auto)]
 
-ghost use Rattle.std.specs.Prelude.{◌≡◌};
 ghost use Rattle.call_reply.specs.Reply.{value_reply, found_reply, test_reply};
 ghost use Rattle.call_rule.specs.Calls.{DoesInstall, DoesRemove, DoesFired, DoesDecide};
 

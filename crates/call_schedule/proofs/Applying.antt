@@ -154,6 +154,7 @@ module _ (o : Opening) (m : accept.Message) (T : Tables) (t : ℕ) where
 -- ---- The counts
 
 pub counted_as_lem : (c n : Counts) (r v : Offer) → r ≡ v → n.sent ≡ (add (fate_in v) (counts_of c)).sent → n.deduplicated ≡ (add (fate_in v) (counts_of c)).deduplicated
-    → n.partition ≡ (add (fate_in v) (counts_of c)).partition → n.loss ≡ (add (fate_in v) (counts_of c)).loss → n.fault ≡ (add (fate_in v) (counts_of c)).fault → counts_of n ≡ add (fate_in r) (counts_of c)
+    → n.partition ≡ (add (fate_in v) (counts_of c)).partition → n.loss ≡ (add (fate_in v) (counts_of c)).loss → n.fault ≡ (add (fate_in v) (counts_of c)).fault →
+    counts_of n ≡ add (fate_in r) (counts_of c)
 counted_as_lem c n r v e p q u w y =
     (λ j. record { sent = p j; deduplicated = q j; partition = u j; loss = w j; fault = y j }) ∙ ap (λ (k : Offer). add (fate_in k) (counts_of c)) (sym e)

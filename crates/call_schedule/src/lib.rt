@@ -1,12 +1,12 @@
 // What an offer writes: word counts, the fired count, the mark, the copies and the ring. The decision is `call_offer`'s.
 #![tactic(auto)]
 
-ghost use Rattle.std.specs.Prelude.{◌≡◌, IfSome, Some, ◌+◌, ◌*◌, ◌<◌, ◌≤◌, length};
+ghost use Rattle.std.specs.Prelude.{◌≡◌, IfSome, Some, ◌<◌, ◌≤◌};
 ghost use Rattle.link_latency.specs.Latency.{longest};
-ghost use Rattle.spec_network.specs.Opening.{latest_now, most_types, link};
-ghost use Rattle.spec_network.specs.Accept.{copy_with, original, add, total};
-ghost use Rattle.spec_network.specs.Tables.{cell, sizes_at, settings_at, setup_width};
-ghost use Rattle.call_offer.specs.Needed.{Ranged, RingsHeld, SeenHeld};
+ghost use Rattle.spec_network.specs.Opening.{latest_now, link};
+ghost use Rattle.spec_network.specs.Accept.{copy_with, add, total};
+ghost use Rattle.spec_network.specs.Tables.{cell, sizes_at, settings_at};
+ghost use Rattle.call_offer.specs.Needed.{Ringed, SeenHeld};
 ghost use Rattle.call_offer.specs.Offering.{as_message};
 ghost use Rattle.call_schedule.specs.Writing.{marked_seen, pushed_net, pushed_waiting, remembered, flag_in, id_in, echo_in, Room, Sendable, Applicable, Sends, Applies, fate_in, counts_of};
 
@@ -16,7 +16,7 @@ use table_rings::Entry;
 use table_waiting::Copy;
 
 // How many recipients went under each of the five.
-#[derive(Clone, Copy)]
+#[derive(Clone, Copy, Default)]
 pub struct Counts {
     pub sent: u64,
     pub deduplicated: u64,
@@ -25,13 +25,13 @@ pub struct Counts {
     pub fault: u64,
 }
 
-// The id among the till's marks, and their number.
+// The id among the till's marks, and their number. What it asks stays asked, as in `call_offer::marked`.
 fn mark(setup: &[u64], seen: &mut [u64], to: usize, id: u64)
-    requires { (length setup.now ≡ setup_width) × SeenHeld (sizes_at setup.now) seen.old × (to < (sizes_at setup.now).tills) × (cell seen.old to < (sizes_at setup.now).seen_slots) }
+    requires { SeenHeld (sizes_at setup.now) seen.old × (to < (sizes_at setup.now).tills) × (cell seen.old to < (sizes_at setup.now).seen_slots) }
     ensures { seen.new ≡ marked_seen (sizes_at setup.now) seen.old to id }
 {
     let n = seen[to];
-    let start = setup[ask_tables::TILLS] as usize + to * (setup[ask_tables::SEEN_SLOTS] as usize);
+    let start = ask_tables::ids_start(setup, to);
     table_marks::insert(seen, start, n as usize, id);
     seen[to] = n + 1;
 }
@@ -70,17 +70,10 @@ fn copy_with(m: Outgoing, to: usize, e: Entry, latency: u64, id: Option<u64>) ->
     Copy {
         delivery,
         sequence: 0,
-        original: id.is_some() as u64,
+        original: u64::from(id.is_some()),
         id: id.unwrap_or(0),
         tag: e.tag,
     }
-}
-
-fn original(m: Outgoing, to: usize, latency: u64) -> Copy
-    requires { (m.now ≤ latest_now) × (latency ≤ longest) }
-    ensures { result ≡ original (as_message m) to 0 latency }
-{
-    copy_with(m, to, m.entry(), latency, Some(m.id))
 }
 
 // The copy of an echo, which carries no id.
@@ -96,7 +89,7 @@ fn echo(m: Outgoing, to: usize, e: Option<Echo>) -> Option<Copy>
 
 // The ring takes the message, where an echo rate is above 0.
 fn remember(setup: &[u64], rings: &mut [u64], m: Outgoing)
-    requires { (length setup.now ≡ setup_width) × RingsHeld (sizes_at setup.now) rings.old × Ranged setup.now m × ((sizes_at setup.now).types ≤ most_types) }
+    requires { Ringed setup.now rings.old m }
     ensures { rings.new ≡ remembered (settings_at setup.now) rings.old (as_message m) }
 {
     if !call_offer::echoing(setup) {
@@ -107,6 +100,7 @@ fn remember(setup: &[u64], rings: &mut [u64], m: Outgoing)
     table_rings::push(rings, many, ring, m.entry());
 }
 
+// The written tables stay parameters, here and in `apply`: `call_offer::FixedTables` says why.
 // Sent: word counts, the mark, the original, its echoes, the ring.
 fn send(
     setup: &[u64],
@@ -125,7 +119,7 @@ fn send(
     words[m.from as usize * ask_tables::LINK_ROW + to] = x.echoes.words;
     net[ask_tables::FAULT_WORDS] = x.fault;
     mark(setup, seen, to, m.id);
-    let first = original(m, to, x.latency);
+    let first = copy_with(m, to, m.entry(), x.latency, Some(m.id));
     push(net, waiting, Some(first));
     push(net, waiting, echo(m, to, x.echoes.duplicate));
     push(net, waiting, echo(m, to, x.echoes.replay));

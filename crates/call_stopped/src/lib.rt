@@ -7,6 +7,8 @@ ghost use Rattle.spec_network.specs.Tables.{till_form};
 ghost use Rattle.call_stopped.specs.Stopped.{up_at, stopped_by};
 
 // Is the till up?
+// `t * width < length`, here and below: by `ask_tables::cell` the product would still need a bound, or it could overflow, so nothing less would be asked.
+// Nor by `Till::get`: it asks for a whole row, so that `stopped` would ask more of its callers than the row's first word.
 fn is_up(tills: &[u64], t: usize) -> bool
     requires { t * till_form.width < length tills.now }
     ensures { result ≡ up_at tills.now t }
@@ -14,7 +16,7 @@ fn is_up(tills: &[u64], t: usize) -> bool
     tills[t * ask_tables::TILL_WIDTH] != 0
 }
 
-// Stopped by an end that is down, or by one of the windows at that time.
+// Stopped by an end that is down, or by one of the windows at that time. `windows` counts rows in use of a table as long as its slots, as fault_blocks takes them.
 pub fn stopped(
     tills: &[u64],
     blocks: &[u64],

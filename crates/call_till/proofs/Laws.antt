@@ -6,8 +6,7 @@ use Prim.Native.Nat.{ℕ, ◌+◌, ◌*◌, ◌≤◌, ◌<◌}
 use native.Mathlib.Nat.{add-zero, add-mul, mul-le-mul, mul-le-mul_right}
 use native.Mathlib.Omega.{arith}
 use lib.Dec.{ltb}
-use lib.ListN.{length, get_or, take, drop, take-append-drop}
-use lib.Seq.{get_or-drop}
+use lib.ListN.{length, take, drop, take-append-drop}
 use borrow.Author.Tests.{leb-true, ltb-true}
 use Rattle.table_shift.specs.Shift.{put_words}
 use Rattle.spec_network.specs.Opening.{most_tills, most_slots}
@@ -93,7 +92,3 @@ marks_room s m places t h =
 pub put_none : (ws : List ℕ) (b : ℕ) → put_words ws b [] ≡ ws
 unfolding put_words
 put_none ws b = ap (λ (k : ℕ). take b ws ++ drop k ws) (add-zero b) ∙ take-append-drop b ws
-
--- a till's words, by their places
-pub words_at : (a : List ℕ) (b k : ℕ) → get_or (drop b a) k 0 ≡ get_or a (b + k) 0
-words_at a b k = get_or-drop b a k 0

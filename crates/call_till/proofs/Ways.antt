@@ -2,8 +2,7 @@
 use mathlib.Core.Path.{◌≡◌, refl, sym, ap, ◌∙◌}
 use mathlib.Core.Bool.{Bool, true, false, not}
 use mathlib.Core.List.{List, [], ◌∷◌, ◌++◌}
-use Prim.Native.Nat.{ℕ, ◌+◌, ◌*◌, ◌<◌}
-use native.Mathlib.Nat.{add-zero}
+use Prim.Native.Nat.{ℕ, ◌*◌, ◌<◌}
 use native.Mathlib.Omega.{arith}
 use lib.Dec.{eqb}
 use lib.ListN.{length, get_or, set, take, drop, length-drop}
@@ -22,13 +21,15 @@ use Rattle.spec_network.specs.Tables.{Tables, cell, sizes_at, live, till_form, i
 use Rattle.spec_network.specs.Real.{opening_at}
 use Rattle.spec_network.specs.Lending.{lend_tills, lend_seen, lend_tills_seen}
 use Rattle.spec_network.specs.Writes.{Reply, call_reply, step_t, output_of}
+use Rattle.ask_tables.specs.declared.Till as row
+use Rattle.ask_tables.specs.TillRow.{form, live_till}
 use Rattle.ask_tables.specs.Held.{setup_held, tills_held, seen_held}
 use Rattle.call_reply.specs.declared.Value.{Value}
 use Rattle.call_reply.specs.Reply.{refused_by, answered_by}
 use Rattle.call_reply.proofs.Laws as reply
 use Rattle.call_till.specs.Calls.{DoesTakeDown, Changes, DoesIsDown, DoesMarksOf, marks_reply}
 use Rattle.ask_till.specs.Questions.{tills_lent, seen_lent, both_lent, down_number, read_number, up_number, handlers_number, marks_number}
-use Rattle.call_till.proofs.Laws.{Room, marks_room, put_none, words_at}
+use Rattle.call_till.proofs.Laws.{Room, marks_room, put_none}
 
 -- ---- take_down
 
@@ -73,10 +74,9 @@ module _ (s a : List ℕ) (t shards r : ℕ) (e : r ≡ up_number s a t shards) 
   up_done h a' p = changed_by (bring_up t shards) s a r up_number_lem h a' (λ T. ap (lend_tills T s) (sym p))
 
 -- the row of a till that exists
-till_row_lem : (s a : List ℕ) (t : ℕ) → t < (sizes_at s).tills
-    → get_or (rows_of till_form a (sizes_at s).tills) t down_till
-    ≡ record { up = get_or a (t * till_form.width) 0; gossip = get_or a (t * till_form.width + 1) 0; host = get_or a (t * till_form.width + 2) 0; shards = get_or a (t * till_form.width + 3) 0 }
-till_row_lem s a t h = let b = t * till_form.width in row_at till_form a (sizes_at s).tills t down_till h ∙ simp (words_at, add-zero)
+till_row_lem : (s a : List ℕ) (t : ℕ) → t < (sizes_at s).tills → (x : row.Till) → x ≡ form.read (drop (t * till_form.width) a) →
+    get_or (rows_of till_form a (sizes_at s).tills) t down_till ≡ live_till x
+till_row_lem s a t h x e = row_at till_form a (sizes_at s).tills t down_till h ∙ ap live_till (sym e)
 
 module _ (s a : List ℕ) (t gossip host r : ℕ) (e : r ≡ handlers_number s a t gossip host) where
   handlers_number_lem : (T : Tables) → r ≡ (call_reply (lend_tills T s a) (handlers t gossip host)).number
@@ -86,12 +86,11 @@ module _ (s a : List ℕ) (t gossip host r : ℕ) (e : r ≡ handlers_number s a
   pub handlers_refused : (r ≡ 0 → ⊥) → Changes s a a (handlers t gossip host) (record { number = r })
   handlers_refused h = refused_by_lem (handlers t gossip host) s a r handlers_number_lem h
 
-  pub handlers_done : r ≡ 0 → Room s a t → (a' : List ℕ)
-      → a' ≡ put_words a (t * till_form.width) (get_or a (t * till_form.width) 0 ∷ gossip ∷ host ∷ get_or a (t * till_form.width + 3) 0 ∷ [])
-      → Changes s a a' (handlers t gossip host) (record { number = 0 })
-  handlers_done h k a' p =
+  pub handlers_done : r ≡ 0 → Room s a t → (x : row.Till) → x ≡ form.read (drop (t * till_form.width) a) → (a' : List ℕ)
+      → a' ≡ put_words a (t * till_form.width) (x.up ∷ gossip ∷ host ∷ x.shards ∷ []) → Changes s a a' (handlers t gossip host) (record { number = 0 })
+  handlers_done h k x e a' p =
       changed_by (handlers t gossip host) s a r handlers_number_lem h a'
-      (λ T. ap (λ (x : Till). lend_tills T s (put_words a (t * till_form.width) (till_form.words (with_handlers x gossip host)))) (till_row_lem s a t k.there) ∙ ap (lend_tills T s) (sym p))
+      (λ T. ap (λ (x : Till). lend_tills T s (put_words a (t * till_form.width) (till_form.words (with_handlers x gossip host)))) (till_row_lem s a t k.there x e) ∙ ap (lend_tills T s) (sym p))
 
 -- ---- is_down
 
@@ -109,12 +108,12 @@ module _ (s a : List ℕ) (t r : ℕ) (e : r ≡ read_number s a t) where
   ask_refused v q h = λ T.
       (q ∙ reply.value_refused (lend_tills T s a) (reading (is_down t)) r (ask_number T) h, reply.stays (lend_tills T s a) (reading (is_down t)) r (ask_number T) h)
 
-  pub ask_done : r ≡ 0 → Room s a t → DoesIsDown s a t (answered_by (bit (eqb (get_or a (t * till_form.width) 0) 0)))
+  pub ask_done : r ≡ 0 → Room s a t → (x : row.Till) → x ≡ form.read (drop (t * till_form.width) a) → DoesIsDown s a t (answered_by (bit (eqb x.up 0)))
   unfolding DoesIsDown
-  ask_done h k = λ T.
-      let down : Bool = eqb (get_or a (t * till_form.width) 0) 0 in
+  ask_done h k x q = λ T.
+      let down : Bool = eqb x.up 0 in
       let here : answer_of (opening_at (lend_tills T s a)) (live (sizes_at s) (lend_tills T s a)) (reading (is_down t)) ≡ number 1 (bit down)
-      = ap (λ (x : Till). number 1 (bit (not (not (eqb x.up 0))))) (till_row_lem s a t k.there) ∙ ap (λ (b : Bool). number 1 (bit b)) (twice down) in
+      = ap (λ (x : Till). number 1 (bit (not (not (eqb x.up 0))))) (till_row_lem s a t k.there x q) ∙ ap (λ (b : Bool). number 1 (bit b)) (twice down) in
       (reply.value (lend_tills T s a) (reading (is_down t)) r (ask_number T) h 1 (bit down) here, reply.steps (lend_tills T s a) (reading (is_down t)) r (ask_number T) h)
 
 -- ---- marks_of

@@ -6,6 +6,8 @@ ghost use Rattle.call_reply.specs.Reply.{done_reply, test_reply};
 ghost use Rattle.call_till.specs.Calls.{marks_answer, DoesTakeDown, DoesBringUp, DoesSetHandlers, DoesIsDown, DoesMarksOf};
 
 use ask_refusal::Refusal;
+use ask_tables::Till;
+use table_rows::Row;
 
 // How many marks a till has, as C gets it.
 #[repr(C)]
@@ -18,7 +20,7 @@ pub struct Marks {
 impl From<Result<u64, Refusal>> for Marks {
     ghost from_gives = { λ r m. m ≡ marks_answer r };
 
-    // The count, or the number of the question that refused.
+    // C gets a number, 0 where no question refused; a refusal answers no marks.
     fn from(outcome: Result<u64, Refusal>) -> Marks {
         match outcome {
             Ok(marks) => Marks {
@@ -73,9 +75,13 @@ pub fn set_handlers(
 {
     ask_till::handlers(setup, tills, t, gossip, host)?;
     let b = t as usize * ask_tables::TILL_WIDTH;
-    let up = tills[b];
-    let shards = tills[b + 3];
-    ask_tables::put_till(tills, b, up, gossip, host, shards);
+    let till = Till::get(tills, b);
+    Till {
+        gossip,
+        host,
+        ..till
+    }
+    .put(tills, b);
     Ok(())
 }
 
@@ -86,7 +92,8 @@ pub fn is_down(setup: &[u64], tills: &[u64], t: u64) -> Result<bool, Refusal>
         t (test_reply result) }
 {
     ask_till::read(setup, tills, t)?;
-    Ok(tills[t as usize * ask_tables::TILL_WIDTH] == 0)
+    let till = Till::get(tills, t as usize * ask_tables::TILL_WIDTH);
+    Ok(till.up == 0)
 }
 
 // The till's marks, rising, at the front of the output: how many they are.
@@ -98,8 +105,7 @@ pub fn marks_of(setup: &[u64], seen: &[u64], t: u64, out: &mut [u64]) -> Result<
 {
     ask_till::marks(setup, seen, out.len() as u64, t)?;
     let count = seen[t as usize];
-    let start = setup[ask_tables::TILLS] as usize
-        + t as usize * setup[ask_tables::SEEN_SLOTS] as usize;
+    let start = ask_tables::ids_start(setup, t as usize);
     ask_tables::copy_front(seen, start, count as usize, out);
     table_marks::list(out, count as usize);
     Ok(count)

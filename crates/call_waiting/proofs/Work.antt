@@ -1,8 +1,6 @@
 -- The loops: originals counted by their till, words copied, and the first copy's time. Assumes nothing.
 use mathlib.Core.Path.{◌≡◌, refl, sym, ap, ◌∙◌}
-use mathlib.Core.Bool.{Bool, true, false}
 use mathlib.Core.List.{List}
-use mir.Val.{bool_byte}
 use Prim.Native.Nat.{ℕ, zero, suc, ◌+◌, ◌*◌, ◌-◌, ◌≤◌, ◌<◌}
 use native.Mathlib.Nat.{zero-add, add-zero, add_assoc}
 use native.Mathlib.Omega.{arith}
@@ -15,16 +13,6 @@ use Rattle.spec_network.specs.Lists.{bit, count}
 use Rattle.spec_network.specs.Live.{moves_to}
 use Rattle.spec_network.specs.Calls.{number, first_time}
 use Rattle.call_waiting.specs.Call.{transit_of}
-
--- ---- A test as a number
-
-pub byte_bit : (b : Bool) → bool_byte b ≡ bit b
-byte_bit true = refl
-byte_bit false = refl
-
-pub byte_small : (b : Bool) → bool_byte b ≤ 1
-byte_small true = omega arith
-byte_small false = omega arith
 
 -- ---- Originals to a till: k of the first i copies, and those that are left
 

@@ -23,7 +23,7 @@ pub struct Copied {
 impl From<Result<u64, Refusal>> for Copied {
     ghost from_gives = { λ r c. c ≡ copied_reply r };
 
-    // A refusal answers its number, and no copies.
+    // C gets a number, 0 where no question refused; a refusal answers no copies.
     fn from(outcome: Result<u64, Refusal>) -> Copied {
         match outcome {
             Ok(copies) => Copied { number: 0, copies },
@@ -45,7 +45,7 @@ fn lent(setup: &[u64], net: &[u64], waiting: &[u64]) -> bool
         && ask_rows::waiting_held(setup, net, waiting)
 }
 
-// Questions 1 and 4.
+// Questions 1 and 4. Like those of `ask_till` but for the tables that question 1 is asked of: one function would take that question as a closure.
 fn transit_refusal(setup: &[u64], net: &[u64], waiting: &[u64], t: u64) -> Result<(), Refusal>
     ensures { asked result ≡ lent_number setup.now net.now waiting.now (till_number setup.now t) }
 {
@@ -78,7 +78,7 @@ fn moves(c: Copy, t: u64) -> bool
     c.original != 0 && c.delivery.to == t
 }
 
-// How many of the first n copies are originals to the till?
+// How many of the first n copies are originals to the till? n counts rows, as in `table_waiting`; a slice of words would be no plainer.
 fn count_to(waiting: &[u64], n: usize, t: u64) -> u64
     requires { n * width ≤ length waiting.now }
     ensures { result ≡ transit_of t waiting.now n }
@@ -86,7 +86,9 @@ fn count_to(waiting: &[u64], n: usize, t: u64) -> u64
     let mut k: u64 = 0;
     for i in 0..n {
         let c = Copy::get(waiting, i * table_waiting::WIDTH);
-        k += u64::from(moves(c, t));
+        if moves(c, t) {
+            k += 1;
+        }
     }
     k
 }

@@ -1,9 +1,9 @@
-// Accept as a C function.
+// Accept as a C function: C lends each table by itself.
 ghost use Rattle.call_accept.specs.Accepting.{DoesAccept, call_of};
 
 use call_accept::{Accepted, Entry, FixedTables};
 
-// Takes an entry of a till's outbox.
+// Takes an entry of a till's outbox. Over 40 lines: the C interface has twenty parameters.
 #[unsafe(no_mangle)]
 pub extern "C" fn gossip_accept(
     setup: &[u64],

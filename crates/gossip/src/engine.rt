@@ -1,4 +1,4 @@
-// The block and rule calls as C functions.
+// The block and rule calls as C functions. `gossip_block` and `gossip_unblock` are alike because C calls each by its name.
 ghost use Rattle.call_block.specs.Calls.{DoesBlock, DoesBlockDuring, DoesIsBlocked, DoesUnblock};
 ghost use Rattle.call_rule.specs.Calls.{DoesDecide, DoesFired, DoesInstall, DoesRemove};
 

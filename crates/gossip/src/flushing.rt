@@ -1,4 +1,4 @@
-// Flush as a C function.
+// Flush as a C function: C lends each table by itself.
 ghost use Rattle.call_flush.specs.Call.{DoesFlush};
 
 use call_flush::Flushed;

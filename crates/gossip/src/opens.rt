@@ -1,4 +1,4 @@
-// The opening as C functions.
+// The opening as C functions: C lends each table by itself.
 ghost use Rattle.std.specs.Prelude.{◌≡◌};
 ghost use Rattle.call_open.specs.Opens.{DoesOpen};
 ghost use Rattle.ask_opening.specs.Given.{settings_of};
@@ -8,7 +8,7 @@ ghost use Rattle.ask_opening.specs.Given.{sized};
 use ask_opening::{NetworkConfig, NetworkSizes, RegionPlan, TableSizes};
 use call_reply::Done;
 
-// Opens a network in the lent tables, or refuses with 1, 2, 3 or 5.
+// Opens a network in the lent tables, or refuses with 1, 2, 3 or 5. Over 40 lines: the C interface has nineteen parameters, and the clause names each table twice.
 #[unsafe(no_mangle)]
 pub extern "C" fn gossip_open(
     config: NetworkConfig,

@@ -20,8 +20,21 @@ overflow_add-c c = omega (arith, byte_small c.selects.result, c.from-c.ensures, 
 pub loop-to-preserved : goal.loop-to-preserved
 loop-to-preserved c = (
   omega (arith, byte_small c.selects.result, c.from-c.ensures, c.loop-to.invariant.0),
-  omega (arith, c.loop-to.invariant.1, count_on (λ t. selects_at c.args.tills.now c.args.m.scope c.args.m.from t) (λ t. true) (sizes_at c.args.setup.now).tills c.loop-to.to c.from-c.result c.selects.result (omega (arith, c.loop-to-test.true)) c.selects.ensures c.from-c.ensures),
+  omega (
+    arith,
+    c.loop-to.invariant.1,
+    count_on (λ t. selects_at c.args.tills.now c.args.m.scope c.args.m.from t) (λ t. true) (sizes_at c.args.setup.now).tills
+        c.loop-to.to c.from-c.result c.selects.result (omega (arith, c.loop-to-test.true)) c.selects.ensures c.from-c.ensures,
+  ),
 )
 
 pub returns : goal.returns
-returns c = record { is = omega (arith, c.loop-to.invariant.1, count_end (λ t. selects_at c.args.tills.now c.args.m.scope c.args.m.from t) (λ t. true) (sizes_at c.args.setup.now).tills c.loop-to.to (omega (arith, c.loop-to-test.false))); within = omega (arith, c.loop-to.invariant.0, c.requires.few) }
+returns c = record {
+  is = omega (
+    arith,
+    c.loop-to.invariant.1,
+    count_end (λ t. selects_at c.args.tills.now c.args.m.scope c.args.m.from t) (λ t. true) (sizes_at c.args.setup.now).tills c.loop-to.to
+        (omega (arith, c.loop-to-test.false)),
+  );
+  within = omega (arith, c.loop-to.invariant.0, c.requires.few);
+}

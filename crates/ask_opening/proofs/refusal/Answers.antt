@@ -9,7 +9,9 @@ use Rattle.ask_opening.proofs.refusal.Goals as goal
 
 pub returns-then-not-tables_fit : goal.returns-then-not-tables_fit
 unfolding number_of
-returns-then-not-tables_fit c = let a = c.args in no _ _ _ 1 (first_fails (table_tests (lengths_of (sized a.sizes a.plan)) a.lengths) (given_tests a.sizes.tills (key_words a.key.now) a.masks.now) (sym c.tables_fit.ensures ∙ c.if-not-tables_fit.true)) refl
+returns-then-not-tables_fit c = let a =
+    c.args in no _ _ _ 1 (first_fails (table_tests (lengths_of (sized a.sizes a.plan)) a.lengths) (given_tests a.sizes.tills (key_words a.key.now) a.masks.now)
+    (sym c.tables_fit.ensures ∙ c.if-not-tables_fit.true)) refl
 
 pub returns-then-not-given_fit : goal.returns-then-not-given_fit
 unfolding number_of

@@ -2,29 +2,15 @@ use Rattle.table_scan.specs.declared.Limits.{Limits}
 use Rattle.spec_network.specs.Tables.{sizes_at}
 use Rattle.table_scan.specs.Scan.{log_near}
 use Rattle.ask_rows.proofs.Tests.{log_near_lem}
-use Rattle.ask_tables.proofs.Passed.{setup_says_lem}
 use Rattle.ask_tables.specs.Held.{log_held}
 use Rattle.ask_tables.proofs.Ladder.{on, off}
 use borrow.Author.Tests.{eq-eqb, ne_eqb}
-use native.Mathlib.Omega.{arith}
 use mathlib.Core.Path.{ap, ◌∙◌}
 use Rattle.ask_rows.proofs.log_held.Goals as goal
-
-pub bounds-setup-6 : goal.bounds-setup-6
-bounds-setup-6 c = let p = setup_says_lem c.args.setup.now c.requires in omega (arith, p)
-
-pub overflow_mul-slots : goal.overflow_mul-slots
-overflow_mul-slots c = let p = setup_says_lem c.args.setup.now c.requires in omega (arith, p)
-
-pub overflow_add-slots : goal.overflow_add-slots
-overflow_add-slots c = let p = setup_says_lem c.args.setup.now c.requires in omega (arith, p)
 
 pub returns-then-log-slots : goal.returns-then-log-slots
 unfolding log_held
 returns-then-log-slots c = off _ _ (ne_eqb _ _ c.if-log-slots.true)
-
-pub log_near-requires : goal.log_near-requires
-log_near-requires c = let p = setup_says_lem c.args.setup.now c.requires in (omega (arith, p), omega (arith, p))
 
 pub returns : goal.returns
 unfolding log_held

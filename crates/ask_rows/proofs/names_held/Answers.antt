@@ -1,10 +1,8 @@
 use Rattle.spec_network.specs.Tables.{sizes_at}
 use Rattle.ask_rows.proofs.Tests.{names_column, keys_column}
-use Rattle.ask_tables.proofs.Passed.{setup_says_lem}
 use Rattle.ask_tables.specs.Held.{names_held}
 use Rattle.ask_tables.proofs.Ladder.{on, off, last, is_no, is_yes}
 use borrow.Author.Tests.{eq-eqb, ne_eqb}
-use native.Mathlib.Omega.{arith}
 use mathlib.Core.Path.{◌∙◌}
 use Rattle.ask_rows.proofs.names_held.Goals as goal
 
@@ -12,22 +10,10 @@ pub returns-then-names-ne-NAMES_WIDTH : goal.returns-then-names-ne-NAMES_WIDTH
 unfolding names_held
 returns-then-names-ne-NAMES_WIDTH c = off _ _ (ne_eqb _ _ c.if-names-ne-NAMES_WIDTH.true)
 
-pub bounds-setup-1 : goal.bounds-setup-1
-bounds-setup-1 c = let p = setup_says_lem c.args.setup.now c.requires in omega (arith, p)
-
-pub lengths_within-requires : goal.lengths_within-requires
-lengths_within-requires c = let p = setup_says_lem c.args.setup.now c.requires in (omega arith, omega (arith, p))
-
 pub returns-then-not-lengths_within : goal.returns-then-not-lengths_within
 unfolding names_held
 returns-then-not-lengths_within c = on _ _ _ (eq-eqb _ _ c.if-names-ne-NAMES_WIDTH.false) (last _ _ (off _ _ (is_no _ _
     (c.lengths_within.ensures ∙ names_column c.args.names.now (sizes_at c.args.setup.now).types) c.if-not-lengths_within.true)))
-
-pub bounds-setup-3 : goal.bounds-setup-3
-bounds-setup-3 c = let p = setup_says_lem c.args.setup.now c.requires in omega (arith, p)
-
-pub lengths_within-requires-2 : goal.lengths_within-requires-2
-lengths_within-requires-2 c = let p = setup_says_lem c.args.setup.now c.requires in (omega arith, omega (arith, p))
 
 pub returns : goal.returns
 unfolding names_held

@@ -27,4 +27,6 @@ returns-then-not-links_admitted c = on _ _ _ (eq-eqb _ _ c.if-prices-pairs.false
 
 pub returns : goal.returns
 unfolding plan_held
-returns c = let a = c.args in on _ _ _ (eq-eqb _ _ c.if-prices-pairs.false) (on _ _ _ (is_yes _ _ c.links_admitted.ensures c.if-not-links_admitted.false) (c.column_within.ensures ∙ regions_column a.prices.now (link_width * (a.regions * a.regions)) a.tills a.regions c.requires.0))
+returns c = let a = c.args in on _ _ _ (eq-eqb _ _ c.if-prices-pairs.false)
+    (on _ _ _ (is_yes _ _ c.links_admitted.ensures c.if-not-links_admitted.false) (c.column_within.ensures ∙
+    regions_column a.prices.now (link_width * (a.regions * a.regions)) a.tills a.regions c.requires.0))

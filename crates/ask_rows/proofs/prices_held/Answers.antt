@@ -8,20 +8,16 @@ use Prim.Native.Nat.{ℕ}
 use mathlib.Core.Path.{ap, ◌∙◌}
 use Rattle.ask_rows.proofs.prices_held.Goals as goal
 
-pub bounds-setup-13 : goal.bounds-setup-13
-bounds-setup-13 c = let p = setup_says_lem c.args.setup.now c.requires in omega (arith, p)
-
 pub returns-then-setup-eq0 : goal.returns-then-setup-eq0
 returns-then-setup-eq0 c = no_plan c.args.setup.now c.args.prices.now c.if-setup-eq0.true
 
-pub bounds-setup-14 : goal.bounds-setup-14
-bounds-setup-14 c = let p = setup_says_lem c.args.setup.now c.requires in omega (arith, p)
-
-pub bounds-setup-0 : goal.bounds-setup-0
-bounds-setup-0 c = let p = setup_says_lem c.args.setup.now c.requires in omega (arith, p)
-
 pub plan_held-requires : goal.plan_held-requires
-plan_held-requires c = let p = setup_says_lem c.args.setup.now c.requires in (omega (arith, c.at_least_one-regions.ensures.1), one_most (settings_at c.args.setup.now).plan.regions p.sizes.regions c.at_least_one-regions.ensures.0, p.sizes.tills)
+plan_held-requires c = let p =
+    setup_says_lem c.args.setup.now c.requires in (
+      omega (arith, c.at_least_one-regions.ensures.1),
+      one_most (settings_at c.args.setup.now).plan.regions p.sizes.regions c.at_least_one-regions.ensures.0,
+      p.sizes.tills,
+    )
 
 pub returns : goal.returns
 returns c = let a = c.args in c.plan_held.ensures ∙ ap (λ (k : ℕ). plan_held a.prices.now k (sizes_at a.setup.now).tills)

@@ -14,20 +14,25 @@ returns-then-cell-max c = let a = c.args in
 
 pub returns-then-cell-m : goal.returns-then-cell-m
 returns-then-cell-m c = let a = c.args in
-    no5 a.setup.now a.net.now a.rules.now a.m (is_lent _ _ _ c.in_ok-lent.ensures) (omega (arith, c.cell.ensures, c.max.ensures, c.if-cell-max.false)) (omega (arith, c.cell-2.ensures, c.if-cell-m.true))
+    no5 a.setup.now a.net.now a.rules.now a.m (is_lent _ _ _ c.in_ok-lent.ensures) (omega (arith, c.cell.ensures, c.max.ensures, c.if-cell-max.false))
+    (omega (arith, c.cell-2.ensures, c.if-cell-m.true))
 
 pub returns-then-m-gt-LAST_TIER : goal.returns-then-m-gt-LAST_TIER
 returns-then-m-gt-LAST_TIER c = let a = c.args in
-    no5_tier a.setup.now a.net.now a.rules.now a.m (is_lent _ _ _ c.in_ok-lent.ensures) (omega (arith, c.cell.ensures, c.max.ensures, c.if-cell-max.false)) (omega (arith, c.cell-2.ensures, c.if-cell-m.false)) c.if-m-gt-LAST_TIER.true
+    no5_tier a.setup.now a.net.now a.rules.now a.m (is_lent _ _ _ c.in_ok-lent.ensures) (omega (arith, c.cell.ensures, c.max.ensures, c.if-cell-max.false))
+    (omega (arith, c.cell-2.ensures, c.if-cell-m.false)) c.if-m-gt-LAST_TIER.true
 
 pub returns-then-m-gt-LATEST : goal.returns-then-m-gt-LATEST
 returns-then-m-gt-LATEST c = let a = c.args in
-    no7 a.setup.now a.net.now a.rules.now a.m (is_lent _ _ _ c.in_ok-lent.ensures) (omega (arith, c.cell.ensures, c.max.ensures, c.if-cell-max.false)) (omega (arith, c.cell-2.ensures, c.if-cell-m.false)) c.if-m-gt-LAST_TIER.false c.if-m-gt-LATEST.true
+    no7 a.setup.now a.net.now a.rules.now a.m (is_lent _ _ _ c.in_ok-lent.ensures) (omega (arith, c.cell.ensures, c.max.ensures, c.if-cell-max.false))
+    (omega (arith, c.cell-2.ensures, c.if-cell-m.false)) c.if-m-gt-LAST_TIER.false c.if-m-gt-LATEST.true
 
 pub returns-then-cell-ge-MOST_WORDS : goal.returns-then-cell-ge-MOST_WORDS
 returns-then-cell-ge-MOST_WORDS c = let a = c.args in
-    no8 a.setup.now a.net.now a.rules.now a.m (is_lent _ _ _ c.in_ok-lent.ensures) (omega (arith, c.cell.ensures, c.max.ensures, c.if-cell-max.false)) (omega (arith, c.cell-2.ensures, c.if-cell-m.false)) c.if-m-gt-LAST_TIER.false c.if-m-gt-LATEST.false (omega (arith, c.cell-3.ensures, c.if-cell-ge-MOST_WORDS.true))
+    no8 a.setup.now a.net.now a.rules.now a.m (is_lent _ _ _ c.in_ok-lent.ensures) (omega (arith, c.cell.ensures, c.max.ensures, c.if-cell-max.false))
+    (omega (arith, c.cell-2.ensures, c.if-cell-m.false)) c.if-m-gt-LAST_TIER.false c.if-m-gt-LATEST.false (omega (arith, c.cell-3.ensures, c.if-cell-ge-MOST_WORDS.true))
 
 pub returns : goal.returns
 returns c = let a = c.args in
-    none a.setup.now a.net.now a.rules.now a.m (is_lent _ _ _ c.in_ok-lent.ensures) (omega (arith, c.cell.ensures, c.max.ensures, c.if-cell-max.false)) (omega (arith, c.cell-2.ensures, c.if-cell-m.false)) c.if-m-gt-LAST_TIER.false c.if-m-gt-LATEST.false (omega (arith, c.cell-3.ensures, c.if-cell-ge-MOST_WORDS.false))
+    none a.setup.now a.net.now a.rules.now a.m (is_lent _ _ _ c.in_ok-lent.ensures) (omega (arith, c.cell.ensures, c.max.ensures, c.if-cell-max.false))
+    (omega (arith, c.cell-2.ensures, c.if-cell-m.false)) c.if-m-gt-LAST_TIER.false c.if-m-gt-LATEST.false (omega (arith, c.cell-3.ensures, c.if-cell-ge-MOST_WORDS.false))

@@ -9,7 +9,8 @@ returns-in_err-lent c = rw (left_by c.from_residual.result c.from_residual.ensur
 
 pub returns-in_err-place : goal.returns-in_err-place
 unfolding card_number
-returns-in_err-place c = rw (left_by c.from_residual-in_err-place.result c.from_residual-in_err-place.ensures.1) (lent_passes _ _ _ _ c.in_ok-lent.ensures _ (place_refuses _ _ _ c.in_err-place.ensures (number_not_0 _)))
+returns-in_err-place c = rw (left_by c.from_residual-in_err-place.result c.from_residual-in_err-place.ensures.1)
+    (lent_passes _ _ _ _ c.in_ok-lent.ensures _ (place_refuses _ _ _ c.in_err-place.ensures (number_not_0 _)))
 
 pub returns : goal.returns
 unfolding card_number

@@ -1,15 +1,5 @@
 use Rattle.ask_tables.specs.Held.{ends_below}
-use Rattle.spec_network.specs.Tables.{block_form}
-use Rattle.table_rows.specs.Table.{rows_of}
-use Rattle.table_rows.specs.Rows.{all_of}
-use lib.ListN.{take}
-use mathlib.Core.Bool.{true}
-use Prim.Native.Nat.{◌-◌, ◌≤◌}
-use mathlib.Core.Path.{◌≡◌}
 use Rattle.ask_tables.proofs.all_ends_below.Given as goal
 
-abbrev pub invariant-loop-i : goal.invariant-loop-i
-invariant-loop-i l = (l.i ≤ l.n) × (all_of (ends_below l.tills) (take l.i (rows_of block_form l.blocks l.n)) ≡ true)
-
-abbrev pub decreases-loop-i : goal.decreases-loop-i
-decreases-loop-i l = l.n - l.i
+abbrev pub ghost-all : goal.ghost-all
+ghost-all a = ends_below a.test.0.now

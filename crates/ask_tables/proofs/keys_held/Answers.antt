@@ -8,14 +8,13 @@ use native.Mathlib.Omega.{arith}
 use mathlib.Core.Path.{refl}
 use Rattle.ask_tables.proofs.keys_held.Goals as goal
 
-pub bounds-setup-0 : goal.bounds-setup-0
-bounds-setup-0 c = let p = setup_says_lem c.args.setup.now c.requires in omega (arith, p)
-
 pub overflow_mul-result : goal.overflow_mul-result
-overflow_mul-result c = let p = setup_says_lem c.args.setup.now c.requires in let q = product (sizes_at c.args.setup.now).tills (sizes_at c.args.setup.now).tills most_tills most_tills p.sizes.tills p.sizes.tills in omega (arith, p, q)
+overflow_mul-result c = let p = setup_says_lem c.args.setup.now c.requires in let q =
+    product (sizes_at c.args.setup.now).tills (sizes_at c.args.setup.now).tills most_tills most_tills p.sizes.tills p.sizes.tills in omega (arith, p, q)
 
 pub overflow_mul-result-2 : goal.overflow_mul-result-2
-overflow_mul-result-2 c = let p = setup_says_lem c.args.setup.now c.requires in let q = product (sizes_at c.args.setup.now).tills (sizes_at c.args.setup.now).tills most_tills most_tills p.sizes.tills p.sizes.tills in omega (arith, p, q)
+overflow_mul-result-2 c = let p = setup_says_lem c.args.setup.now c.requires in let q =
+    product (sizes_at c.args.setup.now).tills (sizes_at c.args.setup.now).tills most_tills most_tills p.sizes.tills p.sizes.tills in omega (arith, p, q)
 
 pub returns : goal.returns
 unfolding keys_held

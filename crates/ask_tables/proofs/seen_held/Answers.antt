@@ -9,17 +9,13 @@ use native.Mathlib.Omega.{arith}
 use mathlib.Core.Path.{◌∙◌}
 use Rattle.ask_tables.proofs.seen_held.Goals as goal
 
-pub bounds-setup-0 : goal.bounds-setup-0
-bounds-setup-0 c = let p = setup_says_lem c.args.setup.now c.requires in omega (arith, p)
-
-pub bounds-setup-4 : goal.bounds-setup-4
-bounds-setup-4 c = let p = setup_says_lem c.args.setup.now c.requires in omega (arith, p)
-
 pub overflow_mul-n : goal.overflow_mul-n
-overflow_mul-n c = let p = setup_says_lem c.args.setup.now c.requires in let q = product (sizes_at c.args.setup.now).tills (sizes_at c.args.setup.now).seen_slots most_tills most_slots p.sizes.tills p.sizes.seen_slots in omega (arith, p, q)
+overflow_mul-n c = let p = setup_says_lem c.args.setup.now c.requires in let q =
+    product (sizes_at c.args.setup.now).tills (sizes_at c.args.setup.now).seen_slots most_tills most_slots p.sizes.tills p.sizes.seen_slots in omega (arith, p, q)
 
 pub overflow_add-n : goal.overflow_add-n
-overflow_add-n c = let p = setup_says_lem c.args.setup.now c.requires in let q = product (sizes_at c.args.setup.now).tills (sizes_at c.args.setup.now).seen_slots most_tills most_slots p.sizes.tills p.sizes.seen_slots in omega (arith, p, q)
+overflow_add-n c = let p = setup_says_lem c.args.setup.now c.requires in let q =
+    product (sizes_at c.args.setup.now).tills (sizes_at c.args.setup.now).seen_slots most_tills most_slots p.sizes.tills p.sizes.seen_slots in omega (arith, p, q)
 
 pub returns-then-seen-n : goal.returns-then-seen-n
 unfolding seen_held

@@ -10,19 +10,19 @@ returns-in_err-place c = let a = c.args in
     rw (left_by c.from_residual.result c.from_residual.ensures.1) (block_refused a.setup.now a.net.now a.blocks.now a.from a.to _ c.in_err-place.ensures (number_not_0 _))
 
 pub bounds-net-5 : goal.bounds-net-5
-bounds-net-5 c = let p = (passed _ _ _ _ _ _ (sym c.in_ok-place.ensures)).0 in omega (arith, p.net)
+bounds-net-5 c = omega (arith, (passed _ _ _ _ _ _ (sym c.in_ok-place.ensures)).0.net)
 
 pub block-requires : goal.block-requires
-block-requires c = let p = (passed _ _ _ _ _ _ (sym c.in_ok-place.ensures)).0 in omega (arith, p.blocks)
+block-requires c = omega (arith, (passed _ _ _ _ _ _ (sym c.in_ok-place.ensures)).0.blocks)
 
 pub unwrap-requires : goal.unwrap-requires
 unwrap-requires c = stands _ c.args.net.now c.block.ensures.0 (passed _ _ _ _ _ _ (sym c.in_ok-place.ensures)).1
 
 pub overflow_add-net : goal.overflow_add-net
-overflow_add-net c = let p = (passed _ _ _ _ _ _ (sym c.in_ok-place.ensures)).0 in omega (arith, p.count)
+overflow_add-net c = omega (arith, (passed _ _ _ _ _ _ (sym c.in_ok-place.ensures)).0.count)
 
 pub bounds-net-5-2 : goal.bounds-net-5-2
-bounds-net-5-2 c = let p = (passed _ _ _ _ _ _ (sym c.in_ok-place.ensures)).0 in omega (arith, p.net)
+bounds-net-5-2 c = omega (arith, (passed _ _ _ _ _ _ (sym c.in_ok-place.ensures)).0.net)
 
 pub returns : goal.returns
 returns c = let a = c.args in

@@ -10,19 +10,19 @@ returns-in_err-window c = let a = c.args in
     rw (left_by c.from_residual.result c.from_residual.ensures.1) (during_refused a.setup.now a.net.now a.blocks.now a.from a.to _ a.start a.end c.in_err-window.ensures (number_not_0 _))
 
 pub bounds-net-5 : goal.bounds-net-5
-bounds-net-5 c = let p = (passed _ _ _ _ _ _ (sym c.in_ok-window.ensures)).0 in omega (arith, p.net)
+bounds-net-5 c = omega (arith, (passed _ _ _ _ _ _ (sym c.in_ok-window.ensures)).0.net)
 
 pub block_during-requires : goal.block_during-requires
-block_during-requires c = let p = (passed _ _ _ _ _ _ (sym c.in_ok-window.ensures)).0 in omega (arith, p.blocks)
+block_during-requires c = omega (arith, (passed _ _ _ _ _ _ (sym c.in_ok-window.ensures)).0.blocks)
 
 pub unwrap-requires : goal.unwrap-requires
 unwrap-requires c = stands _ c.args.net.now c.block_during.ensures.0 (during_free _ c.args.start c.args.end (passed _ _ _ _ _ _ (sym c.in_ok-window.ensures)).1)
 
 pub overflow_add-net : goal.overflow_add-net
-overflow_add-net c = let p = (passed _ _ _ _ _ _ (sym c.in_ok-window.ensures)).0 in omega (arith, p.count)
+overflow_add-net c = omega (arith, (passed _ _ _ _ _ _ (sym c.in_ok-window.ensures)).0.count)
 
 pub bounds-net-5-2 : goal.bounds-net-5-2
-bounds-net-5-2 c = let p = (passed _ _ _ _ _ _ (sym c.in_ok-window.ensures)).0 in omega (arith, p.net)
+bounds-net-5-2 c = omega (arith, (passed _ _ _ _ _ _ (sym c.in_ok-window.ensures)).0.net)
 
 pub returns : goal.returns
 returns c = let a = c.args in

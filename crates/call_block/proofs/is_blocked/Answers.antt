@@ -10,7 +10,7 @@ returns-in_err-time c = let a = c.args in
     rw (left_by c.from_residual.result c.from_residual.ensures.1) (ask_refused a.setup.now a.net.now a.blocks.now a.from a.to a.at _ c.in_err-time.ensures _ refl (number_not_0 _))
 
 pub bounds-net-5 : goal.bounds-net-5
-bounds-net-5 c = let p = (passed _ _ _ _ _ _ (sym c.in_ok-time.ensures)).0 in omega (arith, p.net)
+bounds-net-5 c = omega (arith, (passed _ _ _ _ _ _ (sym c.in_ok-time.ensures)).0.net)
 
 pub is_blocked-requires : goal.is_blocked-requires
 is_blocked-requires c = let p = (passed _ _ _ _ _ _ (sym c.in_ok-time.ensures)).0 in omega (arith, p.blocks, p.count)

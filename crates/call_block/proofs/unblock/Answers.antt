@@ -13,13 +13,13 @@ returns-in_err-pair c = let a = c.args in
     rw (left_by c.from_residual.result c.from_residual.ensures.1) (unblock_refused a.setup.now a.net.now a.blocks.now a.from a.to _ c.in_err-pair.ensures (number_not_0 _))
 
 pub bounds-net-5 : goal.bounds-net-5
-bounds-net-5 c = let p = (passed _ _ _ _ _ _ (sym c.in_ok-pair.ensures)).0 in omega (arith, p.net)
+bounds-net-5 c = omega (arith, (passed _ _ _ _ _ _ (sym c.in_ok-pair.ensures)).0.net)
 
 pub unblock-left-requires : goal.unblock-left-requires
 unblock-left-requires c = let p = (passed _ _ _ _ _ _ (sym c.in_ok-pair.ensures)).0 in omega (arith, p.blocks, p.count)
 
 pub bounds-net-5-2 : goal.bounds-net-5-2
-bounds-net-5-2 c = let p = (passed _ _ _ _ _ _ (sym c.in_ok-pair.ensures)).0 in omega (arith, p.net)
+bounds-net-5-2 c = omega (arith, (passed _ _ _ _ _ _ (sym c.in_ok-pair.ensures)).0.net)
 
 pub returns : goal.returns
 returns c = let a = c.args in

@@ -17,7 +17,7 @@ returns-then-not-echoing c = let a = c.args in
 pub timed-duplicate-requires : goal.timed-duplicate-requires
 timed-duplicate-requires c = let a = c.args in (
   double_sent (Sent a.setup.now a.prices.now a.m.from a.to) c.chance-doubles.result c.entry.result (as_message a.m) c.then_some.ensures c.entry.ensures c.requires.0,
-  omega (arith, c.requires.4, c.chance-doubles.ensures.few, (c.replayed-old.ensures a.prices.now).few),
+  omega (arith, c.requires.2, c.chance-doubles.ensures.few, (c.replayed-old.ensures a.prices.now).few),
 )
 
 pub timed-replay-requires : goal.timed-replay-requires
@@ -25,7 +25,7 @@ timed-replay-requires c = let a = c.args in
     let s = c.requires.0 in
     let r = c.replayed-old.ensures a.prices.now in (
       old_sent (Sent a.setup.now a.prices.now a.m.from a.to) c.replayed-old.result r.short (λ n h. record { priced = s.priced; sender = s.sender; receiver = s.receiver; short = h }),
-      omega (arith, c.requires.4, c.chance-doubles.ensures.few, r.few, c.timed-duplicate.ensures.few),
+      omega (arith, c.requires.2, c.chance-doubles.ensures.few, r.few, c.timed-duplicate.ensures.few),
     )
 
 pub returns : goal.returns

@@ -8,4 +8,4 @@ pub returns-then-scope-eq-GLOBAL : goal.returns-then-scope-eq-GLOBAL
 returns-then-scope-eq-GLOBAL c = everywhere c.args.tills.now c.args.scope c.args.from c.args.to c.if-to-from.false c.if-scope-eq-GLOBAL.true
 
 pub returns : goal.returns
-returns c = hosted c.args.tills.now c.args.scope c.args.from c.args.to c.if-to-from.false c.if-scope-eq-GLOBAL.false
+returns c = hosted c.args.tills.now c.args.scope c.args.from c.args.to c.if-to-from.false c.if-scope-eq-GLOBAL.false _ c.get.ensures _ c.has.ensures

@@ -1,4 +1,4 @@
-use Rattle.call_recipients.proofs.Turns.{done_none, going_more, total_more, done_more, done_all}
+use Rattle.call_recipients.proofs.Turns.{done_none, no_counts_made, going_more, total_more, done_more, done_all}
 use native.Mathlib.Omega.{arith}
 use mathlib.Core.Path.{refl, ◌∙◌}
 use Rattle.call_recipients.proofs.serve.Goals as goal
@@ -18,7 +18,7 @@ loop-to-init c = let a = c.args in (
   c.requires.3,
   done_none a.fixed.setup.now a.fixed.tills.now
       a.fixed.keys.now a.fixed.prices.now a.fixed.blocks.now a.net.now a.words.now a.seen.now a.waiting.now a.rings.now a.rules.now a.m
-      _ refl,
+      _ (no_counts_made c.default-c.result c.default-c.ensures),
 )
 
 pub turn-c-requires : goal.turn-c-requires

@@ -27,13 +27,6 @@ bounds-net-4 c = let a = c.args in
     (sym c.in_ok-decide.ensures) in
     omega (arith, p.lent.net)
 
-pub fault_at-c-requires : goal.fault_at-c-requires
-fault_at-c-requires c = let a = c.args in
-    let p =
-    decidable a.setup.now a.net.now a.rules.now (message a.from a.to a.kind a.tier a.at)
-    (sym c.in_ok-decide.ensures) in
-    p.lent.setup
-
 pub decide-drops-requires : goal.decide-drops-requires
 decide-drops-requires c = let a = c.args in
     let p =

@@ -10,7 +10,7 @@ returns-in_err-lent c = let a = c.args in
     rw (left_by c.from_residual.result c.from_residual.ensures.1) (fired_refused a.setup.now a.net.now a.rules.now _ c.in_err-lent.ensures (number_not_0 _) a.id)
 
 pub bounds-net-2 : goal.bounds-net-2
-bounds-net-2 c = let p = passed _ _ _ (is_lent _ _ _ c.in_ok-lent.ensures) in omega (arith, p.net)
+bounds-net-2 c = omega (arith, (passed _ _ _ (is_lent _ _ _ c.in_ok-lent.ensures)).net)
 
 pub fired-requires : goal.fired-requires
 fired-requires c = let p = passed _ _ _ (is_lent _ _ _ c.in_ok-lent.ensures) in omega (arith, p.rules, p.count)

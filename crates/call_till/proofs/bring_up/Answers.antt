@@ -10,16 +10,10 @@ returns-in_err-up c = let a = c.args in
     rw (left_by c.from_residual.result c.from_residual.ensures.1) (up_refused a.setup.now a.tills.now a.t a.shards _ c.in_err-up.ensures (number_not_0 _))
 
 pub overflow_mul-t : goal.overflow_mul-t
-overflow_mul-t c = let a = c.args in
-    let p =
-    up_room a.setup.now a.tills.now a.t a.shards (sym c.in_ok-up.ensures) in
-    omega (arith, p)
+overflow_mul-t c = omega (arith, up_room _ _ _ _ (sym c.in_ok-up.ensures))
 
 pub put_till-requires : goal.put_till-requires
-put_till-requires c = let a = c.args in
-    let p =
-    up_room a.setup.now a.tills.now a.t a.shards (sym c.in_ok-up.ensures) in
-    omega (arith, p)
+put_till-requires c = omega (arith, up_room _ _ _ _ (sym c.in_ok-up.ensures))
 
 pub returns : goal.returns
 returns c = let a = c.args in

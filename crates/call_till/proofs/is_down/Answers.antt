@@ -9,21 +9,12 @@ pub returns-in_err-read : goal.returns-in_err-read
 returns-in_err-read c = let a = c.args in
     rw (left_by c.from_residual.result c.from_residual.ensures.1) (ask_refused a.setup.now a.tills.now a.t _ c.in_err-read.ensures _ refl (number_not_0 _))
 
-pub overflow_mul-result : goal.overflow_mul-result
-overflow_mul-result c = let a = c.args in
-    let p = read_room a.setup.now a.tills.now a.t (sym c.in_ok-read.ensures) in
-    omega (arith, p)
+pub overflow_mul-t : goal.overflow_mul-t
+overflow_mul-t c = omega (arith, read_room _ _ _ (sym c.in_ok-read.ensures))
 
-pub offset_bounds-tills-t : goal.offset_bounds-tills-t
-offset_bounds-tills-t c = let a = c.args in
-    let p = read_room a.setup.now a.tills.now a.t (sym c.in_ok-read.ensures) in
-    omega (arith, p)
-
-pub bounds-tills-t : goal.bounds-tills-t
-bounds-tills-t c = let a = c.args in
-    let p = read_room a.setup.now a.tills.now a.t (sym c.in_ok-read.ensures) in
-    omega (arith, p)
+pub get-till-requires : goal.get-till-requires
+get-till-requires c = omega (arith, read_room _ _ _ (sym c.in_ok-read.ensures))
 
 pub returns : goal.returns
 returns c = let a = c.args in
-    ask_done a.setup.now a.tills.now a.t _ c.in_ok-read.ensures refl (read_room a.setup.now a.tills.now a.t (sym c.in_ok-read.ensures))
+    ask_done a.setup.now a.tills.now a.t _ c.in_ok-read.ensures refl (read_room _ _ _ (sym c.in_ok-read.ensures)) _ c.get-till.ensures

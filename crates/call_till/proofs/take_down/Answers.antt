@@ -10,18 +10,10 @@ returns-in_err-down c = let a = c.args in
     rw (left_by c.from_residual.result c.from_residual.ensures.1) (down_refused a.setup.now a.tills.now a.seen.now a.t _ c.in_err-down.ensures (number_not_0 _))
 
 pub overflow_mul-t : goal.overflow_mul-t
-overflow_mul-t c = let a = c.args in
-    let p =
-    down_room a.setup.now a.tills.now a.t a.seen.now
-    (sym c.in_ok-down.ensures) in
-    omega (arith, p)
+overflow_mul-t c = omega (arith, down_room _ _ _ _ (sym c.in_ok-down.ensures))
 
 pub put_till-requires : goal.put_till-requires
-put_till-requires c = let a = c.args in
-    let p =
-    down_room a.setup.now a.tills.now a.t a.seen.now
-    (sym c.in_ok-down.ensures) in
-    omega (arith, p)
+put_till-requires c = omega (arith, down_room _ _ _ _ (sym c.in_ok-down.ensures))
 
 pub returns : goal.returns
 returns c = let a = c.args in

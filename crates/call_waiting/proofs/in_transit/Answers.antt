@@ -1,12 +1,11 @@
-use Rattle.std.proofs.lemmas.Result.{err_from_is_err_and}
+use Rattle.ask_refusal.proofs.Laws.{left_by}
 use native.Mathlib.Omega.{arith}
 use Rattle.call_waiting.proofs.Laws.{transit_refused, transit_done, passed, net_long, rows_room}
 use Rattle.call_waiting.proofs.in_transit.Goals as goal
 
 pub returns-in_err-transit_refusal : goal.returns-in_err-transit_refusal
 returns-in_err-transit_refusal c =
-    let p = err_from_is_err_and c.from_residual.result c.from_residual.ensures.1 in
-    rw (p.1, p.2) (transit_refused _ _ _ _ _ (c.in_err-transit_refusal.ensures))
+    rw (left_by c.from_residual.result c.from_residual.ensures.1) (transit_refused _ _ _ _ _ (c.in_err-transit_refusal.ensures))
 
 pub bounds-net-1 : goal.bounds-net-1
 bounds-net-1 c = let a = c.args in

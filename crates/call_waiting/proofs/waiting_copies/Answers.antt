@@ -1,12 +1,11 @@
-use Rattle.std.proofs.lemmas.Result.{err_from_is_err_and}
+use Rattle.ask_refusal.proofs.Laws.{left_by}
 use native.Mathlib.Omega.{arith}
 use Rattle.call_waiting.proofs.Laws.{copies_refused, copies_net, copies_room, copies_done}
 use Rattle.call_waiting.proofs.waiting_copies.Goals as goal
 
 pub returns-in_err-copies_refusal : goal.returns-in_err-copies_refusal
 returns-in_err-copies_refusal c =
-    let p = err_from_is_err_and c.from_residual.result c.from_residual.ensures.1 in
-    rw (p.1, p.2) (copies_refused _ _ _ _ _ (c.in_err-copies_refusal.ensures))
+    rw (left_by c.from_residual.result c.from_residual.ensures.1) (copies_refused _ _ _ _ _ (c.in_err-copies_refusal.ensures))
 
 pub bounds-net-1 : goal.bounds-net-1
 bounds-net-1 c = let a = c.args in omega (arith, copies_net a.setup.now a.net.now a.waiting.now a.out.now c.in_ok-copies_refusal.ensures)

@@ -25,13 +25,19 @@ pub overflow_add-start-in-loop-j : goal.overflow_add-start-in-loop-j
 overflow_add-start-in-loop-j c = let a = c.args in omega (arith, place a.names.now a.start a.stride a.n c.requires.0 c.loop-j.j (omega arith))
 
 pub same_text-requires : goal.same_text-requires
-same_text-requires c = let a = c.args in (inside a.names.now a.start a.stride a.n c.requires.0 c.requires.1 a.k (omega arith), inside a.names.now a.start a.stride a.n c.requires.0 c.requires.1 c.loop-j.j (omega arith))
+same_text-requires c = let a =
+    c.args in (inside a.names.now a.start a.stride a.n c.requires.0 c.requires.1 a.k (omega arith), inside a.names.now a.start a.stride a.n c.requires.0 c.requires.1 c.loop-j.j (omega arith))
 
 pub returns-then-same_text : goal.returns-then-same_text
-returns-then-same_text c = let a = c.args in some_stop (same (text_at a.names.now (a.start + a.k * a.stride))) (texts_from a.names.now a.start a.stride a.n) c.loop-j.j [] _ (omega (arith, texts_length a.names.now a.start a.stride a.n)) (text_asked a.names.now a.start a.stride a.n (same (text_at a.names.now (a.start + a.k * a.stride))) c.loop-j.j _ _ (omega arith) c.same_text.ensures c.if-same_text.true) c.loop-j.invariant
+returns-then-same_text c = let a = c.args in some_stop (same (text_at a.names.now (a.start + a.k * a.stride))) (texts_from a.names.now a.start a.stride a.n)
+    c.loop-j.j [] _ (omega (arith, texts_length a.names.now a.start a.stride a.n))
+    (text_asked a.names.now a.start a.stride a.n (same (text_at a.names.now (a.start + a.k * a.stride))) c.loop-j.j _ _ (omega arith) c.same_text.ensures c.if-same_text.true) c.loop-j.invariant
 
 pub loop-j-preserved : goal.loop-j-preserved
-loop-j-preserved c = let a = c.args in some_next (same (text_at a.names.now (a.start + a.k * a.stride))) (texts_from a.names.now a.start a.stride a.n) c.loop-j.j [] _ (omega (arith, texts_length a.names.now a.start a.stride a.n)) (text_asked a.names.now a.start a.stride a.n (same (text_at a.names.now (a.start + a.k * a.stride))) c.loop-j.j _ _ (omega arith) c.same_text.ensures c.if-same_text.false) c.loop-j.invariant
+loop-j-preserved c = let a = c.args in some_next (same (text_at a.names.now (a.start + a.k * a.stride))) (texts_from a.names.now a.start a.stride a.n) c.loop-j.j []
+    _ (omega (arith, texts_length a.names.now a.start a.stride a.n))
+    (text_asked a.names.now a.start a.stride a.n (same (text_at a.names.now (a.start + a.k * a.stride))) c.loop-j.j _ _ (omega arith) c.same_text.ensures c.if-same_text.false) c.loop-j.invariant
 
 pub returns : goal.returns
-returns c = let a = c.args in some_end (same (text_at a.names.now (a.start + a.k * a.stride))) (texts_from a.names.now a.start a.stride a.n) c.loop-j.j [] _ (omega (arith, texts_length a.names.now a.start a.stride a.n)) c.loop-j.invariant
+returns c = let a = c.args in some_end (same (text_at a.names.now (a.start + a.k * a.stride))) (texts_from a.names.now a.start a.stride a.n) c.loop-j.j [] _
+    (omega (arith, texts_length a.names.now a.start a.stride a.n)) c.loop-j.invariant

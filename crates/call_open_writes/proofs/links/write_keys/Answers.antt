@@ -34,8 +34,17 @@ pub overflow_cast-i-in-loop-i : goal.overflow_cast-i-in-loop-i
 overflow_cast-i-in-loop-i c = let t = pair_most c.args.n c.requires.0 in record { fits = remainder_fits _ _ (omega arith) }
 
 pub loop-i-preserved : goal.loop-i-preserved
-loop-i-preserved c = (ap length c.put_key.ensures ∙ length_put _ _ _ (omega arith) ∙ c.loop-i.invariant.0, c.put_key.ensures ∙ ap (λ k. put_words c.loop-i.keys (c.loop-i.i * key_width) k) c.link_key-key.ensures ∙ row_more key_width (λ i. link_key c.args.seed (i / c.args.n) (i % c.args.n)) (λ i. link_long c.args.seed (i / c.args.n) (i % c.args.n)) (up_to c.loop-i.i (λ i. i)) c.args.keys.now c.loop-i.keys c.loop-i.i c.loop-i.i (length_up_to c.loop-i.i (λ i. i)) c.loop-i.invariant.1 ∙ ap (λ l. flat (λ i. link_key c.args.seed (i / c.args.n) (i % c.args.n)) l ++ drop ((c.loop-i.i + 1) * key_width) c.args.keys.now) (sym (up_to_more c.loop-i.i (λ i. i))))
+loop-i-preserved c = (
+  ap length c.put_key.ensures ∙ length_put _ _ _ (omega arith) ∙ c.loop-i.invariant.0,
+  c.put_key.ensures ∙
+      ap (λ k. put_words c.loop-i.keys (c.loop-i.i * key_width) k) c.link_key-key.ensures ∙
+      row_more key_width (λ i. link_key c.args.seed (i / c.args.n) (i % c.args.n)) (λ i. link_long c.args.seed (i / c.args.n) (i % c.args.n))
+      (up_to c.loop-i.i (λ i. i)) c.args.keys.now c.loop-i.keys c.loop-i.i c.loop-i.i (length_up_to c.loop-i.i (λ i. i)) c.loop-i.invariant.1 ∙
+      ap (λ l. flat (λ i. link_key c.args.seed (i / c.args.n) (i % c.args.n)) l ++ drop ((c.loop-i.i + 1) * key_width) c.args.keys.now) (sym (up_to_more c.loop-i.i (λ i. i))),
+)
 
 pub returns : goal.returns
 unfolding link_keys
-returns c = rows_all key_width (λ i. link_key c.args.seed (i / c.args.n) (i % c.args.n)) (λ i. link_long c.args.seed (i / c.args.n) (i % c.args.n)) (up_to c.loop-i.i (λ i. i)) c.args.keys.now c.loop-i.keys c.loop-i.i (c.args.n * c.args.n) (omega arith) c.requires.1 c.loop-i.invariant.1 ∙ (let e : c.loop-i.i ≡ c.args.n * c.args.n = omega arith in ap (λ k. flat (λ i. link_key c.args.seed (i / c.args.n) (i % c.args.n)) (up_to k (λ i. i))) e)
+returns c = rows_all key_width (λ i. link_key c.args.seed (i / c.args.n) (i % c.args.n)) (λ i. link_long c.args.seed (i / c.args.n) (i % c.args.n))
+    (up_to c.loop-i.i (λ i. i)) c.args.keys.now c.loop-i.keys c.loop-i.i (c.args.n * c.args.n) (omega arith) c.requires.1 c.loop-i.invariant.1 ∙
+    (let e : c.loop-i.i ≡ c.args.n * c.args.n = omega arith in ap (λ k. flat (λ i. link_key c.args.seed (i / c.args.n) (i % c.args.n)) (up_to k (λ i. i))) e)

@@ -9,7 +9,10 @@ pub loop-t-init : goal.loop-t-init
 loop-t-init c = (refl, no_regions (λ t. region_of c.args.seed c.args.regions t) c.args.n 0 c.args.prices.now _ refl (omega arith) refl)
 
 pub loop-t-preserved : goal.loop-t-preserved
-loop-t-preserved c = (simp length-set c.loop-t.invariant.0, region_more (λ t. region_of c.args.seed c.args.regions t) c.args.n c.loop-t.t c.args.prices.now c.loop-t.prices _ (omega arith) c.region_of.ensures.0 c.loop-t.invariant.1)
+loop-t-preserved c = (
+  simp length-set c.loop-t.invariant.0,
+  region_more (λ t. region_of c.args.seed c.args.regions t) c.args.n c.loop-t.t c.args.prices.now c.loop-t.prices _ (omega arith) c.region_of.ensures.0 c.loop-t.invariant.1,
+)
 
 pub returns : goal.returns
 returns c = regions_all (λ t. region_of c.args.seed c.args.regions t) c.args.n c.loop-t.t c.args.prices.now c.loop-t.prices c.args.tills (omega arith) c.requires.1 c.loop-t.invariant.1
