@@ -3,87 +3,80 @@
 
 ghost use Rattle.std.specs.Prelude.{◌≡◌};
 ghost use Rattle.spec_network.specs.Tables.{cell};
+ghost use Rattle.sim_outcome.specs.declared.Outcome.TheVariants.{Accepted};
+ghost use Rattle.sim_accept.specs.Accepting.{five_of, IsAccept};
 
-use ask_tables::cell;
-use call_accept::{Accepted, Entry, FixedTables};
+use ask_tables::{LONGEST_KEY, LONGEST_NAME, cell};
+use call_accept::{Entry, FixedTables};
+use call_schedule::Counts;
+use sim_figures::Five;
 use sim_lend::Network;
-use sim_outcome::{Outcome, done};
+use sim_outcome::{Outcome, refused};
 use sim_printer::Printer;
 use sim_script::Accept;
 
-// The longest type name and shard key.
-const LONGEST_NAME: u8 = 64;
-
-const LONGEST_KEY: u8 = 16;
-
-const LONGEST_WIRE: usize = 65536;
+// The most bytes of a wire.
+const LONGEST_WIRE: usize = ask_tables::LONGEST_WIRE as usize;
 
 // The scope of a global entry, and the types.
-const GLOBAL: usize = 16;
+const GLOBAL: usize = ask_tables::GLOBAL as usize;
 
-const TYPES: usize = 16;
+const TYPES: usize = ask_tables::MOST_TYPES as usize;
 
 // The length of the text whose place is given, 0 behind the last.
 fn length_at(names: &[u8], i: usize) -> u8
     ensures { result ≡ cell names.now i }
 {
-    if i < names.len() {
-        return names[i];
-    }
-    0
+    names.get(i).copied().unwrap_or(0)
 }
 
-// The id of an entry whose type and scope are in range.
-fn id(names: &[u8], kind: u64, scope: u64, wire: &[u8]) -> u64 {
-    if (TYPES as u64) <= kind {
-        return 0;
-    }
-    if (GLOBAL as u64) < scope {
-        return 0;
-    }
-    id_in(names, kind as usize, scope as usize, wire)
+// The id of an entry that was accepted: no question refused its type, its scope, its wire or the names.
+fn id(names: &[u8], told: Accept<'_>) -> u64 {
+    id_in(names, told.kind as usize, told.scope as usize, told.wire).unwrap_or(0)
 }
 
-fn id_in(names: &[u8], kind: usize, scope: usize, wire: &[u8]) -> u64 {
-    if names.len() != ask_rows::NAMES_WIDTH {
-        return 0;
+// The same by its parts; None where one of them is out of range.
+fn id_in(names: &[u8], kind: usize, scope: usize, wire: &[u8]) -> Option<u64> {
+    if names.len() != ask_rows::NAMES_WIDTH || TYPES <= kind || GLOBAL < scope {
+        return None;
     }
-    if TYPES <= kind {
-        return 0;
+    let name = length_at(names, kind * ask_rows::NAME_WIDTH);
+    let key = length_at(names, ask_rows::KEYS + scope * ask_rows::SHARD_KEY_WIDTH);
+    if LONGEST_NAME < name || LONGEST_KEY < key || LONGEST_WIRE < wire.len() {
+        return None;
     }
-    if GLOBAL < scope {
-        return 0;
-    }
-    if LONGEST_NAME < length_at(names, kind * ask_rows::NAME_WIDTH) {
-        return 0;
-    }
-    if LONGEST_KEY < length_at(names, ask_rows::KEYS + scope * ask_rows::SHARD_KEY_WIDTH) {
-        return 0;
-    }
-    if LONGEST_WIRE < wire.len() {
-        return 0;
-    }
-    call_message::id_of(names, kind, scope, wire)
+    Some(call_message::id_of(names, kind, scope, wire))
 }
 
 // The five counts, the id, and the network's own counts.
-fn accepted(page: &mut Printer, a: Accepted, id: u64, net: &[u64]) -> Outcome {
-    page.print(format_args!("accept sent={} dedup={}", a.sent, a.deduplicated));
-    page.print(format_args!(
-        " partition={} loss={} fault={}",
-        a.partition, a.loss, a.fault
-    ));
+fn accepted(page: &mut Printer, counts: Counts, id: u64, net: &[u64]) -> Outcome
+    ensures { result ≡ Accepted (five_of counts) }
+{
+    let Counts {
+        sent,
+        deduplicated,
+        partition,
+        loss,
+        fault,
+    } = counts;
+    page.print(format_args!("accept sent={sent} dedup={deduplicated}"));
+    page.print(format_args!(" partition={partition} loss={loss} fault={fault}"));
     let sequence = cell(net, ask_tables::SEQUENCE);
     let waiting = cell(net, ask_tables::WAITING);
     page.print(format_args!(" id={id:016x} sequence={sequence} waiting={waiting}\n"));
-    Outcome {
-        number: 0,
-        counts: [a.sent, a.deduplicated, a.partition, a.loss, a.fault],
-    }
+    Outcome::Accepted(Five {
+        sent,
+        deduplicated,
+        partition,
+        loss,
+        fault,
+    })
 }
 
-// Takes an entry.
-pub fn accept(network: Network<'_>, told: Accept<'_>, page: &mut Printer) -> Outcome {
+// Takes an entry. Over 40 lines: twelve fields, and the fields of two structs of the call.
+pub fn accept(network: Network<'_>, told: Accept<'_>, page: &mut Printer) -> Outcome
+    ensures { IsAccept result }
+{
     let Network {
         setup,
         net,
@@ -115,12 +108,11 @@ pub fn accept(network: Network<'_>, told: Accept<'_>, page: &mut Printer) -> Out
         scope: told.scope,
         tag: told.tag,
     };
-    let a = Accepted::from(call_accept::accept(
+    let answer = call_accept::accept(
         fixed, net, names, words, seen, waiting, rings, rules, entry, told.opens,
-    ));
-    if a.number != 0 {
-        return done(page, "accept", a.number);
+    );
+    match answer {
+        Ok(counts) => accepted(page, counts, id(names, told), net),
+        Err(refusal) => refused(page, b"accept", refusal),
     }
-    let id = id(names, told.kind, told.scope, told.wire);
-    accepted(page, a, id, net)
 }

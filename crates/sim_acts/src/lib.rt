@@ -1,37 +1,48 @@
 // A call of a script on the tables of the network that is open: front parts of its sizes are lent, the call is made, and notes are taken of it.
 #![tactic(auto)]
 
-use ask_opening::{NetworkSizes, RegionPlan, TableSizes};
+ghost use Rattle.std.specs.Prelude.{◌≡◌};
+ghost use Rattle.sim_notes.specs.Noted.{marks_in, before_note};
+ghost use Rattle.sim_acts.specs.Acted.{IsNoted};
+
+use ask_opening::{NetworkSizes, RegionPlan, TableLengths};
+use ask_refusal::Refusal;
+use ask_tables::cell;
 use sim_figures::Figures;
-use sim_lend::{Network, front};
+use sim_lend::Network;
 use sim_outcome::Outcome;
 use sim_printer::Printer;
 use sim_script::{Call, Reading};
-use sim_session::lines;
 use sim_session::lines::Session;
+use sim_session::{lines, opens};
 
 // The sizes of the network that is open, as its opening wrote them.
-fn open_sizes(setup: &[u64]) -> TableSizes {
+fn open_sizes(setup: &[u64]) -> Result<TableLengths, Refusal> {
     let sizes = NetworkSizes {
-        tills: ask_tables::cell(setup, ask_tables::TILLS),
-        types: ask_tables::cell(setup, ask_tables::TYPES),
-        classes: ask_tables::cell(setup, ask_tables::CLASSES),
-        shards: ask_tables::cell(setup, ask_tables::SHARDS),
-        seen: ask_tables::cell(setup, ask_tables::SEEN_SLOTS),
-        waiting: ask_tables::cell(setup, ask_tables::WAIT_SLOTS),
-        log: ask_tables::cell(setup, ask_tables::LOG_SLOTS),
+        tills: cell(setup, ask_tables::TILLS),
+        types: cell(setup, ask_tables::TYPES),
+        classes: cell(setup, ask_tables::CLASSES),
+        shards: cell(setup, ask_tables::SHARDS),
+        seen: cell(setup, ask_tables::SEEN_SLOTS),
+        waiting: cell(setup, ask_tables::WAIT_SLOTS),
+        log: cell(setup, ask_tables::LOG_SLOTS),
     };
     let plan = RegionPlan {
-        planned: ask_tables::cell(setup, ask_tables::PLANNED),
-        regions: ask_tables::cell(setup, ask_tables::REGIONS),
-        seed: ask_tables::cell(setup, ask_tables::PLAN_SEED),
+        planned: cell(setup, ask_tables::PLANNED),
+        regions: cell(setup, ask_tables::REGIONS),
+        seed: cell(setup, ask_tables::PLAN_SEED),
     };
-    TableSizes::from(ask_opening::table_sizes(sizes, plan))
+    ask_opening::table_sizes(sizes, plan)
 }
 
-// A call on tables that have the network's sizes, each lent anew: the borrow checker covers a struct that is taken apart by value, and one made here.
+// A call on tables of the open network's sizes. The fields are lent anew here: the borrow checker covers no method that lends them all.
+// Over 40 lines: fourteen fields, and an arm for each call.
 fn act(network: &mut Network<'_>, call: Call<'_>, due: &mut [u64], page: &mut Printer) -> Outcome {
-    let lent = Network {
+    let n = match open_sizes(network.setup) {
+        Ok(n) => n,
+        Err(refusal) => return Outcome::Refused(refusal),
+    };
+    let whole = Network {
         setup: network.setup,
         net: network.net,
         names: network.names,
@@ -47,6 +58,7 @@ fn act(network: &mut Network<'_>, call: Call<'_>, due: &mut [u64], page: &mut Pr
         log: network.log,
         out: network.out,
     };
+    let lent = opens::fitted(whole, n);
     match call {
         Call::Accept(entry) => sim_accept::accept(lent, entry, page),
         Call::Flush(flush) => sim_flush::flush(lent, flush, due, page),
@@ -67,62 +79,30 @@ fn act(network: &mut Network<'_>, call: Call<'_>, due: &mut [u64], page: &mut Pr
     }
 }
 
+// What is noted before a call; the marks that stand then.
+fn noted_before(network: &Network<'_>, call: Call<'_>, figures: &mut Figures) -> u64
+    ensures figures { figures.new ≡ before_note figures.old call.entry network.now.setup.now network.now.log.now }
+    ensures stood { result ≡ marks_in network.now.setup.now network.now.seen.now }
+{
+    sim_notes::before(figures, call, network.setup, network.log);
+    sim_notes::marks(network.setup, network.seen)
+}
+
 // A call on the tables of the largest sizes, and the notes for the figures of the run.
 pub fn call(
-    network: Network<'_>,
+    network: &mut Network<'_>,
     call: Call<'_>,
     r: Session,
     figures: &mut Figures,
     due: &mut [u64],
     page: &mut Printer,
-) {
-    let Network {
-        setup,
-        net,
-        names,
-        tills,
-        words,
-        keys,
-        prices,
-        seen,
-        waiting,
-        rings,
-        rules,
-        blocks,
-        log,
-        out,
-    } = network;
-    sim_notes::before(figures, call, setup, log);
-    let stood = sim_notes::marks(setup, seen);
-    let n = open_sizes(setup);
-    let mut lent = Network {
-        setup,
-        net,
-        names,
-        tills: front(tills, n.tills as usize),
-        words,
-        keys: front(keys, n.keys as usize),
-        prices: front(prices, n.prices as usize),
-        seen: front(seen, n.seen as usize),
-        waiting: front(waiting, n.waiting as usize),
-        rings: front(rings, n.rings as usize),
-        rules,
-        blocks,
-        log: front(log, n.log as usize),
-        out,
-    };
-    let told = act(&mut lent, call, due, page);
-    sim_notes::after(
-        figures,
-        due,
-        call,
-        told.number,
-        told.counts,
-        stood,
-        setup,
-        net,
-        seen,
-        out,
-    );
+)
+    ensures { IsNoted figures.old figures.new call.entry
+        network.old.setup.now network.old.log.now network.old.seen.now due.new
+        network.new.setup.now network.new.net.now network.new.seen.now network.new.out.now }
+{
+    let stood = noted_before(network, call, figures);
+    let told = act(network, call, due, page);
+    sim_notes::after(figures, due, call, told, stood, network);
     lines::called(page, r, told);
 }

@@ -1,21 +1,11 @@
 // Copies, rows and records, field by field.
-use crate::plain::Spaced;
-use ask_tables::cell;
 use sim_printer::Printer;
 use std::fmt;
+use table_delivery::Delivery;
+use table_rows::Row;
+use table_waiting::Copy;
 
-// Columns of a copy's row: from, to, type, class, sent and delivered stand before its scope; wire and sequence behind it; then its id and its tag.
-// A row of a flush has two more, for the handlers.
-const SCOPE: usize = 6;
-
-const WIRE: usize = 7;
-
-const ORIGINAL: usize = 9;
-
-const IDENTITY: usize = 10;
-
-const TAG: usize = 11;
-
+// A row of a flush has two words more than its copy, for the handlers: by number, as call_flush_pass gives it as words and has no Row of it.
 const GOSSIP: usize = table_waiting::WIDTH;
 
 const HOST: usize = table_waiting::WIDTH + 1;
@@ -36,64 +26,84 @@ impl fmt::Display for Scope {
 
 // The eight fields of a delivery, a space before each.
 #[derive(Drop)]
-struct Delivery<'a>(&'a [u64]);
+struct Eight(Delivery);
 
-impl fmt::Display for Delivery<'_> {
+impl fmt::Display for Eight {
     fn fmt<W: fmt::Write>(&self, f: &mut fmt::Formatter<W>) -> fmt::Result {
-        let before = Spaced(sim_lend::part(self.0, SCOPE));
-        let scope = Scope(cell(self.0, SCOPE));
-        let wire = cell(self.0, WIRE);
-        write!(f, "{before} {scope} {wire}")
+        let Delivery {
+            from,
+            to,
+            kind,
+            class,
+            sent,
+            time,
+            scope,
+            wire,
+        } = self.0;
+        let scope = Scope(scope);
+        write!(
+            f,
+            " {from} {to} {kind} {class} {sent} {time} {scope} {wire}"
+        )
     }
 }
 
 // The id of an original, or `-`.
 #[derive(Drop)]
-struct Identity<'a>(&'a [u64]);
+struct Identity(Copy);
 
-impl fmt::Display for Identity<'_> {
+impl fmt::Display for Identity {
     fn fmt<W: fmt::Write>(&self, f: &mut fmt::Formatter<W>) -> fmt::Result {
-        if cell(self.0, ORIGINAL) == 0 {
+        let Copy { original, id, .. } = self.0;
+        if original == 0 {
             return f.write_str("-");
         }
-        let id = cell(self.0, IDENTITY);
         write!(f, "{id:016x}")
     }
 }
 
 // The eleven fields of a copy.
 #[derive(Drop)]
-struct Copy<'a>(&'a [u64]);
+struct Eleven(Copy);
 
-impl fmt::Display for Copy<'_> {
+impl fmt::Display for Eleven {
     fn fmt<W: fmt::Write>(&self, f: &mut fmt::Formatter<W>) -> fmt::Result {
-        let delivery = Delivery(self.0);
-        let sequence = cell(self.0, table_delivery::WIDTH);
+        let Copy {
+            delivery,
+            sequence,
+            tag,
+            ..
+        } = self.0;
+        let delivery = Eight(delivery);
         let identity = Identity(self.0);
-        let tag = cell(self.0, TAG);
         write!(f, "{delivery} {sequence} {identity} {tag}")
     }
 }
 
-// n waiting copies, a line each.
-pub fn copies(page: &mut Printer, ws: &[u64], n: usize) {
-    for row in ws.chunks_exact(table_waiting::WIDTH).take(n) {
-        let copy = Copy(row);
+// Waiting copies, a line each.
+pub fn copies(page: &mut Printer, rows: &[u64]) {
+    let (rows, _) = rows.as_chunks::<{ table_waiting::WIDTH }>();
+    for row in rows {
+        let copy = Eleven(Copy::get(row, 0));
         page.print(format_args!("copy{copy}\n"));
     }
 }
 
-// n records of the log, a line each.
-pub fn records(page: &mut Printer, ws: &[u64], n: usize) {
-    for row in ws.chunks_exact(table_delivery::WIDTH).take(n) {
-        let record = Delivery(row);
+// Records of the log, a line each. Not one function with `copies`: it would take the width, the Row and the Display of a line as parameters for four lines.
+pub fn records(page: &mut Printer, rows: &[u64]) {
+    let (rows, _) = rows.as_chunks::<{ table_delivery::WIDTH }>();
+    for row in rows {
+        let record = Eight(Delivery::get(row, 0));
         page.print(format_args!("record{record}\n"));
     }
 }
 
+// The words of a flush's row.
+type FlushRow = [u64; call_flush_pass::ROW];
+
 // The handlers that take a row.
-fn takers(row: &[u64]) -> &'static str {
-    match (cell(row, GOSSIP), cell(row, HOST)) {
+fn takers(row: &FlushRow) -> &'static str {
+    match (row[GOSSIP], row[HOST]) {
         (0, 0) => "-",
         (0, _) => "h",
         (_, 0) => "g",
@@ -101,27 +111,30 @@ fn takers(row: &[u64]) -> &'static str {
     }
 }
 
-fn row_line(page: &mut Printer, row: &[u64]) {
-    let copy = Copy(row);
+// A row that was handed out, with its takers.
+fn row_line(page: &mut Printer, row: &FlushRow) {
+    let copy = Eleven(Copy::get(row, 0));
     let takers = takers(row);
     page.print(format_args!("row{copy} {takers}\n"));
 }
 
-fn drop_line(page: &mut Printer, copy: &[u64]) {
-    let copy = Copy(copy);
+// A copy that was dropped.
+fn drop_line(page: &mut Printer, copy: Copy) {
+    let copy = Eleven(copy);
     page.print(format_args!("drop{copy}\n"));
 }
 
-// n due copies in flush order; the rows stand in `out`, in that order too. A copy without a row was dropped.
-pub fn flushed(page: &mut Printer, due: &[u64], n: usize, out: &[u64]) {
+// The due copies in flush order; the rows stand in `out`, in that order too. A copy without a row was dropped.
+pub fn flushed(page: &mut Printer, due: &[u64], out: &[u64]) {
     let mut rows = out;
-    for copy in due.chunks_exact(table_waiting::WIDTH).take(n) {
-        match rows.split_at_checked(call_flush_pass::ROW) {
+    let (due, _) = due.as_chunks::<{ table_waiting::WIDTH }>();
+    for copy in due {
+        match rows.split_first_chunk::<{ call_flush_pass::ROW }>() {
             Some((row, rest)) if row.starts_with(copy) => {
                 row_line(page, row);
                 rows = rest;
             }
-            _ => drop_line(page, copy),
+            _ => drop_line(page, Copy::get(copy, 0)),
         }
     }
 }

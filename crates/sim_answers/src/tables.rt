@@ -3,65 +3,69 @@ ghost use Rattle.std.specs.Prelude.{◌+◌, ◌*◌, ◌≤◌, length};
 ghost use Rattle.table_rings.specs.Rings.{head_width, span};
 
 use crate::rows_text::Scope;
-use ask_tables::cell;
+use ask_tables::Till;
+use fault_blocks::BlockWindow;
+use fault_rules::FaultRule;
 use sim_printer::Printer;
+use table_rows::Row;
 
-// Columns of a till: up, gossip types, host types, shards.
-const UP: usize = 0;
-
-const GOSSIP: usize = 1;
-
-const HOST: usize = 2;
-
-const SHARDS: usize = 3;
-
-// n tills on a line.
-pub fn tills(page: &mut Printer, tills: &[u64], n: usize) {
+// The tills on a line.
+pub fn tills(page: &mut Printer, tills: &[u64]) {
     page.text(b"tills");
-    for till in tills.chunks_exact(ask_tables::TILL_WIDTH).take(n) {
-        let up = cell(till, UP);
-        let shards = cell(till, SHARDS);
-        let gossip = cell(till, GOSSIP);
-        let host = cell(till, HOST);
+    let (rows, _) = tills.as_chunks::<{ ask_tables::TILL_WIDTH }>();
+    for row in rows {
+        let Till {
+            up,
+            gossip,
+            host,
+            shards,
+        } = Till::get(row, 0);
         page.print(format_args!(" {up}/{shards:04x}/{gossip:04x}/{host:04x}"));
     }
     page.text(b"\n");
 }
 
-// n rules on a line: id and fired count.
-pub fn rules(page: &mut Printer, rules: &[u64], n: usize) {
+// The rules on a line: id and fired count.
+pub fn rules(page: &mut Printer, rules: &[u64]) {
+    let (rows, _) = rules.as_chunks::<{ fault_rules::WIDTH }>();
+    let n = rows.len();
     page.print(format_args!("rules {n}"));
-    for rule in rules.chunks_exact(fault_rules::WIDTH).take(n) {
-        let id = cell(rule, 0);
-        let fired = cell(rule, fault_rules::FIRED);
+    for row in rows {
+        let FaultRule { id, fired, .. } = FaultRule::get(row, 0);
         page.print(format_args!(" {id}:{fired}"));
     }
     page.text(b"\n");
 }
 
+// The words of a window.
+type Window = [u64; fault_blocks::WIDTH];
+
 // The pair of tills of a window.
-fn pair(window: &[u64]) -> (u64, u64) {
-    (cell(window, 0), cell(window, 1))
+fn pair(window: &Window) -> (u64, u64) {
+    let BlockWindow { from, to, .. } = BlockWindow::get(window, 0);
+    (from, to)
 }
 
 // Is this the first of the windows with its pair, of which it is the i-th?
-fn is_first(blocks: &[u64], i: usize, window: &[u64]) -> bool {
-    let mut before = blocks.chunks_exact(fault_blocks::WIDTH).take(i);
+fn is_first(windows: &[Window], i: usize, window: &Window) -> bool {
+    let mut before = windows.iter().take(i);
     !before.any(|other| pair(other) == pair(window))
 }
 
-// How many pairs n windows have.
-fn edges(blocks: &[u64], n: usize) -> usize {
-    let windows = blocks.chunks_exact(fault_blocks::WIDTH).take(n);
+// How many pairs the windows have.
+fn edges(windows: &[Window]) -> usize {
     windows
+        .iter()
         .enumerate()
-        .filter(|(i, window)| is_first(blocks, *i, window))
+        .filter(|(i, window)| is_first(windows, *i, window))
         .count()
 }
 
-// n windows: how many pairs, and how many windows.
-pub fn blocks(page: &mut Printer, blocks: &[u64], n: usize) {
-    let edges = edges(blocks, n);
+// How many pairs of tills the windows have, and how many windows there are.
+pub fn blocks(page: &mut Printer, blocks: &[u64]) {
+    let (windows, _) = blocks.as_chunks::<{ fault_blocks::WIDTH }>();
+    let edges = edges(windows);
+    let n = windows.len();
     page.print(format_args!("blocks edges={edges} windows={n}\n"));
 }
 
@@ -122,7 +126,7 @@ fn ring(page: &mut Printer, rings: &[u64], r: usize) {
 }
 
 // The rings of a type: global first, then the shards.
-fn kind(page: &mut Printer, rings: &[u64], first: usize) {
+fn rings_of_type(page: &mut Printer, rings: &[u64], first: usize) {
     ring(page, rings, first.wrapping_add(table_rings::SCOPES - 1));
     for shard in 0..table_rings::SCOPES - 1 {
         ring(page, rings, first.wrapping_add(shard));
@@ -141,6 +145,6 @@ pub fn rings(page: &mut Printer, rings: &[u64], types: usize) {
     let kept = kept(rings);
     page.print(format_args!("rings {kept}\n"));
     for i in 0..types {
-        kind(page, rings, i.wrapping_mul(table_rings::SCOPES));
+        rings_of_type(page, rings, i.wrapping_mul(table_rings::SCOPES));
     }
 }

@@ -32,6 +32,7 @@ impl Words {
         Words { bytes, length }
     }
 
+    // The bytes that are kept.
     pub fn shown(&self) -> &[u8]
         ensures { result.now ≡ self.now }
     {

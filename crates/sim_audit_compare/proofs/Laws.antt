@@ -19,7 +19,8 @@ further : (book : List ℕ) (i : ℕ) → i < length book → i < next_at book i
 further book i h = omega (arith, length-drop i book, length-drop (position_or_len ends_line (drop i book) + 1) (drop i book))
 
 -- the steps that are left, behind one of them
-pub closed_on : (left : ℕ) (a b t : Account) (book : List ℕ) → a.read < length book → b ≡ unsaid_note a book → length book ≤ a.read + left → closed_by left a book ≡ t → (m : ℕ) × (length book ≤ b.read + m) × (closed_by m b book ≡ t)
+pub closed_on : (left : ℕ) (a b t : Account) (book : List ℕ) → a.read < length book → b ≡ unsaid_note a book → length book ≤ a.read + left →
+    closed_by left a book ≡ t → (m : ℕ) × (length book ≤ b.read + m) × (closed_by m b book ≡ t)
 closed_on zero a b t book h e f g = absurd (omega arith)
 closed_on (suc m) a b t book h e f g =
     (m, omega (arith, ap (λ (x : Account). x.read) e, further book a.read h), ap (λ (x : Account). closed_by m x book) e ∙ (sym (one_more m a book h) ∙ g))

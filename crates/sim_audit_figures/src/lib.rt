@@ -2,7 +2,7 @@
 // They print the page; the verdict does not come from them.
 #![tactic(auto)]
 
-pub mod copies;
+mod copies;
 mod numbers;
 pub mod side;
 

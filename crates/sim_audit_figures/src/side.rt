@@ -1,8 +1,9 @@
 // The figures of one side: of the recorded answers, or of the book's. They wrap.
 ghost use Rattle.std.specs.Prelude.{◌≡◌, ◌-◌, min};
 
-use crate::copies::{Copies, CopyTold, Deliveries, Recipients};
+use crate::copies::{CopyTold, recipients_of};
 use crate::numbers::{behind_sign, field, value, word_at};
+use sim_figures::{Five, Kinds, Said, Tally};
 
 // Tills that have figures of their own, and classes; a larger number counts as the last.
 pub const TILLS: usize = 64;
@@ -13,26 +14,18 @@ pub const CLASSES: usize = 8;
 #[derive(Clone, Copy, Debug, PartialEq, Eq, Default, Drop)]
 pub struct Till {
     // Of its own messages; copies that it received; copies to it that a flush dropped.
-    pub recipients: Recipients,
-    pub received: Copies,
+    pub recipients: Five,
+    pub received: Kinds,
     pub lost: u64,
-}
-
-// What flushes said themselves.
-#[derive(Clone, Copy, Debug, PartialEq, Eq, Default, Drop)]
-pub struct Said {
-    pub delivered: u64,
-    pub dropped: u64,
-    pub rows: u64,
 }
 
 // The figures of one side.
 #[derive(Debug, Drop)]
 pub struct Side {
-    pub recipients: Recipients,
-    pub landed: Copies,
-    pub dropped: Copies,
-    pub waiting: Copies,
+    pub recipients: Five,
+    pub landed: Kinds,
+    pub dropped: Kinds,
+    pub waiting: Kinds,
     pub said: Said,
     // Rows out of order, rows that an earlier flush should have had, copies to their own sender, marks, copies in transit.
     pub late: u64,
@@ -45,8 +38,8 @@ pub struct Side {
     now: u64,
     before: u64,
     // Of each class, by the rows and by the tallies.
-    pub classes: [Deliveries; CLASSES],
-    pub tallies: [Deliveries; CLASSES],
+    pub classes: [Tally; CLASSES],
+    pub tallies: [Tally; CLASSES],
     pub tills: [Till; TILLS],
     // Of each link the copies that flushes dropped.
     pub links: [[u64; TILLS]; TILLS],
@@ -68,10 +61,10 @@ impl Side {
     // Nothing is noted.
     pub(crate) fn new() -> Side {
         Side {
-            recipients: Recipients::default(),
-            landed: Copies::default(),
-            dropped: Copies::default(),
-            waiting: Copies::default(),
+            recipients: Five::default(),
+            landed: Kinds::default(),
+            dropped: Kinds::default(),
+            waiting: Kinds::default(),
             said: Said::default(),
             late: 0,
             put_off: 0,
@@ -81,8 +74,8 @@ impl Side {
             last: (0, 0),
             now: 0,
             before: 0,
-            classes: [Deliveries::default(); CLASSES],
-            tallies: [Deliveries::default(); CLASSES],
+            classes: [Tally::default(); CLASSES],
+            tallies: [Tally::default(); CLASSES],
             tills: [Till::default(); TILLS],
             links: [[0; TILLS]; TILLS],
         }
@@ -93,9 +86,9 @@ impl Side {
         if is_refused(line) {
             return;
         }
-        let counts = Recipients::of(line);
-        self.recipients.add(counts);
-        self.tills[till_at(sender)].recipients.add(counts);
+        let counts = recipients_of(line);
+        self.recipients += counts;
+        self.tills[till_at(sender)].recipients += counts;
     }
 
     // A flush: its own counts, and a new order.
@@ -106,9 +99,11 @@ impl Side {
         self.before = self.now;
         self.now = now;
         self.last = (0, 0);
-        self.said.delivered = self.said.delivered.wrapping_add(field(line, 1));
-        self.said.dropped = self.said.dropped.wrapping_add(field(line, 2));
-        self.said.rows = self.said.rows.wrapping_add(field(line, 3));
+        self.said += Said {
+            delivered: field(line, 1),
+            dropped: field(line, 2),
+            rows: field(line, 3),
+        };
     }
 
     // A row's place in the order.
@@ -131,16 +126,21 @@ impl Side {
 
     // A row: a copy that landed.
     fn landed(&mut self, copy: CopyTold) {
-        self.landed.add(copy);
-        self.classes[copy.class.min(CLASSES as u64 - 1) as usize].add(1, copy.bytes);
-        self.tills[till_at(copy.to)].received.add(copy);
+        self.landed.count(u64::from(copy.is_original));
+        self.classes[copy.class.min(CLASSES as u64 - 1) as usize] += Tally {
+            deliveries: 1,
+            bytes: copy.bytes,
+        };
+        self.tills[till_at(copy.to)]
+            .received
+            .count(u64::from(copy.is_original));
         self.ordered(copy.delivered, copy.sequence);
         self.returned(copy);
     }
 
     // A copy that a flush dropped.
     fn dropped(&mut self, copy: CopyTold) {
-        self.dropped.add(copy);
+        self.dropped.count(u64::from(copy.is_original));
         let till = &mut self.tills[till_at(copy.to)];
         till.lost = till.lost.wrapping_add(1);
         let link = &mut self.links[till_at(copy.from)][till_at(copy.to)];
@@ -153,9 +153,10 @@ impl Side {
         let list = behind_sign(word_at(line, 3)).unwrap_or(b"");
         let mut numbers = list.split(|b| matches!(*b, b':' | b','));
         for tally in self.tallies.iter_mut() {
-            let count = numbers.next().map_or(0, value);
-            let bytes = numbers.next().map_or(0, value);
-            tally.add(count, bytes);
+            *tally += Tally {
+                deliveries: numbers.next().map_or(0, value),
+                bytes: numbers.next().map_or(0, value),
+            };
         }
     }
 
@@ -166,7 +167,9 @@ impl Side {
             b"drop" => self.dropped(CopyTold::of(line)),
             b"accept" => self.accepted(line, first),
             b"flush" => self.flushed(line, first),
-            b"copy" => self.waiting.add(CopyTold::of(line)),
+            b"copy" => self
+                .waiting
+                .count(u64::from(CopyTold::of(line).is_original)),
             b"seen" => self.marks = self.marks.wrapping_add(field(line, 2)),
             b"transit" => self.transit = self.transit.wrapping_add(field(line, 1)),
             b"drain" => self.drained(line),

@@ -15,7 +15,7 @@ pub enum LineKind {
     Remark,
 }
 
-// Space, tab and carriage return.
+// Space, tab and carriage return. Not the script's own test: this crate uses no other, so that the verdict does not hang on the reader of scripts.
 fn is_blank(b: u8) -> bool
     ensures { result ≡ is.blank b }
 {

@@ -5,6 +5,7 @@ use sim_audit_account::Account;
 use sim_figures::Figures;
 use sim_lend::Network;
 use sim_printer::Printer;
+use sim_run_parts::{LINE, PIECE, REGIONS, ROOM, SLOTS, TILLS, TYPES};
 use sim_session::{input, lines, system};
 use std::io::Read;
 use std::rt::{Clock, Env, Files};
@@ -39,7 +40,7 @@ fn run<R: Clock, S: Read>(
             i,
             r,
         );
-        r = sim_audit_play::act(network, t.line, t.session, figures, due, page);
+        r = sim_run_parts::act(network, t.line, t.session, figures, due, page);
         i = t.input;
         if i.ended {
             break;
@@ -48,28 +49,12 @@ fn run<R: Clock, S: Read>(
     sim_audit_page::finish(page.as_slice(), account, sides);
 }
 
-// Bytes of a line: the hexadecimal digits of 65,536 wire bytes, and 4,096 more.
-const LINE: usize = 2 * 65536 + 4096;
-
-// Bytes that a line can stand for.
-const ROOM: usize = LINE / 2;
-
-const PIECE: usize = 65536;
-
 // Bytes of the book's answers to one call.
 const TEXT: usize = 524288;
 
-// The largest sizes: tills, slots, types, regions.
-const TILLS: usize = ask_tables::MOST_TILLS as usize;
-
-const SLOTS: usize = ask_tables::MOST_SLOTS as usize;
-
-const TYPES: usize = ask_tables::MOST_TYPES as usize;
-
-const REGIONS: usize = ask_tables::MOST_REGIONS as usize;
-
 // An audit on tables of its own: arrays of the largest sizes, all 0. Its tables stand on the stack once: it is not inlined
-// into its callers, of which one calls another.
+// into its callers, of which one calls another. They are written out here and in sim_run: without a heap they are this frame's, and no function
+// can hand them out.
 #[inline(never)]
 fn on_tables<R: Clock, S: Read>(rt: &R, from: &mut S) {
     let mut piece = [0u8; PIECE];
@@ -109,18 +94,11 @@ fn on_tables<R: Clock, S: Read>(rt: &R, from: &mut S) {
     );
 }
 
-// The line above the page of a file's recording.
-fn headed(name: &[u8]) {
-    io::write_all(sim_printer::STDOUT, b"AUDIT OF ");
-    io::write_all(sim_printer::STDOUT, name);
-    io::write_all(sim_printer::STDOUT, b"\n");
-}
-
 // The audit of the recording that a file has. A file that does not open is told on standard error.
 fn file<R: Files + Clock>(rt: &R, name: &[u8]) {
     match system::open_read(rt, name) {
         Ok(mut from) => {
-            headed(name);
+            system::head(b"AUDIT OF ", name);
             on_tables(rt, &mut from);
         }
         Err(e) => system::fail(name, e),
@@ -132,13 +110,6 @@ fn named<R: Files + Env + Clock>(rt: &R, k: usize) {
     let mut room = io::buffer();
     let n = system::arg(rt, k, &mut room);
     file(rt, sim_spelling::words::part(&room, 0, n));
-}
-
-// The audits of the recordings that the words from k on name, one after the other.
-fn each<R: Files + Env + Clock>(rt: &R, k: usize, words: usize) {
-    for i in k..words {
-        named(rt, i);
-    }
 }
 
 // The first word that can name a file, behind the program's name and `audit`.
@@ -155,7 +126,9 @@ pub fn is_asked(rt: &impl Env) -> bool {
 pub fn words<R: Files + Env + Clock + Input>(rt: &R) {
     let n = system::arg_count(rt);
     if FILES < n {
-        each(rt, FILES, n);
+        for k in FILES..n {
+            named(rt, k);
+        }
         return;
     }
     on_tables(rt, &mut rt.reader());

@@ -4,8 +4,8 @@
 ghost use Rattle.std.specs.Prelude.{◌<◌};
 
 use sim_audit_figures::Figures;
-use sim_audit_figures::copies::{Copies, Deliveries, Recipients};
 use sim_audit_figures::side::{CLASSES, Side, TILLS, Till};
+use sim_figures::{Five, Kinds, Tally};
 use sim_printer::Printer;
 use sim_sheet::label;
 
@@ -48,13 +48,13 @@ fn numbered(page: &mut Printer, what: &[u8], n: u64, rest: &[u8], recorded: u64,
 }
 
 // Originals and echoes.
-fn copies(page: &mut Printer, originals: &[u8], echoes: &[u8], recorded: Copies, book: Copies) {
+fn copies(page: &mut Printer, originals: &[u8], echoes: &[u8], recorded: Kinds, book: Kinds) {
     line(page, originals, recorded.originals, book.originals);
     line(page, echoes, recorded.echoes, book.echoes);
 }
 
 // Recipients, by accept's own counts.
-fn recipients(page: &mut Printer, recorded: Recipients, book: Recipients) {
+fn recipients(page: &mut Printer, recorded: Five, book: Five) {
     line(page, b"sent", recorded.sent, book.sent);
     line(
         page,
@@ -159,15 +159,8 @@ fn landed(page: &mut Printer, recorded: &Side, book: &Side) {
 }
 
 // What a class had, by the rows or by the tallies of the log.
-fn class(
-    page: &mut Printer,
-    what: &[u8],
-    k: u64,
-    count: &[u8],
-    recorded: Deliveries,
-    book: Deliveries,
-) {
-    numbered(page, what, k, count, recorded.count, book.count);
+fn class(page: &mut Printer, what: &[u8], k: u64, count: &[u8], recorded: Tally, book: Tally) {
+    numbered(page, what, k, count, recorded.deliveries, book.deliveries);
     numbered(page, what, k, b" bytes", recorded.bytes, book.bytes);
 }
 
@@ -197,7 +190,7 @@ fn order(page: &mut Printer, recorded: &Side, book: &Side) {
 }
 
 // A till as a sender: what became of its messages' recipients.
-fn sender(page: &mut Printer, t: u64, recorded: Recipients, book: Recipients) {
+fn sender(page: &mut Printer, t: u64, recorded: Five, book: Five) {
     numbered(page, b"till", t, b" sent", recorded.sent, book.sent);
     numbered(
         page,

@@ -72,6 +72,7 @@ fn counted(line: Line<'_>, account: &mut Account)
 }
 
 // The next line of the recording; `page` holds the book's answers to the last call. Bytes, keys and names go to `room`, masks to `masks`.
+// The buffers come one by one, as in `turns::next`.
 pub fn next<'a, R: Clock, S: Read>(
     rt: &R,
     from: &mut S,

@@ -1,28 +1,32 @@
 // The till, block and rule calls.
+use ask_refusal::Refusal;
 use ask_tables::{FAULT_WORDS, cell};
-use call_reply::{Done, Value};
 use sim_lend::Network;
-use sim_outcome::{Outcome, done, told, valued};
+use sim_outcome::{Outcome, done, found, refused, valued};
 use sim_printer::Printer;
 use sim_script::{Change, Passage};
 
 // A rule that went, with how often it fired, or that was gone.
-fn removed(page: &mut Printer, r: Value) -> Outcome {
-    if r.number == 0 && r.found == 0 {
-        page.text(b"remove 0 fired=-\n");
-        return told(0);
-    }
-    valued(page, "remove", "remove 1 fired=", r.number, r.value)
+fn removed(page: &mut Printer, answer: Result<Option<u64>, Refusal>) -> Outcome {
+    found(
+        page,
+        b"remove",
+        b"remove 1 fired=",
+        b"remove 0 fired=-\n",
+        answer,
+    )
 }
 
 // What the rules say, and the words of the fault stream behind it.
-fn decided(page: &mut Printer, r: Value, words: u64) -> Outcome {
-    if r.number != 0 {
-        return done(page, "decide", r.number);
+fn decided(page: &mut Printer, answer: Result<bool, Refusal>, words: u64) -> Outcome {
+    match answer {
+        Ok(drops) => {
+            let said = if drops { "drop" } else { "pass" };
+            page.print(format_args!("decide {said} words={words}\n"));
+            Outcome::Done
+        }
+        Err(refusal) => refused(page, b"decide", refusal),
     }
-    let said = if r.value == 1 { "drop" } else { "pass" };
-    page.print(format_args!("decide {said} words={words}\n"));
-    told(0)
 }
 
 // The rule of a drop card comes into force.
@@ -33,8 +37,8 @@ pub fn install(network: Network<'_>, card: &[u8], page: &mut Printer) -> Outcome
         rules,
         ..
     } = network;
-    let r = Value::from(call_rule::install(setup, net, rules, card));
-    valued(page, "install", "install id=", r.number, r.value)
+    let answer = call_rule::install(setup, net, rules, card);
+    valued(page, b"install", b"install id=", answer)
 }
 
 // The calls on tills and rules.
@@ -49,20 +53,20 @@ pub fn change(network: Network<'_>, change: Change, page: &mut Printer) -> Outco
     } = network;
     match change {
         Change::Down { till } => {
-            let d = Done::from(call_till::take_down(setup, tills, seen, till));
-            done(page, "down", d.number)
+            let answer = call_till::take_down(setup, tills, seen, till);
+            done(page, b"down", answer)
         }
         Change::Up { till, shards } => {
-            let d = Done::from(call_till::bring_up(setup, tills, till, shards));
-            done(page, "up", d.number)
+            let answer = call_till::bring_up(setup, tills, till, shards);
+            done(page, b"up", answer)
         }
         Change::Handlers { till, gossip, host } => {
-            let d = Done::from(call_till::set_handlers(setup, tills, till, gossip, host));
-            done(page, "handlers", d.number)
+            let answer = call_till::set_handlers(setup, tills, till, gossip, host);
+            done(page, b"handlers", answer)
         }
         Change::Remove { rule } => {
-            let r = Value::from(call_rule::remove(setup, net, rules, rule));
-            removed(page, r)
+            let answer = call_rule::remove(setup, net, rules, rule);
+            removed(page, answer)
         }
         Change::Decide {
             from,
@@ -71,8 +75,8 @@ pub fn change(network: Network<'_>, change: Change, page: &mut Printer) -> Outco
             tier,
             at,
         } => {
-            let r = Value::from(call_rule::decide(setup, net, rules, from, to, kind, tier, at));
-            decided(page, r, cell(net, FAULT_WORDS))
+            let answer = call_rule::decide(setup, net, rules, from, to, kind, tier, at);
+            decided(page, answer, cell(net, FAULT_WORDS))
         }
     }
 }
@@ -87,8 +91,8 @@ pub fn passage(network: Network<'_>, passage: Passage, page: &mut Printer) -> Ou
     } = network;
     match passage {
         Passage::Block { from, to } => {
-            let d = Done::from(call_block::block(setup, net, blocks, from, to));
-            done(page, "block", d.number)
+            let answer = call_block::block(setup, net, blocks, from, to);
+            done(page, b"block", answer)
         }
         Passage::BlockDuring {
             from,
@@ -96,12 +100,12 @@ pub fn passage(network: Network<'_>, passage: Passage, page: &mut Printer) -> Ou
             start,
             end,
         } => {
-            let d = Done::from(call_block::block_during(setup, net, blocks, from, to, start, end));
-            done(page, "blockd", d.number)
+            let answer = call_block::block_during(setup, net, blocks, from, to, start, end);
+            done(page, b"blockd", answer)
         }
         Passage::Unblock { from, to } => {
-            let d = Done::from(call_block::unblock(setup, net, blocks, from, to));
-            done(page, "unblock", d.number)
+            let answer = call_block::unblock(setup, net, blocks, from, to);
+            done(page, b"unblock", answer)
         }
     }
 }

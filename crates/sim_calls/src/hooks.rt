@@ -1,12 +1,10 @@
 // Hooks that write a counter, so that limits can be tried.
+use ask_refusal::Refusal;
 use ask_tables::{FAULT_WORDS, INSTALLED, MOST_TILLS, RULES, SEQUENCE, TILLS, cell, put};
 use sim_lend::Network;
 use sim_outcome::{Outcome, done};
 use sim_printer::Printer;
 use sim_script::Hook;
-
-// The question that a till beyond the opening's meets.
-const NO_TILL: u64 = 4;
 
 // The fired count of a rule; no rule, no change.
 fn set_fired(rules: &mut [u64], n: u64, id: u64, to: u64) {
@@ -19,13 +17,13 @@ fn set_fired(rules: &mut [u64], n: u64, id: u64, to: u64) {
     }
 }
 
-// The word count of a link.
-fn set_words(words: &mut [u64], tills: u64, from: u64, to: u64, n: u64) -> u64 {
+// The word count of a link between two of the opening's tills.
+fn set_words(words: &mut [u64], tills: u64, from: u64, to: u64, n: u64) -> Result<(), Refusal> {
     if tills <= from || tills <= to || MOST_TILLS < tills {
-        return NO_TILL;
+        return Err(Refusal::Till);
     }
     put(words, (from * MOST_TILLS + to) as usize, n);
-    0
+    Ok(())
 }
 
 // Writes a counter.
@@ -40,23 +38,23 @@ pub fn hook(network: Network<'_>, hook: Hook, page: &mut Printer) -> Outcome {
     match hook {
         Hook::Fired { rule, count } => {
             set_fired(rules, cell(net, RULES), rule, count);
-            done(page, "setfired", 0)
+            done(page, b"setfired", Ok(()))
         }
         Hook::Words { from, to, count } => {
-            let number = set_words(words, cell(setup, TILLS), from, to, count);
-            done(page, "setwords", number)
+            let answer = set_words(words, cell(setup, TILLS), from, to, count);
+            done(page, b"setwords", answer)
         }
         Hook::FaultWords { count } => {
             put(net, FAULT_WORDS, count);
-            done(page, "setwords", 0)
+            done(page, b"setwords", Ok(()))
         }
         Hook::Sequence { last } => {
             put(net, SEQUENCE, last);
-            done(page, "setseq", 0)
+            done(page, b"setseq", Ok(()))
         }
         Hook::Installed { count } => {
             put(net, INSTALLED, count);
-            done(page, "setrules", 0)
+            done(page, b"setrules", Ok(()))
         }
     }
 }

@@ -1,41 +1,40 @@
 // The calls that read a network.
+use ask_refusal::Refusal;
 use ask_tables::{BLOCKS, FAULT_WORDS, RULES, TILLS, TYPES, cell};
-use call_reply::Value;
-use call_till::Marks;
-use call_waiting::Copied;
-use sim_lend::Network;
-use sim_outcome::{Outcome, done, told, valued};
+use sim_lend::{Network, rows};
+use sim_outcome::{Outcome, found, refused, valued};
 use sim_printer::Printer;
 use sim_script::{Single, Table};
 
+// Whether messages are blocked: 1 or 0.
+fn blocked(page: &mut Printer, answer: Result<bool, Refusal>) -> Outcome {
+    valued(page, b"isblocked", b"isblocked ", answer.map(u64::from))
+}
+
 // How often a rule fired, or that it is gone.
-fn fired(page: &mut Printer, r: Value) -> Outcome {
-    if r.number == 0 && r.found == 0 {
-        page.text(b"fired gone\n");
-        return told(0);
-    }
-    valued(page, "fired", "fired ", r.number, r.value)
+fn fired(page: &mut Printer, answer: Result<Option<u64>, Refusal>) -> Outcome {
+    found(page, b"fired", b"fired ", b"fired gone\n", answer)
 }
 
 // The time of the first copy, or that there is none.
-fn next(page: &mut Printer, r: Value) -> Outcome {
-    if r.number == 0 && r.found == 0 {
-        page.text(b"next -\n");
-        return told(0);
-    }
-    valued(page, "next", "next ", r.number, r.value)
+fn next(page: &mut Printer, answer: Result<Option<u64>, Refusal>) -> Outcome {
+    found(page, b"next", b"next ", b"next -\n", answer)
+}
+
+// The marks of a till.
+fn marks(page: &mut Printer, t: u64, marks: &[u64]) -> Outcome {
+    page.print(format_args!("seen {t} {}", marks.len()));
+    sim_answers::ids(page, marks);
+    page.text(b"\n");
+    Outcome::Done
 }
 
 // The marks of a till, through the output.
 fn seen_by(t: u64, setup: &[u64], seen: &[u64], out: &mut [u64], page: &mut Printer) -> Outcome {
-    let r = Marks::from(call_till::marks_of(setup, seen, t, out));
-    if r.number != 0 {
-        return done(page, "seen", r.number);
+    match call_till::marks_of(setup, seen, t, out) {
+        Ok(n) => marks(page, t, sim_lend::part(out, n as usize)),
+        Err(refusal) => refused(page, b"seen", refusal),
     }
-    page.print(format_args!("seen {t} {}", r.count));
-    sim_answers::ids(page, sim_lend::part(out, r.count as usize));
-    page.text(b"\n");
-    told(0)
 }
 
 // The marks of every till.
@@ -53,13 +52,27 @@ fn waiting_list(
     out: &mut [u64],
     page: &mut Printer,
 ) -> Outcome {
-    let r = Copied::from(call_waiting::waiting_copies(setup, net, waiting, out));
-    if r.number != 0 {
-        return done(page, "waiting", r.number);
+    match call_waiting::waiting_copies(setup, net, waiting, out) {
+        Ok(n) => {
+            page.print(format_args!("waiting {n}\n"));
+            sim_answers::copies(page, rows(out, table_waiting::WIDTH, n));
+            Outcome::Done
+        }
+        Err(refusal) => refused(page, b"waiting", refusal),
     }
-    page.print(format_args!("waiting {}\n", r.copies));
-    sim_answers::copies(page, out, r.copies as usize);
-    told(0)
+}
+
+// The tills of the opening, the windows in force, the rules in force.
+fn tills_of<'a>(setup: &[u64], tills: &'a [u64]) -> &'a [u64] {
+    rows(tills, ask_tables::TILL_WIDTH, cell(setup, TILLS))
+}
+
+fn blocks_of<'a>(net: &[u64], blocks: &'a [u64]) -> &'a [u64] {
+    rows(blocks, fault_blocks::WIDTH, cell(net, BLOCKS))
+}
+
+fn rules_of<'a>(net: &[u64], rules: &'a [u64]) -> &'a [u64] {
+    rows(rules, fault_rules::WIDTH, cell(net, RULES))
 }
 
 // The tables, the marks of every till, and the waiting copies.
@@ -77,9 +90,9 @@ pub fn state(network: Network<'_>, page: &mut Printer) -> Outcome {
         out,
         ..
     } = network;
-    sim_answers::tills(page, tills, cell(setup, TILLS) as usize);
-    sim_answers::blocks(page, blocks, cell(net, BLOCKS) as usize);
-    sim_answers::rules(page, rules, cell(net, RULES) as usize);
+    sim_answers::tills(page, tills_of(setup, tills));
+    sim_answers::blocks(page, blocks_of(net, blocks));
+    sim_answers::rules(page, rules_of(net, rules));
     sim_answers::words(page, words, cell(net, FAULT_WORDS));
     sim_answers::rings(page, rings, cell(setup, TYPES) as usize);
     all_seen(setup, seen, out, page);
@@ -99,13 +112,13 @@ pub fn table(network: Network<'_>, table: Table, page: &mut Printer) -> Outcome 
         ..
     } = network;
     match table {
-        Table::Tills => sim_answers::tills(page, tills, cell(setup, TILLS) as usize),
-        Table::Blocks => sim_answers::blocks(page, blocks, cell(net, BLOCKS) as usize),
-        Table::Rules => sim_answers::rules(page, rules, cell(net, RULES) as usize),
+        Table::Tills => sim_answers::tills(page, tills_of(setup, tills)),
+        Table::Blocks => sim_answers::blocks(page, blocks_of(net, blocks)),
+        Table::Rules => sim_answers::rules(page, rules_of(net, rules)),
         Table::Words => sim_answers::words(page, words, cell(net, FAULT_WORDS)),
         Table::Rings => sim_answers::rings(page, rings, cell(setup, TYPES) as usize),
     }
-    told(0)
+    Outcome::Done
 }
 
 // A reading of one answer or one list.
@@ -122,26 +135,26 @@ pub fn single(network: Network<'_>, reading: Single, page: &mut Printer) -> Outc
     } = network;
     match reading {
         Single::IsBlocked { from, to, at } => {
-            let r = Value::from(call_block::is_blocked(setup, net, blocks, from, to, at));
-            valued(page, "isblocked", "isblocked ", r.number, r.value)
+            let answer = call_block::is_blocked(setup, net, blocks, from, to, at);
+            blocked(page, answer)
         }
         Single::Fired { rule } => {
-            let r = Value::from(call_rule::fired(setup, net, rules, rule));
-            fired(page, r)
+            let answer = call_rule::fired(setup, net, rules, rule);
+            fired(page, answer)
         }
         Single::Transit { till } => {
-            let r = Value::from(call_waiting::in_transit(setup, net, waiting, till));
-            valued(page, "transit", "transit ", r.number, r.value)
+            let answer = call_waiting::in_transit(setup, net, waiting, till);
+            valued(page, b"transit", b"transit ", answer)
         }
         Single::Next => {
-            let r = Value::from(call_waiting::next_time(setup, net, waiting));
-            next(page, r)
+            let answer = call_waiting::next_time(setup, net, waiting);
+            next(page, answer)
         }
         Single::Waiting => waiting_list(setup, net, waiting, out, page),
         Single::Seen { till } => seen_by(till, setup, seen, out, page),
         Single::AllSeen => {
             all_seen(setup, seen, out, page);
-            told(0)
+            Outcome::Done
         }
     }
 }

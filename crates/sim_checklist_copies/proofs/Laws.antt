@@ -1,5 +1,5 @@
 -- The rows and tables of parts D and E from their pieces.
-use Rattle.std.proofs.Common.{◌≡◌, ℕ, Bool, true, false, eqb, List, [], ◌∷◌, sym, ap, ◌∙◌, subst, eq-eqb, ne_eqb}
+use Rattle.std.proofs.Common.{◌≡◌, ℕ, Bool, true, false, eqb, [], ◌∷◌, sym, ap, ◌∙◌, subst, eq-eqb, ne_eqb}
 use Rattle.sim_printer.specs.Printer.{Page, Spelled}
 use Rattle.sim_figures.specs.declared.Figures.{Figures}
 use Rattle.sim_figures.specs.declared.TillFigures.{TillFigures}
@@ -39,7 +39,8 @@ pub a-log :
 unfolding class_table
 a-log p m o q l of n d e z a b ed v =
     simp (ne_eqb (l.log) 0 (λ y. z (e ∙ y)))
-    (onward (saying "class               = rows                 = log\n") _ p m q a (onward (class_lines l of) (verdict_line (eqb (classes_differ l of) 0)) m o q b (shown_none d (classes_differ l of) o q ed v)))
+    (onward (saying "class               = rows                 = log\n") _ p m q a
+    (onward (class_lines l of) (verdict_line (eqb (classes_differ l of) 0)) m o q b (shown_none d (classes_differ l of) o q ed v)))
 
 -- ---- Slips
 

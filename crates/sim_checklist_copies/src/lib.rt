@@ -7,7 +7,7 @@ ghost use Rattle.std.specs.Prelude.{◌≡◌};
 ghost use Rattle.sim_sheet.specs.Sheet.{Prints};
 ghost use Rattle.sim_checklist_copies.specs.Copies as is;
 
-use sim_comparison::{Counted, Pair};
+use sim_comparison::{Column, Counted, Pair};
 use sim_figures::{Figures, Kinds};
 use sim_printer::Printer;
 use sim_sheet::{WIDE, compared, label, right, say, three, verdict, verdict_in};
@@ -49,7 +49,7 @@ pub fn copies(figures: &Figures, page: &mut Printer)
     columns(figures, page);
     compared(
         page,
-        sim_comparison::in_transit(figures),
+        sim_comparison::by_tills(figures, Column::Transit),
         b"= in transit, all slips",
         b"= originals that wait",
     );

@@ -1,7 +1,7 @@
 -- The parts of the checklist from their lines; a table from its rows.
-use mathlib.Core.Path.{◌≡◌, ap, subst, sym, ◌∙◌}
-use mathlib.Core.List.{List, [], ◌∷◌}
-use Prim.Native.Nat.{ℕ, ◌+◌}
+use mathlib.Core.Path.{◌≡◌, subst, sym, ◌∙◌}
+use mathlib.Core.List.{[], ◌∷◌}
+use Prim.Native.Nat.{ℕ}
 use borrow.Author.Tests.{eq-eqb, ne_eqb}
 use Rattle.sim_printer.specs.Printer.{Page, Spelled}
 use Rattle.sim_figures.specs.declared.Figures.{Figures}

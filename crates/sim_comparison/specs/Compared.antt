@@ -74,6 +74,17 @@ faults_of l = pair (column_of l Fault) l.five.fault
 abbrev pub sender_drops_of : Figures → Pair
 sender_drops_of l = pair (column_of l LostFrom) (both_of l.dropped)
 
+-- each by its name, with that of the slips
+abbrev pub whole_of : Figures → Column → ℕ
+whole_of l Partition = l.five.partition
+whole_of l Loss = l.five.loss
+whole_of l Fault = l.five.fault
+whole_of l LostFrom = both_of l.dropped
+whole_of l Transit = l.waiting.originals
+
+abbrev pub column_pair : Figures → Column → Pair
+column_pair l of = pair (column_of l of) (whole_of l of)
+
 -- ---- D. copies that wait, landed or were dropped; copies scheduled: originals as sent, all by the sequences given, echoes what is left
 
 abbrev pub placed_originals : Figures → ℕ
@@ -81,6 +92,9 @@ placed_originals l = plus (plus l.landed.originals l.dropped.originals) l.waitin
 
 abbrev pub placed_echoes : Figures → ℕ
 placed_echoes l = plus (plus l.landed.echoes l.dropped.echoes) l.waiting.echoes
+
+abbrev pub placed_of : Figures → Kinds
+placed_of l = record { originals = placed_originals l; echoes = placed_echoes l }
 
 abbrev pub scheduled_of : Figures → ℕ
 scheduled_of l = l.last - l.first

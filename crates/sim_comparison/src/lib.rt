@@ -14,12 +14,14 @@ pub struct Pair {
 }
 
 impl Pair {
+    // Are the two the same?
     pub fn agrees(self) -> bool
         ensures { result ≡ is.agreed self }
     {
         self.left == self.right
     }
 
+    // Is the left one no more than the right one?
     pub fn is_within(self) -> bool
         ensures { result ≡ is.within self }
     {
@@ -38,6 +40,7 @@ pub enum Column {
 }
 
 impl Column {
+    // The figure of one till.
     fn of(self, till: &TillFigures) -> u64
         ensures { result ≡ is.till_figure self till.now }
     {
@@ -59,6 +62,7 @@ pub enum Counted {
 }
 
 impl Counted {
+    // What is counted, of a tally.
     fn of(self, tally: Tally) -> u64
         ensures { result ≡ is.tally_figure self tally }
     {
@@ -109,6 +113,7 @@ pub fn refused(figures: &Figures) -> u64
         .fold(0, |sum: u64, n| sum.wrapping_add(*n))
 }
 
+// The five counts together, and the recipients.
 pub fn counts(figures: &Figures) -> Pair
     ensures { result ≡ is.counts_of figures.now }
 {
@@ -118,6 +123,7 @@ pub fn counts(figures: &Figures) -> Pair
     }
 }
 
+// The marks that were sent and have not gone, and those that stand.
 pub fn marks(figures: &Figures) -> Pair
     ensures { result ≡ is.marks_of figures.now }
 {
@@ -128,6 +134,7 @@ pub fn marks(figures: &Figures) -> Pair
     }
 }
 
+// The marks that flushes took away, and the originals that they dropped.
 pub fn cleared(figures: &Figures) -> Pair
     ensures { result ≡ is.cleared_of figures.now }
 {
@@ -137,6 +144,7 @@ pub fn cleared(figures: &Figures) -> Pair
     }
 }
 
+// What was dropped at accept, and the recipients that were neither sent to nor deduplicated.
 pub fn at_accept(figures: &Figures) -> Pair
     ensures { result ≡ is.at_accept_of figures.now }
 {
@@ -151,6 +159,7 @@ pub fn at_accept(figures: &Figures) -> Pair
     }
 }
 
+// The copies that flushes dropped, and what they said of it.
 pub fn flush_drops(figures: &Figures) -> Pair
     ensures { result ≡ is.flush_drops_of figures.now }
 {
@@ -160,70 +169,46 @@ pub fn flush_drops(figures: &Figures) -> Pair
     }
 }
 
-// The partitions of every till, and those of the run.
-pub fn partitions(figures: &Figures) -> Pair
-    ensures { result ≡ is.partitions_of figures.now }
+// A figure of every till together, and the run's own.
+pub fn by_tills(figures: &Figures, of: Column) -> Pair
+    ensures { result ≡ is.column_pair figures.now of }
 {
+    let right = match of {
+        Column::Partition => figures.five.partition,
+        Column::Loss => figures.five.loss,
+        Column::Fault => figures.five.fault,
+        Column::LostFrom => both(figures.dropped),
+        Column::Transit => figures.waiting.originals,
+    };
     Pair {
-        left: total(figures, Column::Partition),
-        right: figures.five.partition,
+        left: total(figures, of),
+        right,
     }
 }
 
-// The losses of every till, and those of the run.
-pub fn losses(figures: &Figures) -> Pair
-    ensures { result ≡ is.losses_of figures.now }
+// The copies that landed, were dropped or wait.
+fn placed(figures: &Figures) -> Kinds
+    ensures { result ≡ is.placed_of figures.now }
 {
-    Pair {
-        left: total(figures, Column::Loss),
-        right: figures.five.loss,
+    let (landed, dropped, waiting) = (figures.landed, figures.dropped, figures.waiting);
+    Kinds {
+        originals: landed
+            .originals
+            .wrapping_add(dropped.originals)
+            .wrapping_add(waiting.originals),
+        echoes: landed
+            .echoes
+            .wrapping_add(dropped.echoes)
+            .wrapping_add(waiting.echoes),
     }
 }
 
-// What fault rules dropped of every till, and of the run.
-pub fn faults(figures: &Figures) -> Pair
-    ensures { result ≡ is.faults_of figures.now }
-{
-    Pair {
-        left: total(figures, Column::Fault),
-        right: figures.five.fault,
-    }
-}
-
-// What flushes dropped, by the tills that sent it, and in all.
-pub fn sender_drops(figures: &Figures) -> Pair
-    ensures { result ≡ is.sender_drops_of figures.now }
-{
-    Pair {
-        left: total(figures, Column::LostFrom),
-        right: both(figures.dropped),
-    }
-}
-
-// The originals that landed, were dropped or wait.
-fn placed_originals(figures: &Figures) -> u64
-    ensures { result ≡ is.placed_originals figures.now }
-{
-    let moved = figures
-        .landed
-        .originals
-        .wrapping_add(figures.dropped.originals);
-    moved.wrapping_add(figures.waiting.originals)
-}
-
-// The echoes that did.
-fn placed_echoes(figures: &Figures) -> u64
-    ensures { result ≡ is.placed_echoes figures.now }
-{
-    let moved = figures.landed.echoes.wrapping_add(figures.dropped.echoes);
-    moved.wrapping_add(figures.waiting.echoes)
-}
-
+// The originals that landed, were dropped or wait, and the sent ones.
 pub fn originals(figures: &Figures) -> Pair
     ensures { result ≡ is.originals_of figures.now }
 {
     Pair {
-        left: placed_originals(figures),
+        left: placed(figures).originals,
         right: figures.five.sent,
     }
 }
@@ -235,15 +220,17 @@ fn scheduled(figures: &Figures) -> u64
     figures.last.saturating_sub(figures.first)
 }
 
+// The echoes that landed, were dropped or wait, and the sequences that no original has.
 pub fn echoes(figures: &Figures) -> Pair
     ensures { result ≡ is.echoes_of figures.now }
 {
     Pair {
-        left: placed_echoes(figures),
+        left: placed(figures).echoes,
         right: scheduled(figures).saturating_sub(figures.five.sent),
     }
 }
 
+// All copies, and the sequences that were given.
 pub fn copies(figures: &Figures) -> Pair
     ensures { result ≡ is.copies_of figures.now }
 {
@@ -254,15 +241,7 @@ pub fn copies(figures: &Figures) -> Pair
     }
 }
 
-pub fn in_transit(figures: &Figures) -> Pair
-    ensures { result ≡ is.in_transit_of figures.now }
-{
-    Pair {
-        left: total(figures, Column::Transit),
-        right: figures.waiting.originals,
-    }
-}
-
+// The copies that landed, and the rows that flushes said.
 pub fn rows(figures: &Figures) -> Pair
     ensures { result ≡ is.rows_of figures.now }
 {
@@ -272,6 +251,7 @@ pub fn rows(figures: &Figures) -> Pair
     }
 }
 
+// The rows out of order, and none.
 pub fn order(figures: &Figures) -> Pair
     ensures { result ≡ is.order_of figures.now }
 {
@@ -281,6 +261,7 @@ pub fn order(figures: &Figures) -> Pair
     }
 }
 
+// The rows with a handler, and the deliveries that flushes said.
 pub fn delivered(figures: &Figures) -> Pair
     ensures { result ≡ is.delivered_of figures.now }
 {
@@ -327,18 +308,20 @@ fn differing(agree: &[bool]) -> u64
     agree.iter().filter(|same| !**same).count() as u64
 }
 
+// How many of the comparisons by sender differ.
 #[tactic(auto, unfolding(crate::specs::Compared::senders_differ))]
 pub fn senders_differ(figures: &Figures) -> u64
     ensures { result ≡ is.senders_differ figures.now }
 {
     differing(&[
-        partitions(figures).agrees(),
-        losses(figures).agrees(),
-        faults(figures).agrees(),
-        sender_drops(figures).agrees(),
+        by_tills(figures, Column::Partition).agrees(),
+        by_tills(figures, Column::Loss).agrees(),
+        by_tills(figures, Column::Fault).agrees(),
+        by_tills(figures, Column::LostFrom).agrees(),
     ])
 }
 
+// How many of the comparisons of accepts and marks differ.
 #[tactic(auto, unfolding(crate::specs::Compared::accepts_differ))]
 fn accepts_differ(figures: &Figures) -> u64
     ensures { result ≡ is.accepts_differ figures.now }
@@ -352,6 +335,7 @@ fn accepts_differ(figures: &Figures) -> u64
     ])
 }
 
+// How many of the comparisons of copies differ.
 #[tactic(auto, unfolding(crate::specs::Compared::copies_differ))]
 fn copies_differ(figures: &Figures) -> u64
     ensures { result ≡ is.copies_differ figures.now }
@@ -360,10 +344,11 @@ fn copies_differ(figures: &Figures) -> u64
         originals(figures).agrees(),
         echoes(figures).agrees(),
         copies(figures).agrees(),
-        in_transit(figures).agrees(),
+        by_tills(figures, Column::Transit).agrees(),
     ])
 }
 
+// How many of the comparisons of rows differ.
 #[tactic(auto, unfolding(crate::specs::Compared::rows_differ))]
 fn rows_differ(figures: &Figures) -> u64
     ensures { result ≡ is.rows_differ figures.now }

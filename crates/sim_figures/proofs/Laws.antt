@@ -1,5 +1,6 @@
 -- Recursions on the number of tills, one till more.
-use Rattle.std.proofs.Common.{◌≡◌, ℕ, ◌+◌, List, slice_index, ◌≤◌, Bool, true, false, arith, refl, ap, add-one, ◌∙◌}
+use Rattle.std.proofs.Common.{◌≡◌, ℕ, ◌+◌, List, slice_index, ◌≤◌, Bool, true, false, arith, refl, ap, add-one, ◌∙◌, zero, suc, take, length, length-take-le}
+use Rattle.std.proofs.lemmas.Grind.{common_steps}
 use Rattle.std.specs.Int.{from_bool}
 use Rattle.sim_figures.specs.declared.Figures.{Figures}
 use Rattle.sim_figures.specs.Notes.{masked, up_note, recipients_of, receives, bit}
@@ -11,6 +12,15 @@ masked_none l masks = refl
 pub masked_more : (l m n : Figures) (masks : List ℕ) (t : ℕ) → m ≡ masked l masks t → n ≡ up_note m t (slice_index masks t) → n ≡ masked l masks (t + 1)
 unfolding masked
 masked_more l m n masks t e f = rw add-one (f ∙ ap (λ (x : Figures). up_note x t (slice_index masks t)) e)
+
+masked_front : (l : Figures) (masks : List ℕ) (n k : ℕ) → k ≤ n → masked l (take n masks) k ≡ masked l masks k
+unfolding masked
+masked_front l masks n zero b = refl
+masked_front l masks n (suc k) b = let e = masked_front l masks n k (omega arith) in grind (arith, common_steps, e)
+
+-- as many masks as tills, or all of them
+pub masked_by_front : (l : Figures) (masks : List ℕ) (n : ℕ) → n ≤ length masks → masked l (take n masks) (length (take n masks)) ≡ masked l masks n
+masked_by_front l masks n b = rw (length-take-le n masks b) (masked_front l masks n n (omega arith))
 
 pub recipients_none : (l : Figures) (from scope : ℕ) → 0 ≡ recipients_of l from scope 0
 unfolding recipients_of

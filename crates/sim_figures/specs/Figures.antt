@@ -1,5 +1,5 @@
 -- The figures of a run, a record; the rows of its tills, classes and questions; what is added to them. Figures wrap at 2^64.
-use Rattle.std.specs.Prelude.{ℕ, ◌+◌, ◌%◌, ◌^◌, min, cond, ◌==◌, List, replicate, slice_index, slice_index_or, slice_set}
+use Rattle.std.specs.Prelude.{ℕ, ◌+◌, ◌%◌, ◌^◌, min, cond, ◌==◌, replicate, slice_index, slice_index_or, slice_set}
 use Rattle.sim_figures.specs.declared.Five.{Five}
 use Rattle.sim_figures.specs.declared.Said.{Said}
 use Rattle.sim_figures.specs.declared.Kinds.{Kinds}

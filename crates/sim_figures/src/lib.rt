@@ -10,6 +10,7 @@ ghost use Rattle.std.specs.Prelude.{◌≡◌, ◌+◌, ◌≤◌, min, length, 
 ghost use Rattle.sim_figures.specs.Figures as at;
 ghost use Rattle.sim_figures.specs.Notes as note;
 
+use std::ops::AddAssign;
 use table_rows::Row;
 use table_waiting::Copy;
 
@@ -27,10 +28,10 @@ pub const CLASSES: usize = MOST_CLASSES as usize + 1;
 
 pub const NUMBERS: usize = MOST_NUMBERS as usize + 1;
 
-// A scope that is no shard.
+// A scope that is no shard: a number, as the engine's calls take it from C. This crate uses none of the calls'.
 const GLOBAL: u64 = 16;
 
-// Where a row has its handlers.
+// Where a row has its handlers. Words by their places: this crate uses none of the calls', whose flush writes a row.
 const GOSSIP: usize = table_waiting::WIDTH;
 
 const HOST: usize = table_waiting::WIDTH + 1;
@@ -38,8 +39,9 @@ const HOST: usize = table_waiting::WIDTH + 1;
 // How many words a row has.
 const ROW: usize = table_waiting::WIDTH + 2;
 
-// What became of a message's recipients.
-#[derive(Clone, Copy)]
+// What became of a message's recipients. This and a tally are not the types of the call and of its log: this crate uses none of theirs, so that
+// what is counted here does not hang on what it is compared with.
+#[derive(Clone, Copy, Debug, PartialEq, Eq, Default, Drop)]
 pub struct Five {
     pub sent: u64,
     pub deduplicated: u64,
@@ -49,7 +51,7 @@ pub struct Five {
 }
 
 // What a flush says of itself: rows, delivered and dropped copies.
-#[derive(Clone, Copy)]
+#[derive(Clone, Copy, Debug, PartialEq, Eq, Default, Drop)]
 pub struct Said {
     pub rows: u64,
     pub delivered: u64,
@@ -57,28 +59,28 @@ pub struct Said {
 }
 
 // Copies of both kinds.
-#[derive(Clone, Copy)]
+#[derive(Clone, Copy, Debug, PartialEq, Eq, Default, Drop)]
 pub struct Kinds {
     pub originals: u64,
     pub echoes: u64,
 }
 
 // Deliveries and their bytes.
-#[derive(Clone, Copy)]
+#[derive(Clone, Copy, Debug, PartialEq, Eq, Default, Drop)]
 pub struct Tally {
     pub deliveries: u64,
     pub bytes: u64,
 }
 
 // Of a class: by the rows, and by the log.
-#[derive(Clone, Copy)]
+#[derive(Clone, Copy, Default)]
 pub struct ClassFigures {
     pub rows: Tally,
     pub logged: Tally,
 }
 
 // Of a till: its shard mask; as sender the five counts; landed at it; flush drops on the way to it, and of what it sent; waiting for it.
-#[derive(Clone, Copy)]
+#[derive(Clone, Copy, Default)]
 pub struct TillFigures {
     pub mask: u64,
     pub sent: Five,
@@ -122,38 +124,6 @@ pub struct Figures {
     pub of_tills: [TillFigures; TILLS],
 }
 
-const NO_FIVE: Five = Five {
-    sent: 0,
-    deduplicated: 0,
-    partition: 0,
-    loss: 0,
-    fault: 0,
-};
-
-const NO_COPIES: Kinds = Kinds {
-    originals: 0,
-    echoes: 0,
-};
-
-const NO_TALLY: Tally = Tally {
-    deliveries: 0,
-    bytes: 0,
-};
-
-const NO_CLASS: ClassFigures = ClassFigures {
-    rows: NO_TALLY,
-    logged: NO_TALLY,
-};
-
-const NO_TILL: TillFigures = TillFigures {
-    mask: 0,
-    sent: NO_FIVE,
-    received: 0,
-    lost_to: 0,
-    lost_from: 0,
-    transit: 0,
-};
-
 // Every figure 0.
 pub fn none() -> Figures
     ensures { result ≡ at.no_figures }
@@ -165,26 +135,22 @@ pub fn none() -> Figures
         last: 0,
         accepts: 0,
         recipients: 0,
-        five: NO_FIVE,
+        five: Five::default(),
         down_marks: 0,
         flush_marks: 0,
         standing: 0,
         flushes: 0,
-        said: Said {
-            rows: 0,
-            delivered: 0,
-            dropped: 0,
-        },
+        said: Said::default(),
         handled: 0,
         late: 0,
         time: 0,
         sequence: 0,
-        landed: NO_COPIES,
-        dropped: NO_COPIES,
-        waiting: NO_COPIES,
+        landed: Kinds::default(),
+        dropped: Kinds::default(),
+        waiting: Kinds::default(),
         refused: [0; NUMBERS],
-        classes: [NO_CLASS; CLASSES],
-        of_tills: [NO_TILL; TILLS],
+        classes: [ClassFigures::default(); CLASSES],
+        of_tills: [TillFigures::default(); TILLS],
     }
 }
 
@@ -212,10 +178,11 @@ fn refused_row(number: u64) -> usize
     number.min(MOST_NUMBERS) as usize
 }
 
-impl Five {
-    fn add(&mut self, more: Five)
-        ensures { self.new ≡ at.five_added self.old more }
-    {
+impl AddAssign for Five {
+    ghost add_assign_gives = { λ old more new. new ≡ at.five_added old more };
+
+    // Those of another message with them, wrapping.
+    fn add_assign(&mut self, more: Five) {
         self.sent = self.sent.wrapping_add(more.sent);
         self.deduplicated = self.deduplicated.wrapping_add(more.deduplicated);
         self.partition = self.partition.wrapping_add(more.partition);
@@ -224,10 +191,11 @@ impl Five {
     }
 }
 
-impl Said {
-    fn add(&mut self, more: Said)
-        ensures { self.new ≡ at.said_added self.old more }
-    {
+impl AddAssign for Said {
+    ghost add_assign_gives = { λ old more new. new ≡ at.said_added old more };
+
+    // Those of another flush with them, wrapping.
+    fn add_assign(&mut self, more: Said) {
         self.rows = self.rows.wrapping_add(more.rows);
         self.delivered = self.delivered.wrapping_add(more.delivered);
         self.dropped = self.dropped.wrapping_add(more.dropped);
@@ -236,7 +204,7 @@ impl Said {
 
 impl Kinds {
     // One copy more: an original's flag is not 0.
-    fn count(&mut self, original: u64)
+    pub fn count(&mut self, original: u64)
         ensures { self.new ≡ at.counted self.old original }
     {
         if original == 0 {
@@ -247,10 +215,11 @@ impl Kinds {
     }
 }
 
-impl Tally {
-    fn add(&mut self, more: Tally)
-        ensures { self.new ≡ at.tally_added self.old more }
-    {
+impl AddAssign for Tally {
+    ghost add_assign_gives = { λ old more new. new ≡ at.tally_added old more };
+
+    // Some more of them, wrapping.
+    fn add_assign(&mut self, more: Tally) {
         self.deliveries = self.deliveries.wrapping_add(more.deliveries);
         self.bytes = self.bytes.wrapping_add(more.bytes);
     }
@@ -294,17 +263,18 @@ impl Figures {
         self.refused[refused_row(number)]
     }
 
+    // The shards of a till.
     fn set_mask(&mut self, t: u64, mask: u64)
         ensures { self.new ≡ note.up_note self.old t mask }
     {
         self.of_tills[till_row(t)].mask = mask;
     }
 
-    fn set_masks(&mut self, masks: &[u64], n: usize)
-        requires { n ≤ length masks.now }
-        ensures { self.new ≡ note.masked self.old masks.now n }
+    // The shards of the first tills, one mask a till.
+    fn set_masks(&mut self, masks: &[u64])
+        ensures { self.new ≡ note.masked self.old masks.now (length masks.now) }
     {
-        for t in 0..n {
+        for t in 0..masks.len() {
             self.set_mask(t as u64, masks[t]);
         }
     }
@@ -321,7 +291,8 @@ impl Figures {
             last: sequence,
             ..none()
         };
-        self.set_masks(masks, tills.min(masks.len() as u64) as usize);
+        let n = tills.min(masks.len() as u64) as usize;
+        self.set_masks(&masks[..n]);
     }
 
     // A till is down; gone is how many marks went with it.
@@ -385,8 +356,8 @@ impl Figures {
         let n = self.counted(from, scope, opens);
         self.accepts = self.accepts.wrapping_add(1);
         self.recipients = self.recipients.wrapping_add(n);
-        self.five.add(five);
-        self.of_tills[till_row(from)].sent.add(five);
+        self.five += five;
+        self.of_tills[till_row(from)].sent += five;
         self.last = sequence;
     }
 
@@ -399,6 +370,7 @@ impl Figures {
         *count = count.wrapping_add(1);
     }
 
+    // A row's place in the order of its flush.
     #[tactic(auto, unfolding(crate::specs::Notes::order_note))]
     fn note_order(&mut self, time: u64, sequence: u64)
         ensures { self.new ≡ note.order_note self.old time sequence }
@@ -409,6 +381,7 @@ impl Figures {
         self.sequence = sequence;
     }
 
+    // A delivery of a class.
     #[tactic(auto, unfolding(crate::specs::Notes::class_note))]
     fn note_class(&mut self, class: u64, bytes: u64)
         ensures { self.new ≡ note.class_note self.old «class» bytes }
@@ -417,9 +390,10 @@ impl Figures {
             deliveries: 1,
             bytes,
         };
-        self.classes[class_row(class)].rows.add(tally);
+        self.classes[class_row(class)].rows += tally;
     }
 
+    // A copy that landed, and whether a handler took it.
     #[tactic(auto, unfolding(crate::specs::Notes::landed_note))]
     fn note_landed(&mut self, c: Copy, taken: bool)
         ensures { self.new ≡ note.landed_note self.old c taken }
@@ -433,6 +407,7 @@ impl Figures {
         self.note_class(d.class, d.wire);
     }
 
+    // A copy that a flush dropped.
     #[tactic(auto, unfolding(crate::specs::Notes::dropped_note))]
     fn note_dropped(&mut self, c: Copy)
         ensures { self.new ≡ note.dropped_note self.old c }
@@ -470,7 +445,8 @@ impl Figures {
         self.note_dropped(c);
     }
 
-    // A copy that waits at the end, whose words start at b.
+    // A copy that waits at the end, whose words start at b. It begins as `drops` does: one function for both would answer an Option that each
+    // would match again, in as many lines.
     #[tactic(auto, unfolding(crate::specs::Notes::wait_note, crate::specs::Notes::waiting_note))]
     pub fn waits(&mut self, copies: &[u64], b: usize)
         ensures { self.new ≡ note.wait_note self.old copies.now b }
@@ -488,7 +464,7 @@ impl Figures {
         ensures { self.new ≡ note.flushed_note self.old said gone }
     {
         self.flushes = self.flushes.wrapping_add(1);
-        self.said.add(said);
+        self.said += said;
         self.flush_marks = self.flush_marks.wrapping_add(gone);
         self.time = 0;
         self.sequence = 0;
@@ -499,7 +475,7 @@ impl Figures {
     pub fn tallied(&mut self, class: u64, tally: Tally)
         ensures { self.new ≡ note.tallied_note self.old «class» tally }
     {
-        self.classes[class_row(class)].logged.add(tally);
+        self.classes[class_row(class)].logged += tally;
     }
 
     // How many are in transit to a till at the end, as the reading says.

@@ -1,54 +1,63 @@
 // Flush and drain as lines of a script: the call is made on the lent tables, and its answer written.
 #![tactic(auto)]
 
+ghost use Rattle.std.specs.Prelude.{◌≡◌};
+ghost use Rattle.sim_outcome.specs.declared.Outcome.TheVariants.{Done};
+ghost use Rattle.sim_flush.specs.Flushing.{flushed_of, IsFlush, IsDrain};
+
 use ask_tables::cell;
-use call_flush::Flushed;
-use call_log::Drained;
-use sim_lend::Network;
-use sim_outcome::{Outcome, done};
+use call_flush_pass::Moved;
+use call_log::Emptied;
+use sim_figures::Said;
+use sim_lend::{Network, part, rows};
+use sim_outcome::{Outcome, refused};
 use sim_printer::Printer;
 use sim_script::Flush;
 
 // How many of the waiting copies are due.
-fn due_in(waiting: &[u64], n: u64, at: u64) -> usize {
+fn due_in(waiting: &[u64], n: u64, at: u64) -> u64 {
     if ((waiting.len() / table_waiting::WIDTH) as u64) < n {
         return 0;
     }
-    table_waiting::due(waiting, n as usize, at)
+    table_waiting::due(waiting, n as usize, at) as u64
 }
 
-// The copies that are due, kept for the answer: how many.
-fn keep_due(due: &mut [u64], net: &[u64], waiting: &[u64], at: u64) -> usize {
+// The copies that are due, kept for the answer.
+fn keep_due<'a>(due: &'a mut [u64], net: &[u64], waiting: &[u64], at: u64) -> &'a [u64] {
     let n = due_in(waiting, cell(net, ask_tables::WAITING), at);
-    let copies = sim_lend::part(waiting, n.saturating_mul(table_waiting::WIDTH));
-    for (place, word) in due.iter_mut().zip(copies) {
-        *place = *word;
-    }
-    n
+    let kept = sim_lend::copied(due, rows(waiting, table_waiting::WIDTH, n));
+    part(due, kept)
 }
 
-fn flushed(page: &mut Printer, f: Flushed, due: &[u64], n: usize, out: &[u64]) -> Outcome {
+// What a flush answered: its counts, and what became of each due copy.
+fn flushed(page: &mut Printer, moved: Moved, due: &[u64], out: &[u64]) -> Outcome
+    ensures { result ≡ flushed_of moved due.now }
+{
+    let said = Said {
+        rows: moved.rows as u64,
+        delivered: moved.delivered as u64,
+        dropped: moved.dropped as u64,
+    };
     page.print(format_args!(
         "flush delivered={} dropped={} rows={}\n",
-        f.delivered, f.dropped, f.rows
+        said.delivered, said.dropped, said.rows
     ));
-    sim_answers::flushed(page, due, n, sim_lend::part(out, room(f.rows)));
-    Outcome {
-        number: 0,
-        counts: [f.rows, f.delivered, f.dropped, n as u64, 0],
+    sim_answers::flushed(page, due, rows(out, call_flush_pass::ROW, said.rows));
+    Outcome::Flushed {
+        said,
+        due: (due.len() / table_waiting::WIDTH) as u64,
     }
 }
 
 // Words of so many rows; more than the slots serve no copy.
 fn room(rows: u64) -> usize {
-    if ask_tables::MOST_SLOTS < rows {
-        return ask_tables::MOST_SLOTS as usize * call_flush_pass::ROW;
-    }
-    rows as usize * call_flush_pass::ROW
+    rows.min(ask_tables::MOST_SLOTS) as usize * call_flush_pass::ROW
 }
 
 // A flush, with room for all slots' rows or for as many as its line says; the copies that were due stand in `due` for the answer.
-pub fn flush(network: Network<'_>, flush: Flush, due: &mut [u64], page: &mut Printer) -> Outcome {
+pub fn flush(network: Network<'_>, flush: Flush, due: &mut [u64], page: &mut Printer) -> Outcome
+    ensures { IsFlush result }
+{
     let Network {
         setup,
         net,
@@ -60,16 +69,16 @@ pub fn flush(network: Network<'_>, flush: Flush, due: &mut [u64], page: &mut Pri
         out,
         ..
     } = network;
-    let n = keep_due(due, net, waiting, flush.at);
+    let due = keep_due(due, net, waiting, flush.at);
     let rows = flush.rows.unwrap_or(ask_tables::MOST_SLOTS);
     let lent = sim_lend::front(out, room(rows));
-    let f = Flushed::from(call_flush::flush(
+    let answer = call_flush::flush(
         setup, net, tills, seen, waiting, blocks, log, lent, flush.at,
-    ));
-    if f.number != 0 {
-        return done(page, "flush", f.number);
+    );
+    match answer {
+        Ok(moved) => flushed(page, moved, due, out),
+        Err(refusal) => refused(page, b"flush", refusal),
     }
-    flushed(page, f, due, n, out)
 }
 
 // Deliveries and bytes of every class, with commas between.
@@ -81,28 +90,32 @@ fn tally_list(page: &mut Printer, tallies: &[u64; call_log::TALLY_CELLS]) {
 }
 
 // What a drain answered: its counts, the tallies, the records.
-fn drained(page: &mut Printer, d: Drained, out: &[u64]) -> Outcome {
-    page.print(format_args!("drain records={} dropped={} tallies=", d.records, d.forced));
-    tally_list(page, &d.tallies);
+fn drained(page: &mut Printer, emptied: Emptied, out: &[u64]) -> Outcome
+    ensures { result ≡ Done }
+{
+    let records = emptied.records;
+    page.print(format_args!(
+        "drain records={records} dropped={} tallies=",
+        emptied.forced
+    ));
+    tally_list(page, &emptied.tallies);
     page.text(b"\n");
-    sim_answers::records(page, out, d.records as usize);
-    Outcome {
-        number: 0,
-        counts: [d.records, d.forced, 0, 0, 0],
-    }
+    sim_answers::records(page, rows(out, table_delivery::WIDTH, records));
+    Outcome::Done
 }
 
 // Takes the log's records.
-pub fn drain(network: Network<'_>, page: &mut Printer) -> Outcome {
+pub fn drain(network: Network<'_>, page: &mut Printer) -> Outcome
+    ensures { IsDrain result }
+{
     let Network {
         setup,
         log,
         out,
         ..
     } = network;
-    let d = Drained::from(call_log::drain(setup, log, out));
-    if d.number != 0 {
-        return done(page, "drain", d.number);
+    match call_log::drain(setup, log, out) {
+        Ok(emptied) => drained(page, emptied, out),
+        Err(refusal) => refused(page, b"drain", refusal),
     }
-    drained(page, d, out)
 }

@@ -1,50 +1,17 @@
 // Draws on a stream record of its own, the digest, and seconds: they need no network.
-use crate::geography_calls::{MOST_WORDS, low};
-use hash_digest::Hashed;
+ghost use Rattle.std.specs.Prelude.{◌<◌, ◌^◌, IsTrue};
+ghost use Rattle.math_time.specs.Seconds.{InRange};
+
+use ask_refusal::Refusal;
 use math_time::Time;
 use rand_streams::Cursor;
 use sim_answers::Hexes;
-use sim_outcome::{Outcome, bad, done, told};
+use sim_outcome::{Outcome, refused};
 use sim_printer::Printer;
 use sim_script::{Draw, Draws, Seconds};
 
-const WORDS_SPENT: u64 = 8;
-
-// A draw, and the stream's count behind it.
-#[derive(Clone, Copy)]
-struct Drawn {
-    value: u64,
-    count: u64,
-}
-
 // No stream of a script comes this far, 2^60 words.
 const END: u64 = 1152921504606846976;
-
-const LAST: u64 = 18446744073709551615;
-
-fn word(key: [u32; 8], count: u64) -> Drawn {
-    if END <= count {
-        return Drawn { value: 0, count };
-    }
-    let mut c = Cursor::at(key, count);
-    let value = c.draw32() as u64;
-    Drawn {
-        value,
-        count: c.count,
-    }
-}
-
-fn long(key: [u32; 8], count: u64) -> Drawn {
-    if END <= count {
-        return Drawn { value: 0, count };
-    }
-    let mut c = Cursor::at(key, count);
-    let value = c.draw64();
-    Drawn {
-        value,
-        count: c.count,
-    }
-}
 
 // The bits of a float that is no NaN.
 fn bits_of(x: f64) -> u64 {
@@ -54,89 +21,49 @@ fn bits_of(x: f64) -> u64 {
     f64::to_bits(x)
 }
 
-fn fraction(key: [u32; 8], count: u64) -> Drawn {
-    if END <= count {
-        return Drawn { value: 0, count };
-    }
-    let mut c = Cursor::at(key, count);
-    let value = bits_of(rand_draw::draw_fraction(&mut c));
-    Drawn {
-        value,
-        count: c.count,
-    }
-}
-
-fn real(key: [u32; 8], count: u64, from: u64, to: u64) -> Drawn {
-    if END <= count {
-        return Drawn { value: 0, count };
-    }
-    let mut c = Cursor::at(key, count);
-    let x = rand_draw::draw_real(&mut c, math_float::of_any(from), math_float::of_any(to));
-    Drawn {
-        value: bits_of(x),
-        count: c.count,
-    }
-}
-
-// n values from `from` on.
-fn ranged(key: [u32; 8], count: u64, from: u64, n: u64) -> Drawn {
-    if END <= count {
-        return Drawn { value: 0, count };
-    }
-    if n == 0 {
-        return Drawn { value: 0, count };
-    }
-    if from > LAST - (n - 1) {
-        return Drawn { value: 0, count };
-    }
-    let mut c = Cursor::at(key, count);
-    let value = rand_draw::range64(&mut c, from, n);
-    Drawn {
-        value,
-        count: c.count,
-    }
-}
-
-// From `from` up to `to`, both of them.
-fn whole(key: [u32; 8], count: u64, from: u64, to: u64) -> Drawn {
+// From `from` up to `to`, both of them; 0 where there is none.
+fn whole(c: &mut Cursor, from: u64, to: u64) -> u64
+    requires { c.old.count < 2 ^ 60 }
+{
     if to < from {
-        return Drawn { value: 0, count };
+        return 0;
     }
     let more = to - from;
-    if more == LAST {
-        return long(key, count);
+    if more == u64::MAX {
+        return c.draw64();
     }
-    ranged(key, count, from, more + 1)
+    rand_draw::range64(c, from, more + 1)
 }
 
-// Below n: 32 bits where n has no more.
-fn index(key: [u32; 8], count: u64, n: u64) -> Drawn {
-    if END <= count {
-        return Drawn { value: 0, count };
+// Below n: 32 bits where n has no more; 0 where there is none.
+fn index(c: &mut Cursor, n: u64) -> u64
+    requires { c.old.count < 2 ^ 60 }
+{
+    if n == 0 {
+        return 0;
     }
-    if 4294967295 < n {
-        return ranged(key, count, 0, n);
-    }
-    let small = low(n);
-    if small == 0 {
-        return Drawn { value: 0, count };
-    }
-    let mut c = Cursor::at(key, count);
-    let value = rand_draw::whole32(&mut c, small) as u64;
-    Drawn {
-        value,
-        count: c.count,
+    match u32::try_from(n) {
+        Ok(small) => u64::from(rand_draw::whole32(c, small)),
+        Err(_) => rand_draw::whole64(c, n),
     }
 }
 
-fn draw(what: Draw, key: [u32; 8], count: u64) -> Drawn {
+// The next value; 0, and no word, from the end of the stream on.
+fn draw(what: Draw, c: &mut Cursor) -> u64 {
+    if END <= c.count {
+        return 0;
+    }
     match what {
-        Draw::Word => word(key, count),
-        Draw::Long => long(key, count),
-        Draw::Fraction => fraction(key, count),
-        Draw::Real { from, to } => real(key, count, from, to),
-        Draw::Whole { from, to } => whole(key, count, from, to),
-        Draw::Index { below } => index(key, count, below),
+        Draw::Word => u64::from(c.draw32()),
+        Draw::Long => c.draw64(),
+        Draw::Fraction => bits_of(rand_draw::draw_fraction(c)),
+        Draw::Real { from, to } => {
+            let low = math_float::of_any(from);
+            let high = math_float::of_any(to);
+            bits_of(rand_draw::draw_real(c, low, high))
+        }
+        Draw::Whole { from, to } => whole(c, from, to),
+        Draw::Index { below } => index(c, below),
     }
 }
 
@@ -175,21 +102,21 @@ fn is_range(what: Draw) -> bool {
 pub fn draws(call: Draws, page: &mut Printer) -> Outcome {
     let what = call.draw;
     if !is_range(what) {
-        return bad();
+        return Outcome::Bad;
     }
-    if MOST_WORDS <= call.count {
-        return done(page, "draw", WORDS_SPENT);
+    if ask_tables::MOST_WORDS <= call.count {
+        return refused(page, b"draw", Refusal::Words);
     }
     let name = name(what);
     page.print(format_args!("draw {name}"));
-    let mut count = call.count;
+    let mut c = Cursor::at(call.key, call.count);
     for _ in 0..call.times {
-        let d = draw(what, call.key, count);
-        shown(page, what, d.value);
-        count = d.count;
+        let value = draw(what, &mut c);
+        shown(page, what, value);
     }
+    let count = c.count;
     page.print(format_args!(" words={count}\n"));
-    told(0)
+    Outcome::Done
 }
 
 // The digest of so many bytes.
@@ -197,42 +124,43 @@ pub fn digest(input: &[u8], page: &mut Printer) -> Outcome {
     match hash_digest::digest(input) {
         Ok(words) => {
             page.print(format_args!("digest {}\n", Hexes(words)));
-            told(0)
+            Outcome::Done
         }
-        Err(e) => {
-            let refused = Hashed::from(Err(e));
-            done(page, "digest", u64::from(refused.number))
-        }
+        Err(_) => refused(page, b"digest", Refusal::Length),
     }
 }
 
+// Seconds, by their bits.
 fn bits_call(page: &mut Printer, bits: u64) -> Outcome {
     page.print(format_args!("secs {bits:016x}\n"));
-    told(0)
+    Outcome::Done
 }
 
-// Seconds that become nanoseconds here are 0.001 and more, below 2^26.
+// Do these seconds become nanoseconds here? From 0.001 up, below 2^26.
+fn in_range(x: f64) -> bool
+    ensures { IsTrue result → InRange x }
+{
+    x >= 0.001 && x < 67108864.0
+}
+
+// Seconds that become nanoseconds.
 fn nanos_call(x: f64, page: &mut Printer) -> Outcome {
-    if x >= 0.001 {
-        if x < 67108864.0 {
-            let t = Time::from_secs_f64(x);
-            page.print(format_args!("nanos {}\n", t.ns));
-            return told(0);
-        }
+    if !in_range(x) {
+        return Outcome::Bad;
     }
-    bad()
+    let t = Time::from_secs_f64(x);
+    page.print(format_args!("nanos {}\n", t.ns));
+    Outcome::Done
 }
 
+// A time, multiplied; the product has the same range.
 fn times_call(t: Time, by: f64, page: &mut Printer) -> Outcome {
-    let x = by * t.as_secs_f64();
-    if x >= 0.001 {
-        if x < 67108864.0 {
-            let r = t.mul_f64(by);
-            page.print(format_args!("times {}\n", r.ns));
-            return told(0);
-        }
+    if !in_range(by * t.as_secs_f64()) {
+        return Outcome::Bad;
     }
-    bad()
+    let r = t.mul_f64(by);
+    page.print(format_args!("times {}\n", r.ns));
+    Outcome::Done
 }
 
 // Seconds that become nanoseconds, and nanoseconds that become seconds.

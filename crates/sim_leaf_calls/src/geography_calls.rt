@@ -1,46 +1,32 @@
 // Regions, links, times on the wire, link keys and latencies.
-use call_reply::Value;
+use ask_refusal::Refusal;
+use ask_tables::{LATEST, LONGEST_WIRE, MOST_WORDS, cell, put};
 use link_geography::{Cost, Link};
 use math_time::Time;
 use rand_streams::Cursor;
 use sim_answers::Hexes;
 use sim_lend::Network;
-use sim_outcome::{Outcome, bad, done, told, valued};
+use sim_outcome::{Outcome, refused, valued};
 use sim_printer::Printer;
 use sim_script::{Geography, Latency, Message};
 
-// Questions 4, 6, 7 and 8.
-const NO_TILL: u64 = 4;
-
-const TOO_LONG: u64 = 6;
-
-const TOO_LATE: u64 = 7;
-
-const WORDS_SPENT: u64 = 8;
-
-const LONGEST_WIRE: u64 = 65536;
-
-const LATEST: u64 = 1152921504606846976;
-
-// The words that a stream gives, 2^40.
-pub const MOST_WORDS: u64 = 1099511627776;
-
-// The largest number of 32 bits.
-const LAST: u64 = 4294967295;
-
-pub fn low(x: u64) -> u32 {
-    (x % 4294967296) as u32
+// Two tills, where both have 32 bits.
+fn pair(from: u64, to: u64) -> Option<(u32, u32)> {
+    let from = u32::try_from(from).ok()?;
+    let to = u32::try_from(to).ok()?;
+    Some((from, to))
 }
 
 // The region of a till, by the plan alone.
-fn region(setup: &[u64], t: u64) -> u64 {
+fn region(setup: &[u64], t: u32) -> u64 {
     link_geography::region_of(
-        ask_tables::cell(setup, ask_tables::PLAN_SEED),
-        ask_tables::cell(setup, ask_tables::REGIONS),
-        low(t),
+        cell(setup, ask_tables::PLAN_SEED),
+        cell(setup, ask_tables::REGIONS),
+        t,
     )
 }
 
+// No delay, and no bytes a second. Zeros by hand, here and in `no_cost`: Time, Link and Cost of the crates below derive no Default, and nothing else would use one.
 fn no_link() -> Link {
     Link {
         base: Time::ZERO,
@@ -57,107 +43,109 @@ fn link_in(prices: &[u64], regions: u64, a: u64, b: u64) -> Link {
     link_prices::link_between(prices, regions, a, b)
 }
 
-fn link(setup: &[u64], prices: &[u64], from: u64, to: u64) -> Link {
+// What the plan has for two tills.
+fn link(setup: &[u64], prices: &[u64], from: u32, to: u32) -> Link {
     let a = region(setup, from);
     let b = region(setup, to);
-    link_in(prices, ask_tables::cell(setup, ask_tables::REGIONS), a, b)
+    link_in(prices, cell(setup, ask_tables::REGIONS), a, b)
 }
 
-// Nanoseconds on the wire, of a length within the limit.
-fn wire_time(bytes: u64, rate: u64) -> u64 {
+// Nanoseconds on the wire; question 6 refuses a length beyond the limit.
+fn wire_time(bytes: u64, rate: u64) -> Result<u64, Refusal> {
     if LONGEST_WIRE < bytes {
-        return 0;
+        return Err(Refusal::Length);
     }
     let t = link_geography::transmission(bytes, rate);
-    t.ns
+    Ok(t.ns)
 }
 
+// Has the opening a plan of regions?
 fn is_planned(setup: &[u64]) -> bool {
-    ask_tables::cell(setup, ask_tables::PLANNED) != 0
+    cell(setup, ask_tables::PLANNED) != 0
 }
 
-fn region_call(t: u64, setup: &[u64], page: &mut Printer) -> Outcome {
+// A till's region, or that none is planned.
+fn region_call(t: u32, setup: &[u64], page: &mut Printer) -> Outcome {
     if !is_planned(setup) {
         page.text(b"region -\n");
-        return told(0);
+        return Outcome::Done;
     }
     page.print(format_args!("region {}\n", region(setup, t)));
-    told(0)
+    Outcome::Done
 }
 
-fn link_call(from: u64, to: u64, setup: &[u64], prices: &[u64], page: &mut Printer) -> Outcome {
+// What the plan has for two tills, or that none is planned.
+fn link_call(from: u32, to: u32, setup: &[u64], prices: &[u64], page: &mut Printer) -> Outcome {
     if !is_planned(setup) {
         page.text(b"link -\n");
-        return told(0);
+        return Outcome::Done;
     }
     let l = link(setup, prices, from, to);
     let base = l.base;
     page.print(format_args!("link base={} rate={}\n", base.ns, l.rate));
-    told(0)
+    Outcome::Done
 }
 
-fn too_long(bytes: u64) -> u64 {
-    if LONGEST_WIRE < bytes {
-        return TOO_LONG;
-    }
-    0
-}
-
-fn transmission_call(
-    from: u64,
-    to: u64,
+// Nanoseconds on the wire between two tills; none pass without a plan.
+fn transmission(
+    from: u32,
+    to: u32,
     bytes: u64,
     setup: &[u64],
     prices: &[u64],
-    page: &mut Printer,
-) -> Outcome {
-    let number = too_long(bytes);
-    if !is_planned(setup) {
-        return valued(page, "transmission", "transmission ", number, 0);
-    }
+) -> Result<u64, Refusal> {
     let l = link(setup, prices, from, to);
-    let ns = wire_time(bytes, l.rate);
-    valued(page, "transmission", "transmission ", number, ns)
+    let ns = wire_time(bytes, l.rate)?;
+    if is_planned(setup) { Ok(ns) } else { Ok(0) }
 }
 
-fn key_call(from: u64, to: u64, setup: &[u64], page: &mut Printer) -> Outcome {
-    let seed = ask_tables::cell(setup, ask_tables::SEED);
-    let key = rand_streams::link_key(seed, low(from), low(to));
+// The key of the stream of a link.
+fn key_call(from: u32, to: u32, setup: &[u64], page: &mut Printer) -> Outcome {
+    let seed = cell(setup, ask_tables::SEED);
+    let key = rand_streams::link_key(seed, from, to);
     page.print(format_args!("linkkey {}\n", Hexes(key)));
-    told(0)
+    Outcome::Done
 }
 
-// Has every till 32 bits?
-fn are_tills(call: Geography) -> bool {
-    match call {
-        Geography::Region { till } => till <= LAST,
-        Geography::Link { from, to }
-        | Geography::LinkKey { from, to }
-        | Geography::Transmission { from, to, .. } => from <= LAST && to <= LAST,
-        Geography::Wire { .. } => true,
-    }
+// A call on tills of 32 bits; None where a till has more.
+fn with_tills(
+    setup: &[u64],
+    prices: &[u64],
+    call: Geography,
+    page: &mut Printer,
+) -> Option<Outcome> {
+    let outcome = match call {
+        Geography::Region { till } => {
+            let (till, _) = pair(till, till)?;
+            region_call(till, setup, page)
+        }
+        Geography::Link { from, to } => {
+            let (from, to) = pair(from, to)?;
+            link_call(from, to, setup, prices, page)
+        }
+        Geography::Transmission { from, to, bytes } => {
+            let (from, to) = pair(from, to)?;
+            let answer = transmission(from, to, bytes, setup, prices);
+            valued(page, b"transmission", b"transmission ", answer)
+        }
+        Geography::Wire { rate, bytes } => {
+            valued(page, b"wire", b"wire ", wire_time(bytes, rate))
+        }
+        Geography::LinkKey { from, to } => {
+            let (from, to) = pair(from, to)?;
+            key_call(from, to, setup, page)
+        }
+    };
+    Some(outcome)
 }
 
 // Regions, links and keys; tills of any 32 bits.
 pub fn geography(network: Network<'_>, call: Geography, page: &mut Printer) -> Outcome {
     let Network { setup, prices, .. } = network;
-    if !are_tills(call) {
-        return bad();
-    }
-    match call {
-        Geography::Region { till } => region_call(till, setup, page),
-        Geography::Link { from, to } => link_call(from, to, setup, prices, page),
-        Geography::Transmission { from, to, bytes } => {
-            transmission_call(from, to, bytes, setup, prices, page)
-        }
-        Geography::Wire { rate, bytes } => {
-            let ns = wire_time(bytes, rate);
-            valued(page, "wire", "wire ", too_long(bytes), ns)
-        }
-        Geography::LinkKey { from, to } => key_call(from, to, setup, page),
-    }
+    with_tills(setup, prices, call, page).unwrap_or(Outcome::Bad)
 }
 
+// No time at all.
 fn no_cost() -> Cost {
     Cost {
         base: Time::ZERO,
@@ -166,126 +154,125 @@ fn no_cost() -> Cost {
 }
 
 // What a delivery of so many bytes costs between two tills.
-fn cost(setup: &[u64], prices: &[u64], from: u64, to: u64, bytes: u64) -> Cost {
-    let regions = ask_tables::cell(setup, ask_tables::REGIONS);
+fn cost(setup: &[u64], prices: &[u64], from: u32, to: u32, bytes: u64) -> Cost {
+    let regions = cell(setup, ask_tables::REGIONS);
     let a = region(setup, from);
     let b = region(setup, to);
     let most = ask_tables::MOST_REGIONS;
     if most < regions || most <= a || most <= b || LONGEST_WIRE < bytes {
         return no_cost();
     }
-    let latency = Time::from_nanos(ask_tables::cell(setup, ask_tables::LATENCY));
-    link_prices::cost_between(prices, is_planned(setup), regions, a, b, latency, bytes)
-}
-
-// A latency in nanoseconds, and the stream's count behind it.
-#[derive(Clone, Copy)]
-pub struct Delay {
-    pub ns: u64,
-    pub count: u64,
+    let latency = Time::from_nanos(cell(setup, ask_tables::LATENCY));
+    let plan = is_planned(setup).then_some(regions);
+    link_prices::cost_between(prices, plan, a, b, latency, bytes)
 }
 
 // The longest time on the wire.
 const LONGEST: u64 = 60 * Time::SECOND.ns;
 
-fn sampled(setup: &[u64], key: [u32; 8], count: u64, c: Cost) -> Delay {
-    let none = Delay { ns: 0, count };
+// The next latency, in nanoseconds; 0, and no word, from the end of the stream on and where the settings are out of range.
+fn sampled(setup: &[u64], cursor: &mut Cursor, c: Cost) -> u64 {
     let base = c.base;
     let wire = c.transmission;
-    let fraction = math_float::of_any(ask_tables::cell(setup, ask_tables::JITTER));
-    let spike = math_float::of_any(ask_tables::cell(setup, ask_tables::SPIKE));
-    if LATEST <= count {
-        return none;
+    let fraction = math_float::of_any(cell(setup, ask_tables::JITTER));
+    let spike = math_float::of_any(cell(setup, ask_tables::SPIKE));
+    if LATEST <= cursor.count {
+        return 0;
     }
     if LONGEST < wire.ns {
-        return none;
+        return 0;
     }
     if !link_latency::latency_admitted(base) {
-        return none;
+        return 0;
     }
     if !link_latency::fraction_admitted(fraction) {
-        return none;
+        return 0;
     }
-    let mut cursor = Cursor::at(key, count);
-    let t = link_latency::sample_latency(&mut cursor, base, fraction, spike, wire);
-    Delay {
-        ns: t.ns,
-        count: cursor.count,
-    }
+    let t = link_latency::sample_latency(cursor, base, fraction, spike, wire);
+    t.ns
 }
 
 // Samples on a stream record of its own, each behind the one before.
 pub fn latency(network: Network<'_>, call: Latency, page: &mut Printer) -> Outcome {
     let Network { setup, prices, .. } = network;
-    if LAST < call.from || LAST < call.to {
-        return bad();
-    }
+    let Some((from, to)) = pair(call.from, call.to) else {
+        return Outcome::Bad;
+    };
     if LONGEST_WIRE < call.bytes {
-        return done(page, "latency", TOO_LONG);
+        return refused(page, b"latency", Refusal::Length);
     }
     if MOST_WORDS <= call.count {
-        return done(page, "latency", WORDS_SPENT);
+        return refused(page, b"latency", Refusal::Words);
     }
     page.text(b"latency");
-    let mut count = call.count;
+    let cost = cost(setup, prices, from, to, call.bytes);
+    let mut cursor = Cursor::at(call.key, call.count);
     for _ in 0..call.times {
-        let cost = cost(setup, prices, call.from, call.to, call.bytes);
-        let s = sampled(setup, call.key, count, cost);
-        page.print(format_args!(" {}", s.ns));
-        count = s.count;
+        let ns = sampled(setup, &mut cursor, cost);
+        page.print(format_args!(" {ns}"));
     }
+    let count = cursor.count;
     page.print(format_args!(" words={count}\n"));
-    told(0)
+    Outcome::Done
 }
 
 // Stops a block at that time, or a down till?
 fn is_stopped(setup: &[u64], net: &[u64], tills: &[u64], blocks: &[u64], m: Message) -> bool {
-    let blocked = Value::from(call_block::is_blocked(setup, net, blocks, m.from, m.to, m.at));
-    let from = Value::from(call_till::is_down(setup, tills, m.from));
-    let to = Value::from(call_till::is_down(setup, tills, m.to));
-    blocked.value == 1 || from.value == 1 || to.value == 1
+    let blocked = call_block::is_blocked(setup, net, blocks, m.from, m.to, m.at);
+    let from = call_till::is_down(setup, tills, m.from);
+    let to = call_till::is_down(setup, tills, m.to);
+    matches!(blocked, Ok(true)) || matches!(from, Ok(true)) || matches!(to, Ok(true))
 }
 
-// The questions of a message from till to till: 4, 6, 7 and 8.
-fn should_refusal(m: Message, tills: u64, count: u64) -> u64 {
+// The questions of a message from till to till: 4, 6, 7 and 8. Its tills, where none refuses it.
+fn questions(m: Message, tills: u64, count: u64) -> Result<(u32, u32), Refusal> {
     if tills <= m.from || tills <= m.to {
-        return NO_TILL;
+        return Err(Refusal::Till);
     }
     if LONGEST_WIRE < m.bytes {
-        return TOO_LONG;
+        return Err(Refusal::Length);
     }
     if LATEST < m.at {
-        return TOO_LATE;
+        return Err(Refusal::Time);
     }
     if MOST_WORDS <= count {
-        return WORDS_SPENT;
+        return Err(Refusal::Words);
     }
-    0
+    pair(m.from, m.to).ok_or(Refusal::Till)
 }
 
-// Whether a loss draw hits, and the count behind it.
-#[derive(Clone, Copy)]
-struct Loss {
-    hit: bool,
-    count: u64,
+// Does the loss draw hit? From the end of the stream on everything is lost.
+fn is_lost(setup: &[u64], c: &mut Cursor) -> bool {
+    if LATEST <= c.count {
+        return true;
+    }
+    let rate = math_float::of_any(cell(setup, ask_tables::LOSS));
+    rand_draw::hits(c, rate)
 }
 
-fn lost(setup: &[u64], key: [u32; 8], count: u64) -> Loss {
-    if LATEST <= count {
-        return Loss { hit: true, count };
+// The draws of a message that nothing stops: loss, then latency. Nothing where it is lost.
+fn drawn(
+    setup: &[u64],
+    prices: &[u64],
+    from: u32,
+    to: u32,
+    bytes: u64,
+    c: &mut Cursor,
+) -> Option<u64> {
+    if is_lost(setup, c) {
+        return None;
     }
-    let rate = math_float::of_any(ask_tables::cell(setup, ask_tables::LOSS));
-    let mut c = Cursor::at(key, count);
-    let hit = rand_draw::hits(&mut c, rate);
-    Loss {
-        hit,
-        count: c.count,
-    }
+    let cost = cost(setup, prices, from, to, bytes);
+    Some(sampled(setup, c, cost))
 }
 
-fn unsent(page: &mut Printer, count: u64) -> Outcome {
-    page.print(format_args!("should - words={count}\n"));
-    told(0)
+// The latency of a message, or that it would not arrive; and the words that its link's stream has given.
+fn told(page: &mut Printer, latency: Option<u64>, count: u64) -> Outcome {
+    match latency {
+        Some(ns) => page.print(format_args!("should {ns} words={count}\n")),
+        None => page.print(format_args!("should - words={count}\n")),
+    }
+    Outcome::Done
 }
 
 // The place of a link's word count.
@@ -294,29 +281,6 @@ fn place(from: u64, to: u64) -> usize {
         return ask_tables::LINKS;
     }
     (from * ask_tables::MOST_TILLS + to) as usize
-}
-
-// The draws of a message that nothing stops: loss, then latency.
-fn drawn(
-    m: Message,
-    setup: &[u64],
-    prices: &[u64],
-    words: &mut [u64],
-    page: &mut Printer,
-) -> Outcome {
-    let at = place(m.from, m.to);
-    let seed = ask_tables::cell(setup, ask_tables::SEED);
-    let key = rand_streams::link_key(seed, low(m.from), low(m.to));
-    let l = lost(setup, key, ask_tables::cell(words, at));
-    if l.hit {
-        ask_tables::put(words, at, l.count);
-        return unsent(page, l.count);
-    }
-    let cost = cost(setup, prices, m.from, m.to, m.bytes);
-    let s = sampled(setup, key, l.count, cost);
-    ask_tables::put(words, at, s.count);
-    page.print(format_args!("should {} words={}\n", s.ns, s.count));
-    told(0)
 }
 
 // Would a message be delivered? Its draws move the link's own stream.
@@ -330,13 +294,18 @@ pub fn should(network: Network<'_>, m: Message, page: &mut Printer) -> Outcome {
         blocks,
         ..
     } = network;
-    let count = ask_tables::cell(words, place(m.from, m.to));
-    let number = should_refusal(m, ask_tables::cell(setup, ask_tables::TILLS), count);
-    if number != 0 {
-        return done(page, "should", number);
-    }
+    let at = place(m.from, m.to);
+    let count = cell(words, at);
+    let (from, to) = match questions(m, cell(setup, ask_tables::TILLS), count) {
+        Ok(tills) => tills,
+        Err(refusal) => return refused(page, b"should", refusal),
+    };
     if is_stopped(setup, net, tills, blocks, m) {
-        return unsent(page, count);
+        return told(page, None, count);
     }
-    drawn(m, setup, prices, words, page)
+    let seed = cell(setup, ask_tables::SEED);
+    let mut c = Cursor::at(rand_streams::link_key(seed, from, to), count);
+    let latency = drawn(setup, prices, from, to, m.bytes, &mut c);
+    put(words, at, c.count);
+    told(page, latency, c.count)
 }

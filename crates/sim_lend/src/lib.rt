@@ -1,7 +1,7 @@
 // The tables of a simulated network, front parts of tables, to lend, and a text put to the front of a buffer.
 #![tactic(auto)]
 
-ghost use Rattle.std.specs.Prelude.{◌≡◌, take};
+ghost use Rattle.std.specs.Prelude.{◌≡◌, ◌++◌, ◌-◌, ◌*◌, ◌^◌, min, length, take, drop};
 
 // The tables of a network, and room for the rows and the lists that its calls give out.
 #[derive(Drop)]
@@ -30,15 +30,25 @@ pub fn front<T>(s: &mut [T], n: usize) -> &mut [T]
     &mut s[..most]
 }
 
-// The first n cells, to read.
+// The first n cells, to read: math_parts' `front`, under a name of its own as the crates above use it beside the `front` that lends to write.
 pub fn part<T>(s: &[T], n: usize) -> &[T]
     ensures { result.now ≡ take n s.now }
 {
     math_parts::front(s, n)
 }
 
-// As much of the text as the buffer holds; how many bytes.
-pub fn copied(buf: &mut [u8], text: &[u8]) -> usize {
+// The first n rows of a width, to read.
+pub fn rows<T>(s: &[T], width: usize, n: u64) -> &[T]
+    ensures { result.now ≡ take (min (width * n) (2 ^ 64 - 1)) s.now }
+{
+    part(s, width.saturating_mul(n as usize))
+}
+
+// As much of the text as the buffer holds; how many cells.
+pub fn copied<T: Copy>(buf: &mut [T], text: &[T]) -> usize
+    ensures many { result ≡ min (length text.now) (length buf.old) }
+    ensures front { buf.new ≡ take result text.now ++ drop result buf.old }
+{
     let n = text.len().min(buf.len());
     buf[..n].copy_from_slice(&text[..n]);
     n

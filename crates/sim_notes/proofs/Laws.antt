@@ -1,20 +1,36 @@
 -- A note is its parts in a row: each law takes the equation of every part, over plain lists.
-use Rattle.std.proofs.Common.{◌≡◌, ℕ, ◌+◌, ◌-◌, ◌*◌, ◌%◌, ◌^◌, ◌<◌, ◌≤◌, min, List, get_or, take, sym, refl, ap, ◌∙◌, add-one, arith, le-ltb, lt-ltb, eq-eqb, ne_eqb, eqb, not}
+use Rattle.std.proofs.Common.{◌≡◌, ℕ, ◌+◌, ◌*◌, ◌%◌, ◌^◌, ◌≤◌, min, List, get_or, take, sym, refl, ap, ◌∙◌, add-one, arith, eq-eqb, ne_eqb}
 use Rattle.table_waiting.specs.Waiting as waiting
 use Rattle.spec_network.specs.Opening.{most_tills, most_classes, most_slots}
-use Rattle.spec_network.specs.Tables.{cell, sequence_at, waiting_at}
+use Rattle.spec_network.specs.Tables.{cell, waiting_at}
 use Rattle.call_reply.specs.declared.Value.{Value}
 use Rattle.call_waiting.specs.Call.{Reads, DoesTransit}
 use Rattle.call_log.specs.Call.{DoesTally}
 use Rattle.call_log.specs.declared.Tallied.{Tallied}
-use Rattle.sim_script.specs.declared.calls.Call.{Call}
-use Rattle.sim_figures.specs.declared.Five.{Five}
+use Rattle.sim_figures.specs.declared.Said.{Said}
 use Rattle.sim_figures.specs.declared.Tally.{Tally}
 use Rattle.sim_figures.specs.declared.Figures.{Figures}
-use Rattle.sim_figures.specs.Notes.{opened_note, down_note, up_note, accepted_note, refused_note, row_note, drop_note, wait_note, transit_note, flushed_note, tallied_note, standing_note}
+use Rattle.sim_figures.specs.Notes.{row_note, drop_note, wait_note, transit_note, flushed_note, tallied_note, standing_note}
 use Rattle.spec_network.specs.Lending.{no_tables}
-use Rattle.sim_notes.specs.Noted.{last_number, total_of, marks_in, tally_in, class_tallied, tallies_of, log_words, tallies_note}
-use Rattle.sim_notes.specs.Noted.{tally_figures, said_in, five_in, sequence_of, row_width, Noted, noted, due_note, due_notes, rows_words, flush_note, taken_note, after_note, opening_note, waits_of, transit_in, till_transit, transits_of, wait_words, transits_note, end_note}
+use Rattle.sim_notes.specs.Noted.{total_of, marks_in, tally_in, class_tallied, tallies_of, log_words, tallies_note}
+use Rattle.sim_notes.specs.Noted.{
+  tally_figures,
+  sequence_of,
+  row_width,
+  Noted,
+  noted,
+  due_note,
+  due_notes,
+  rows_words,
+  flush_note,
+  waits_of,
+  transit_in,
+  till_transit,
+  transits_of,
+  wait_words,
+  transits_note,
+  end_note,
+}
 
 -- ---- Marks
 
@@ -98,44 +114,10 @@ due_end d e due out row i n a b p =
     ap (λ (x : Noted). x.held) (p ∙ ap (λ (x : ℕ). due_notes d due out x) same)
 
 pub flushes :
-    (d e e' : Figures) (due out part counts : List ℕ) (n w gone : ℕ) → n ≡ min (get_or counts 3 0) most_slots → w ≡ rows_words (get_or counts 0 0) → part ≡ take w out → e ≡ (due_notes d due part n).held
-    → e' ≡ flushed_note e (said_in counts) gone → e' ≡ flush_note d due counts gone out
+    (d e e' : Figures) (due out part : List ℕ) (said : Said) (copies n w gone : ℕ) → n ≡ min copies most_slots → w ≡ rows_words said.rows → part ≡ take w out
+    → e ≡ (due_notes d due part n).held → e' ≡ flushed_note e said gone → e' ≡ flush_note d due said copies gone out
 unfolding flush_note
-flushes d e e' due out part counts n w gone en ew ep p q = cc
-
--- ---- Behind a line, and behind an opening
-
-pub after_none : (d : Figures) (due counts setup net seen out : List ℕ) (call : Call) (number stood : ℕ) → last_number < number → d ≡ after_note d due call number counts stood setup net seen out
-unfolding after_note
-after_none d due counts setup net seen out call number stood h = simp (lt-ltb last_number number h)
-
-pub after-refused :
-    (d e : Figures) (due counts setup net seen out : List ℕ) (call : Call) (number stood : ℕ) → number ≤ last_number → 0 < number → e ≡ refused_note d number
-    → e ≡ after_note d due call number counts stood setup net seen out
-unfolding after_note
-after-refused d e due counts setup net seen out call number stood a b p = simp (le-ltb last_number number a, lt-ltb 0 number b) p
-
-pub after-taken :
-    (d e : Figures) (due counts setup net seen out : List ℕ) (call : Call) (number stood m gone : ℕ) → number ≤ last_number → number ≤ 0 → m ≡ marks_in setup seen → gone ≡ stood - m
-    → e ≡ taken_note d due call counts gone net out → e ≡ after_note d due call number counts stood setup net seen out
-unfolding after_note
-after-taken d e due counts setup net seen out call number stood m gone a b em eg p =
-    simp (le-ltb last_number number a, le-ltb 0 number b) (p ∙ ap (λ (x : ℕ). taken_note d due call counts x net out) (eg ∙ ap (λ (x : ℕ). stood - x) em))
-
-pub opening_none : (d : Figures) (masks net : List ℕ) (number tills log : ℕ) → last_number < number → d ≡ opening_note d number tills masks log net
-unfolding opening_note
-opening_none d masks net number tills log h = simp (lt-ltb last_number number h)
-
-pub opening_refused : (d e : Figures) (masks net : List ℕ) (number tills log : ℕ) → number ≤ last_number → 0 < number → e ≡ refused_note d number → e ≡ opening_note d number tills masks log net
-unfolding opening_note
-opening_refused d e masks net number tills log a b p = simp (le-ltb last_number number a, lt-ltb 0 number b) p
-
-pub opening-taken :
-    (d e : Figures) (masks net : List ℕ) (number tills log q : ℕ) → number ≤ last_number → number ≤ 0 → q ≡ get_or net sequence_at 0 → e ≡ opened_note tills masks log q
-    → e ≡ opening_note d number tills masks log net
-unfolding opening_note
-opening-taken d e masks net number tills log q a b eq p =
-    simp (le-ltb last_number number a, le-ltb 0 number b) (p ∙ ap (λ (x : ℕ). opened_note tills masks log x) eq)
+flushes d e e' due out part said copies n w gone en ew ep p q = cc
 
 -- ---- The end
 

@@ -1,5 +1,5 @@
 -- What is noted behind each line of a script: the figures of the run, and the copies that were due at the last flush.
-use Rattle.std.specs.Prelude.{ℕ, zero, suc, ◌+◌, ◌-◌, ◌*◌, ◌%◌, ◌^◌, min, cond, not, List, take, ◌==◌, nat_lt, slice_index}
+use Rattle.std.specs.Prelude.{ℕ, zero, suc, ◌+◌, ◌-◌, ◌*◌, ◌%◌, ◌^◌, min, cond, List, take, ◌==◌, slice_index, Result, Ok, Err}
 use Rattle.table_delivery.specs.Delivery as delivery
 use Rattle.table_waiting.specs.Waiting as waiting
 use Rattle.table_log.specs.Log.{size_of}
@@ -12,19 +12,19 @@ use Rattle.call_reply.specs.Reply.{value_of}
 use Rattle.call_reply.specs.declared.Value.{Value}
 use Rattle.call_log.specs.Call.{tallied_of, tally_call}
 use Rattle.call_log.specs.declared.Tallied.{Tallied}
+use Rattle.ask_refusal.specs.declared.Refusal.{Refusal}
+use Rattle.ask_refusal.specs.Refusals.{number_of}
 use Rattle.sim_script.specs.declared.calls.Accept.{Accept}
 use Rattle.sim_script.specs.declared.calls.Call.{Call}
 use Rattle.sim_script.specs.declared.calls.Call.TheVariants.{Accept as AcceptCall, Flush as FlushCall, Drain, Change as ChangeCall}
 use Rattle.sim_script.specs.declared.calls.Change.TheVariants.{Down, Up}
+use Rattle.sim_outcome.specs.declared.Outcome.{Outcome}
+use Rattle.sim_outcome.specs.declared.Outcome.TheVariants.{Bad, Refused, Done, Accepted, Flushed}
 use Rattle.sim_figures.specs.declared.Five.{Five}
 use Rattle.sim_figures.specs.declared.Said.{Said}
 use Rattle.sim_figures.specs.declared.Tally.{Tally}
 use Rattle.sim_figures.specs.declared.Figures.{Figures}
 use Rattle.sim_figures.specs.Notes.{opened_note, down_note, up_note, accepted_note, refused_note, row_note, drop_note, wait_note, transit_note, flushed_note, tallied_note, standing_note}
-
--- the last number of a question
-abbrev pub last_number : ℕ
-last_number = 24
 
 -- ---- The marks that stand, of all tills; the sum wraps at 2^64
 
@@ -102,41 +102,34 @@ due_notes l due out (suc n) = due_note (due_notes l due out n) due out (n * wait
 abbrev pub rows_words : ℕ → ℕ
 rows_words rows = min rows most_slots * row_width
 
-abbrev pub said_in : (counts : List ℕ) → Said
-said_in counts = record { rows = cell counts 0; delivered = cell counts 1; dropped = cell counts 2 }
+-- what the flush said of itself, and how many copies were due
+unfoldable pub flush_note : Figures → (due : List ℕ) → Said → (copies gone : ℕ) → (out : List ℕ) → Figures
+flush_note l due said copies gone out =
+    flushed_note (due_notes l due (take (rows_words said.rows) out) (min copies most_slots)).held said gone
 
--- the counts are the flush's rows, delivered and dropped copies, and how many were due
-unfoldable pub flush_note : Figures → (due counts : List ℕ) → (gone : ℕ) → (out : List ℕ) → Figures
-flush_note l due counts gone out =
-    flushed_note (due_notes l due (take (rows_words (cell counts 0)) out) (min (cell counts 3) most_slots)).held (said_in counts) gone
+-- ---- A call that no question refused, from its words and what it told; gone is how many marks went
 
--- ---- A line that no number refused, from its words and the call's counts; gone is how many marks went
+unfoldable pub accept_note : Figures → Accept → Five → (net : List ℕ) → Figures
+accept_note l entry five net = accepted_note l entry.«from» entry.scope entry.opens five (cell net sequence_at)
 
-abbrev pub five_in : (counts : List ℕ) → Five
-five_in counts =
-    record { sent = cell counts 0; deduplicated = cell counts 1; partition = cell counts 2; loss = cell counts 3; fault = cell counts 4 }
+-- an outcome that the call cannot have notes nothing
+unfoldable pub taken_note : Figures → (due : List ℕ) → Call → Outcome → (gone : ℕ) → (net out : List ℕ) → Figures
+taken_note l due (AcceptCall entry) (Accepted five) gone net out = accept_note l entry five net
+taken_note l due (FlushCall flush) (Flushed said copies) gone net out = flush_note l due said copies gone out
+taken_note l due (ChangeCall (Down till)) Done gone net out = down_note l till gone
+taken_note l due (ChangeCall (Up till shards)) Done gone net out = up_note l till shards
+taken_note l due _ _ gone net out = l
 
--- the counts of an accept are the five
-unfoldable pub accept_note : Figures → Accept → (counts : List ℕ) → (net : List ℕ) → Figures
-accept_note l entry counts net =
-    accepted_note l entry.«from» entry.scope entry.opens (five_in counts) (cell net sequence_at)
+-- ---- Behind a line: nothing where it is no call, the question's number where one refused it; so many marks stood before it
 
-unfoldable pub taken_note : Figures → (due : List ℕ) → Call → (counts : List ℕ) → (gone : ℕ) → (net out : List ℕ) → Figures
-taken_note l due (AcceptCall entry) counts gone net out = accept_note l entry counts net
-taken_note l due (FlushCall flush) counts gone net out = flush_note l due counts gone out
-taken_note l due (ChangeCall (Down till)) counts gone net out = down_note l till gone
-taken_note l due (ChangeCall (Up till shards)) counts gone net out = up_note l till shards
-taken_note l due _ counts gone net out = l
+unfoldable pub after_note : Figures → (due : List ℕ) → Call → Outcome → (stood : ℕ) → (setup net seen out : List ℕ) → Figures
+after_note l due call Bad stood setup net seen out = l
+after_note l due call (Refused refusal) stood setup net seen out = refused_note l (number_of refusal)
+after_note l due call told stood setup net seen out = taken_note l due call told (stood - marks_in setup seen) net out
 
--- ---- Behind a line: nothing where it is no call, its number where one refused it; so many marks stood before it
-
-unfoldable pub after_note : Figures → (due : List ℕ) → Call → (number : ℕ) → (counts : List ℕ) → (stood : ℕ) → (setup net seen out : List ℕ) → Figures
-after_note l due call number counts stood setup net seen out =
-    cond (nat_lt last_number number) l (cond (nat_lt 0 number) (refused_note l number) (taken_note l due call counts (stood - marks_in setup seen) net out))
-
-unfoldable pub opening_note : Figures → (number tills : ℕ) → (masks : List ℕ) → (log : ℕ) → (net : List ℕ) → Figures
-opening_note l number tills masks log net =
-    cond (nat_lt last_number number) l (cond (nat_lt 0 number) (refused_note l number) (opened_note tills masks log (cell net sequence_at)))
+unfoldable pub opening_note : {T : Type 0} → Figures → Result T Refusal → (tills : ℕ) → (masks : List ℕ) → (log : ℕ) → (net : List ℕ) → Figures
+opening_note l (Ok v) tills masks log net = opened_note tills masks log (cell net sequence_at)
+opening_note l (Err refusal) tills masks log net = refused_note l (number_of refusal)
 
 -- ---- In transit to every till, as the reading answers it
 

@@ -6,17 +6,17 @@ ghost use Rattle.std.specs.Prelude.{◌≡◌, ◌+◌, ◌≤◌};
 ghost use Rattle.spec_network.specs.Opening.{most_classes, most_slots};
 ghost use Rattle.sim_notes.specs.Noted as noted;
 
+use ask_refusal::Refusal;
 use ask_tables::{MOST_SLOTS, cell};
 use call_log::Tallied;
 use call_reply::Value;
 use sim_figures::{Figures, Five, Said, Tally};
+use sim_lend::Network;
+use sim_outcome::Outcome;
 use sim_script::{Accept, Call, Change};
 
-// Where a copy has its sequence.
+// Where a copy has its sequence. By its place, since `cell` reads 0 behind the end of a table; a Copy asks for all of its words.
 const SEQUENCE: usize = table_delivery::WIDTH;
-
-// The last number of a question.
-const LAST: u64 = 24;
 
 const CLASSES: u64 = ask_tables::MOST_CLASSES;
 
@@ -114,97 +114,88 @@ fn rows_size(rows: u64) -> usize
     n * call_flush_pass::ROW
 }
 
-// A flush: its rows, delivered, dropped and due copies are counted; `gone` marks went. What lies behind the rows is older.
-fn flushed(figures: &mut Figures, due: &[u64], counts: [u64; 5], gone: u64, out: &[u64])
-    ensures { figures.new ≡ noted.flush_note figures.old due.now counts gone out.now }
+// A flush, at which so many copies were due; `gone` marks went. What lies behind the rows is older.
+fn flushed(figures: &mut Figures, due: &[u64], said: Said, copies: u64, gone: u64, out: &[u64])
+    ensures { figures.new ≡ noted.flush_note figures.old due.now said copies gone out.now }
 {
-    let n = counts[3].min(MOST_SLOTS);
-    due_copies(figures, due, n, sim_lend::part(out, rows_size(counts[0])));
-    let said = Said {
-        rows: counts[0],
-        delivered: counts[1],
-        dropped: counts[2],
-    };
+    let n = copies.min(MOST_SLOTS);
+    due_copies(figures, due, n, sim_lend::part(out, rows_size(said.rows)));
     figures.flushed(said, gone);
 }
 
 // An accepted message.
 #[tactic(auto, unfolding(crate::specs::Noted::accept_note))]
-fn accepted(figures: &mut Figures, message: Accept<'_>, counts: [u64; 5], net: &[u64])
-    ensures { figures.new ≡ noted.accept_note figures.old message.entry counts net.now }
+fn accepted(figures: &mut Figures, message: Accept<'_>, five: Five, net: &[u64])
+    ensures { figures.new ≡ noted.accept_note figures.old message.entry five net.now }
 {
-    let five = Five {
-        sent: counts[0],
-        deduplicated: counts[1],
-        partition: counts[2],
-        loss: counts[3],
-        fault: counts[4],
-    };
     let sequence = cell(net, ask_tables::SEQUENCE);
     figures.accepted(message.from, message.scope, message.opens, five, sequence);
 }
 
-// A line that no number refused.
+// A call that no question refused, by what it told.
 #[tactic(auto, unfolding(crate::specs::Noted::taken_note))]
 fn taken(
     figures: &mut Figures,
     due: &[u64],
     call: Call<'_>,
-    counts: [u64; 5],
+    told: Outcome,
     gone: u64,
-    net: &[u64],
-    out: &[u64],
+    network: &Network<'_>,
 )
-    ensures { figures.new ≡ noted.taken_note figures.old due.now call.entry counts gone net.now out.now }
+    ensures { figures.new ≡ noted.taken_note figures.old due.now call.entry told gone network.now.net.now network.now.out.now }
 {
-    match call {
-        Call::Accept(message) => accepted(figures, message, counts, net),
-        Call::Flush(_) => flushed(figures, due, counts, gone, out),
-        Call::Change(Change::Down { till }) => figures.went_down(till, gone),
-        Call::Change(Change::Up { till, shards }) => figures.came_up(till, shards),
+    match (call, told) {
+        (Call::Accept(message), Outcome::Accepted(five)) => {
+            accepted(figures, message, five, network.net)
+        }
+        (Call::Flush(_), Outcome::Flushed { said, due: n }) => {
+            flushed(figures, due, said, n, gone, network.out)
+        }
+        (Call::Change(Change::Down { till }), Outcome::Done) => figures.went_down(till, gone),
+        (Call::Change(Change::Up { till, shards }), Outcome::Done) => figures.came_up(till, shards),
         _ => {}
     }
 }
 
-// Behind a line: its number and counts; so many marks stood before it.
+// Behind a line: what became of it; so many marks stood before it.
+#[tactic(auto, unfolding(crate::specs::Noted::after_note))]
 pub fn after(
     figures: &mut Figures,
     due: &[u64],
     call: Call<'_>,
-    number: u64,
-    counts: [u64; 5],
+    told: Outcome,
     stood: u64,
-    setup: &[u64],
-    net: &[u64],
-    seen: &[u64],
-    out: &[u64],
+    network: &Network<'_>,
 )
-    ensures { figures.new ≡ noted.after_note figures.old due.now call.entry number counts stood setup.now net.now seen.now out.now }
+    ensures { figures.new ≡ noted.after_note figures.old due.now call.entry told stood
+        network.now.setup.now network.now.net.now network.now.seen.now network.now.out.now }
 {
-    if LAST < number {
-        return;
+    let gone = stood.saturating_sub(marks(network.setup, network.seen));
+    match told {
+        Outcome::Bad => {}
+        Outcome::Refused(refusal) => figures.refused(refusal.number()),
+        _ => taken(figures, due, call, told, gone, network),
     }
-    if 0 < number {
-        figures.refused(number);
-        return;
-    }
-    let gone = stood.saturating_sub(marks(setup, seen));
-    taken(figures, due, call, counts, gone, net, out);
 }
 
-// Behind an opening: its number, and the line's tills, masks and log slots.
-pub fn opened(figures: &mut Figures, number: u64, tills: u64, masks: &[u64], log: u64, net: &[u64])
-    ensures { figures.new ≡ noted.opening_note figures.old number tills masks.now log net.now }
+// Behind an opening: its answer, the line's tills and log slots; its masks stand in the network's room.
+#[tactic(auto, unfolding(crate::specs::Noted::opening_note))]
+pub fn opened(
+    figures: &mut Figures,
+    answer: Result<(), Refusal>,
+    tills: u64,
+    log: u64,
+    network: &Network<'_>,
+)
+    ensures { figures.new ≡ noted.opening_note figures.old answer tills network.now.out.now log network.now.net.now }
 {
-    if LAST < number {
-        return;
+    match answer {
+        Ok(()) => {
+            let first = cell(network.net, ask_tables::SEQUENCE);
+            figures.opened(tills, network.out, log, first);
+        }
+        Err(refusal) => figures.refused(refusal.number()),
     }
-    if 0 < number {
-        figures.refused(number);
-        return;
-    }
-    let first = cell(net, ask_tables::SEQUENCE);
-    figures.opened(tills, masks, log, first);
 }
 
 // The first n copies that wait.
@@ -257,19 +248,12 @@ fn transits(figures: &mut Figures, setup: &[u64], net: &[u64], waiting: &[u64])
 }
 
 // At the end: what waits, what is in transit, the tallies that stand, the marks that stand.
-pub fn ended(
-    figures: &mut Figures,
-    setup: &[u64],
-    net: &[u64],
-    seen: &[u64],
-    waiting: &[u64],
-    log: &[u64],
-)
-    ensures { figures.new ≡ noted.end_note figures.old setup.now net.now seen.now waiting.now log.now }
+pub fn ended(figures: &mut Figures, network: &Network<'_>)
+    ensures { figures.new ≡ noted.end_note figures.old network.now.setup.now network.now.net.now network.now.seen.now network.now.waiting.now network.now.log.now }
 {
-    let n = cell(net, ask_tables::WAITING).min(MOST_SLOTS);
-    waiting_copies(figures, waiting, n);
-    transits(figures, setup, net, waiting);
-    tallies(figures, setup, log);
-    figures.stands(marks(setup, seen));
+    let n = cell(network.net, ask_tables::WAITING).min(MOST_SLOTS);
+    waiting_copies(figures, network.waiting, n);
+    transits(figures, network.setup, network.net, network.waiting);
+    tallies(figures, network.setup, network.log);
+    figures.stands(marks(network.setup, network.seen));
 }

@@ -1,9 +1,17 @@
 // The fields of an opening: `key=value` words in any order, each one time.
 #![tactic(auto)]
 
+ghost use Rattle.std.specs.Prelude.{◌≡◌, Some, None, IfSome, codes};
+ghost use Rattle.std.specs.Option.{MatchOption};
+ghost use Rattle.sim_spelling.specs.Spelling.{words_in};
+ghost use Rattle.sim_openings.specs.Openings.{value_in, field_in, number_in, rate_in};
+
 use sim_spelling::bytes::{key, unhex};
 use sim_spelling::numbers::{bits, decimal, hex};
 use sim_spelling::words::words_of;
+
+// Bytes of the fault stream's key.
+pub const KEY: usize = 32;
 
 // A plan of regions.
 #[derive(Clone, Copy)]
@@ -12,7 +20,7 @@ pub struct Plan {
     pub seed: u64,
 }
 
-// The numbers of an opening. Rates are bits; `own` says that the fault stream's key is given, and not `auto`.
+// The numbers of an opening. Rates are bits; no key of the fault stream is given where its field is `auto`.
 #[derive(Clone, Copy)]
 pub struct Opening {
     pub tills: u64,
@@ -27,18 +35,17 @@ pub struct Opening {
     pub slots: u64,
     pub seen: u64,
     pub plan: Option<Plan>,
-    pub own: bool,
+    pub fault_key: Option<[u8; KEY]>,
     pub types: u64,
     pub shards: u64,
 }
 
-// Where the shard keys and the fault stream's key stand behind the names, and the places of each.
+// Where the shard keys stand behind the names, and the places of each.
 #[derive(Clone, Copy)]
 pub struct Layout {
     pub name: usize,
     pub shard: usize,
     pub shards: usize,
-    pub key: usize,
     pub most: usize,
     pub slots: u64,
 }
@@ -46,22 +53,44 @@ pub struct Layout {
 // The fields that a line has at least.
 const FIELDS: usize = 14;
 
+// The value of a word that begins with the key and a sign.
+#[tactic(auto, unfolding(crate::specs::Openings::value_in))]
+fn value_of<'a>(word: &'a [u8], key: &[u8]) -> Option<&'a [u8]>
+    ensures { MatchOption result (value_in key.now word.now ≡ None) (λ v. value_in key.now word.now ≡ Some v.now) }
+{
+    match word.strip_prefix(key) {
+        Some([b'=', value @ ..]) => Some(value),
+        _ => None,
+    }
+}
+
 // The value of a field, where the line has it.
-fn field<'a>(line: &'a [u8], name: &[u8]) -> Option<&'a [u8]> {
+#[tactic(auto, unfolding(crate::specs::Openings::field_in))]
+fn field<'a>(line: &'a [u8], key: &[u8]) -> Option<&'a [u8]>
+    ensures { MatchOption result (field_in key.now (words_in line.now) ≡ None) (λ v. field_in key.now (words_in line.now) ≡ Some v.now) }
+{
     for word in words_of(line) {
-        if let Some([b'=', value @ ..]) = word.strip_prefix(name) {
+        if let Some(value) = value_of(word, key) {
             return Some(value);
         }
     }
     None
 }
 
-fn number(line: &[u8], name: &[u8]) -> Option<u64> {
-    decimal(field(line, name)?)
+// The number of a field, in decimal.
+#[tactic(auto, unfolding(crate::specs::Openings::number_in))]
+fn number(line: &[u8], key: &[u8]) -> Option<u64>
+    ensures { result ≡ number_in line.now key.now }
+{
+    decimal(field(line, key)?)
 }
 
-fn rate(line: &[u8], name: &[u8]) -> Option<u64> {
-    bits(field(line, name)?)
+// The bits of a field that is a rate.
+#[tactic(auto, unfolding(crate::specs::Openings::rate_in))]
+fn rate(line: &[u8], key: &[u8]) -> Option<u64>
+    ensures { result ≡ rate_in line.now key.now }
+{
+    bits(field(line, key)?)
 }
 
 // A field that may be missing.
@@ -79,6 +108,7 @@ fn is_whole(line: &[u8]) -> bool {
     words_of(line).count() == 1 + FIELDS + beside
 }
 
+// What stands between the items of a list.
 fn is_comma(b: &u8) -> bool {
     *b == b','
 }
@@ -140,17 +170,23 @@ fn plan_of(text: &[u8]) -> Option<Option<Plan>> {
     Some(Some(Plan { regions, seed }))
 }
 
-// Is the fault stream's key given, and not `auto`?
-fn fault_key(text: &[u8], out: &mut [u8], at: usize) -> Option<bool> {
+// The fault stream's key: `auto`, or its bytes.
+fn fault_key(text: &[u8]) -> Option<Option<[u8; KEY]>> {
     if text == b"auto".as_slice() {
-        return Some(false);
+        return Some(None);
     }
-    key(text, out.get_mut(at..).unwrap_or(&mut []))?;
-    Some(true)
+    let mut bytes = [0u8; KEY];
+    key(text, &mut bytes)?;
+    Some(Some(bytes))
 }
 
-// The opening of a line: its names and key in `out` as the layout says, its masks at the front of `shards`.
-pub fn open_line(line: &[u8], out: &mut [u8], shards: &mut [u64], l: Layout) -> Option<Opening> {
+// The opening of a line: its names in `out` as the layout says, its masks at the front of `shards`.
+pub fn open_line(line: &[u8], out: &mut [u8], shards: &mut [u64], l: Layout) -> Option<Opening>
+    ensures numbers { IfSome result (λ o. (number_in line.now (codes "tills") ≡ Some o.tills) × (number_in line.now (codes "seed") ≡ Some o.seed)
+        × (number_in line.now (codes "log") ≡ Some o.log) × (number_in line.now (codes "lat") ≡ Some o.latency)) }
+    ensures rates { IfSome result (λ o. (rate_in line.now (codes "jit") ≡ Some o.jitter) × (rate_in line.now (codes "loss") ≡ Some o.loss)
+        × (rate_in line.now (codes "dup") ≡ Some o.duplicate) × (rate_in line.now (codes "rep") ≡ Some o.replay) × (rate_in line.now (codes "spike") ≡ Some o.spike)) }
+{
     if !is_whole(line) {
         return None;
     }
@@ -167,7 +203,7 @@ pub fn open_line(line: &[u8], out: &mut [u8], shards: &mut [u64], l: Layout) -> 
         slots: choice(line, b"slots", l.slots)?,
         seen: choice(line, b"seen", l.slots)?,
         plan: plan_of(field(line, b"regions")?)?,
-        own: fault_key(field(line, b"fkey")?, out, l.key)?,
+        fault_key: fault_key(field(line, b"fkey")?)?,
         types: names(field(line, b"types")?, out, 0, l.name, l.most)?,
         shards: names(field(line, b"shards")?, out, l.shards, l.shard, l.most)?,
     };

@@ -99,7 +99,8 @@ impl<'a> Printer<'a> {
         self.text(&digits[..k]);
     }
 
-    // What a value displays.
+    // What a value displays. No clause: std says only what a display leaves that did not fail (each piece by `write_str`), and the result is not
+    // kept; that no more counts than the buffer holds is the invariant.
     pub fn print<D: fmt::Display + Drop>(&mut self, what: D) {
         let _ = fmt::Write::write(self, what);
     }

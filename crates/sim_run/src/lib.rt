@@ -5,52 +5,10 @@
 use sim_figures::Figures;
 use sim_lend::Network;
 use sim_printer::Printer;
-use sim_run_parts::Asked;
-use sim_session::lines::{Line, Session};
+use sim_run_parts::{Asked, LINE, PIECE, REGIONS, ROOM, SLOTS, TILLS, TYPES};
 use sim_session::{lines, system, turns};
 use std::io::Read;
 use std::rt::{Clock, Env, Files};
-
-// A line, acted on: an opening, a call on the network that is open, or neither.
-fn act(
-    network: &mut Network<'_>,
-    line: Line<'_>,
-    r: Session,
-    figures: &mut Figures,
-    due: &mut [u64],
-    page: &mut Printer,
-) -> Session {
-    let lent = Network {
-        setup: network.setup,
-        net: network.net,
-        names: network.names,
-        tills: network.tills,
-        words: network.words,
-        keys: network.keys,
-        prices: network.prices,
-        seen: network.seen,
-        waiting: network.waiting,
-        rings: network.rings,
-        rules: network.rules,
-        blocks: network.blocks,
-        log: network.log,
-        out: network.out,
-    };
-    match line {
-        Line::Skipped => r,
-        Line::Bad => {
-            sim_answers::bad(page, r.lines);
-            r
-        }
-        Line::Open { opening, fresh } => {
-            sim_run_parts::open_line(lent, opening, fresh, r, figures, page)
-        }
-        Line::Call(call) => {
-            sim_acts::call(lent, call, r, figures, due, page);
-            r
-        }
-    }
-}
 
 // A whole run: line after line, to the end of what the reader gives (no run has more than 2^64).
 fn run<R: Clock, S: Read>(
@@ -69,7 +27,7 @@ fn run<R: Clock, S: Read>(
     let mut r = lines::fresh(rt);
     for _ in 0..u64::MAX {
         let t = turns::next(rt, from, piece, line, room, network.out, i, r);
-        r = act(network, t.line, t.session, figures, due, page);
+        r = sim_run_parts::act(network, t.line, t.session, figures, due, page);
         i = t.input;
         if i.ended {
             break;
@@ -77,25 +35,9 @@ fn run<R: Clock, S: Read>(
     }
 }
 
-// Bytes of a line: the hexadecimal digits of 65,536 wire bytes, and 4,096 more.
-const LINE: usize = 2 * 65536 + 4096;
-
-// Bytes that a line can stand for.
-const ROOM: usize = LINE / 2;
-
-const PIECE: usize = 65536;
-
-// The largest sizes: tills, slots, types, regions.
-const TILLS: usize = ask_tables::MOST_TILLS as usize;
-
-const SLOTS: usize = ask_tables::MOST_SLOTS as usize;
-
-const TYPES: usize = ask_tables::MOST_TYPES as usize;
-
-const REGIONS: usize = ask_tables::MOST_REGIONS as usize;
-
 // A run on tables of its own: arrays of the largest sizes, all 0. Its tables stand on the stack once: it is not inlined
-// into its callers, of which one calls another.
+// into its callers, of which one calls another. They are written out here and in the audits: without a heap they are this frame's, and no function
+// can hand them out.
 #[inline(never)]
 fn on_tables<R: Clock, S: Read>(rt: &R, asked: Asked, from: &mut S) {
     let mut piece = [0u8; PIECE];
@@ -140,7 +82,7 @@ fn on_tables<R: Clock, S: Read>(rt: &R, asked: Asked, from: &mut S) {
 fn file<R: Files + Clock>(rt: &R, name: &[u8]) {
     match system::open_read(rt, name) {
         Ok(mut from) => {
-            sim_run_parts::headed(name);
+            system::head(b"RUN OF ", name);
             on_tables(rt, Asked::Checklist, &mut from);
         }
         Err(e) => system::fail(name, e),
@@ -153,18 +95,11 @@ fn named<R: Files + Env + Clock>(rt: &R, k: usize) {
     let n = system::arg(rt, k, &mut room);
     let name = sim_spelling::words::part(&room, 0, n);
     if sim_run_parts::asked_by(name) == Asked::Morning {
-        sim_run_parts::headed(name);
+        system::head(b"RUN OF ", name);
         on_tables(rt, Asked::Morning, &mut std::io::empty());
         return;
     }
     file(rt, name);
-}
-
-// The runs that the words from k on name, one after the other.
-fn each<R: Files + Env + Clock>(rt: &R, k: usize, words: usize) {
-    for i in k..words {
-        named(rt, i);
-    }
 }
 
 // What the words behind the program's name ask for: a run for each word behind `checklist`, where there are any, or one run.
@@ -172,7 +107,9 @@ pub fn words<R: Files + Env + Clock + Input>(rt: &R) {
     let asked = sim_run_parts::asked_first(rt);
     let n = system::arg_count(rt);
     if sim_run_parts::names_files(asked, n) {
-        each(rt, sim_run_parts::FILES, n);
+        for k in sim_run_parts::FILES..n {
+            named(rt, k);
+        }
         return;
     }
     on_tables(rt, asked, &mut rt.reader());

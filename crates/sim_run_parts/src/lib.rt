@@ -1,11 +1,11 @@
-// The parts of a run beside its calls: the words behind the program's name, where the lines come from, an opening, the end.
+// The parts of a run: the words behind the program's name, where the lines come from, a line acted on, the end.
 #![tactic(auto)]
 
 use sim_figures::Figures;
 use sim_lend::Network;
 use sim_openings::Opening;
 use sim_printer::Printer;
-use sim_session::lines::Session;
+use sim_session::lines::{Line, Session};
 use sim_session::{input, lines, opens, system};
 use std::rt::Env;
 
@@ -19,6 +19,24 @@ pub enum Asked {
 
 // The first word that can name a file, behind the program's name and `checklist`.
 pub const FILES: usize = 2;
+
+// Bytes of a line: the hexadecimal digits of 65,536 wire bytes, and 4,096 more.
+pub const LINE: usize = 2 * 65536 + 4096;
+
+// Bytes that a line can stand for.
+pub const ROOM: usize = LINE / 2;
+
+// Bytes that are read at once.
+pub const PIECE: usize = 65536;
+
+// The largest sizes: tills, slots, types, regions.
+pub const TILLS: usize = ask_tables::MOST_TILLS as usize;
+
+pub const SLOTS: usize = ask_tables::MOST_SLOTS as usize;
+
+pub const TYPES: usize = ask_tables::MOST_TYPES as usize;
+
+pub const REGIONS: usize = ask_tables::MOST_REGIONS as usize;
 
 // What a word asks for.
 pub fn asked_by(word: &[u8]) -> Asked {
@@ -41,13 +59,6 @@ pub fn names_files(asked: Asked, words: usize) -> bool {
     asked == Asked::Checklist && FILES < words
 }
 
-// The line above the answers to a file's script.
-pub fn headed(name: &[u8]) {
-    io::write_all(sim_printer::STDOUT, b"RUN OF ");
-    io::write_all(sim_printer::STDOUT, name);
-    io::write_all(sim_printer::STDOUT, b"\n");
-}
-
 // Where the lines come from: what the reader gives, or the morning that the program carries.
 pub fn source(asked: Asked, piece: &mut [u8]) -> input::Input {
     if asked == Asked::Morning {
@@ -56,67 +67,67 @@ pub fn source(asked: Asked, piece: &mut [u8]) -> input::Input {
     input::start(false, 0)
 }
 
-// An opening: its names and its key stand in `fresh`, its masks in the network's room.
-pub fn open_line(
-    network: Network<'_>,
+// An opening: its names and its key stand in `fresh`, its masks in the network's room. The fields are lent anew,
+// as in sim_acts: the borrow checker covers no method that lends them all.
+fn open_line(
+    network: &mut Network<'_>,
     o: Opening,
     fresh: &[u8],
     r: Session,
     figures: &mut Figures,
     page: &mut Printer,
 ) -> Session {
-    let Network {
-        setup,
-        net,
-        names,
-        tills,
-        words,
-        keys,
-        prices,
-        seen,
-        waiting,
-        rings,
-        rules,
-        blocks,
-        log,
-        out,
-    } = network;
     let lent = Network {
-        setup,
-        net,
-        names,
-        tills,
-        words,
-        keys,
-        prices,
-        seen,
-        waiting,
-        rings,
-        rules,
-        blocks,
-        log,
-        out,
+        setup: network.setup,
+        net: network.net,
+        names: network.names,
+        tills: network.tills,
+        words: network.words,
+        keys: network.keys,
+        prices: network.prices,
+        seen: network.seen,
+        waiting: network.waiting,
+        rings: network.rings,
+        rules: network.rules,
+        blocks: network.blocks,
+        log: network.log,
+        out: network.out,
     };
-    let number = opens::opened(o, fresh, lent);
-    sim_notes::opened(figures, number, o.tills, out, o.log, net);
-    lines::begun(page, r, number)
+    let answer = opens::opened(o, fresh, lent);
+    sim_notes::opened(figures, answer, o.tills, o.log, network);
+    lines::begun(page, r, answer)
+}
+
+// A line, acted on: an opening, a call on the network that is open, or neither. The answers go to `page`.
+pub fn act(
+    network: &mut Network<'_>,
+    line: Line<'_>,
+    r: Session,
+    figures: &mut Figures,
+    due: &mut [u64],
+    page: &mut Printer,
+) -> Session {
+    match line {
+        Line::Skipped => r,
+        Line::Bad => {
+            sim_answers::bad(page, r.lines);
+            r
+        }
+        Line::Open { opening, fresh } => open_line(network, opening, fresh, r, figures, page),
+        Line::Call(call) => {
+            sim_acts::call(network, call, r, figures, due, page);
+            r
+        }
+    }
 }
 
 // The end of a run: the checklist and the slips, where they were asked for.
 pub fn finish(asked: Asked, network: Network<'_>, figures: &mut Figures, page: &mut Printer) {
-    let Network {
-        setup,
-        net,
-        seen,
-        waiting,
-        log,
-        ..
-    } = network;
     if asked == Asked::Nothing {
         page.finish();
         return;
     }
-    sim_notes::ended(figures, setup, net, seen, waiting, log);
+    sim_notes::ended(figures, &network);
     page.text(b"\n");
     sim_checklist::print(figures, page);
     page.finish();

@@ -12,6 +12,7 @@ pub fn opens(line: &[u8]) -> bool {
     words_of(line).next() == Some(b"open".as_slice())
 }
 
+// A number in decimal digits.
 fn number(words: &mut Words) -> Option<u64> {
     decimal(words.next()?)
 }
@@ -39,6 +40,7 @@ fn stream_key(words: &mut Words) -> Option<[u32; 8]> {
     Some(key_of(&room))
 }
 
+// An entry that a till takes.
 fn accept<'a>(words: &mut Words, room: &'a mut [u8]) -> Option<Accept<'a>> {
     Some(Accept {
         from: number(words)?,
@@ -52,6 +54,7 @@ fn accept<'a>(words: &mut Words, room: &'a mut [u8]) -> Option<Accept<'a>> {
     })
 }
 
+// A flush, and its rows where the line says how many.
 fn flush(words: &mut Words) -> Option<Flush> {
     let at = number(words)?;
     let rows = match words.next() {
@@ -61,6 +64,7 @@ fn flush(words: &mut Words) -> Option<Flush> {
     Some(Flush { at, rows })
 }
 
+// A change of tills or rules, or a decision.
 fn change(name: &[u8], words: &mut Words) -> Option<Change> {
     let change = match name {
         b"down" => Change::Down {
@@ -90,6 +94,7 @@ fn change(name: &[u8], words: &mut Words) -> Option<Change> {
     Some(change)
 }
 
+// A block, or its end.
 fn passage(name: &[u8], words: &mut Words) -> Option<Passage> {
     let passage = match name {
         b"block" => Passage::Block {
@@ -125,6 +130,7 @@ fn set_words(words: &mut Words) -> Option<Hook> {
     }
 }
 
+// A counter to write.
 fn hook(name: &[u8], words: &mut Words) -> Option<Hook> {
     let hook = match name {
         b"setfired" => Hook::Fired {
@@ -153,6 +159,7 @@ fn seen(words: &mut Words) -> Option<Single> {
     }
 }
 
+// A reading of one answer or one list.
 fn single(name: &[u8], words: &mut Words) -> Option<Single> {
     let single = match name {
         b"isblocked" => Single::IsBlocked {
@@ -174,6 +181,7 @@ fn single(name: &[u8], words: &mut Words) -> Option<Single> {
     Some(single)
 }
 
+// A call that reads.
 fn reading(name: &[u8], words: &mut Words) -> Option<Reading> {
     if let b"state" = name {
         return Some(Reading::State);
@@ -185,6 +193,7 @@ fn reading(name: &[u8], words: &mut Words) -> Option<Reading> {
     Some(Reading::Single(single))
 }
 
+// The table that a name stands for.
 fn table(name: &[u8]) -> Option<Table> {
     match name {
         b"tills" => Some(Table::Tills),
@@ -196,6 +205,7 @@ fn table(name: &[u8]) -> Option<Table> {
     }
 }
 
+// A message from till to till.
 fn message(words: &mut Words) -> Option<Message> {
     Some(Message {
         from: number(words)?,
@@ -205,6 +215,7 @@ fn message(words: &mut Words) -> Option<Message> {
     })
 }
 
+// A question about regions, links and keys.
 fn geography(name: &[u8], words: &mut Words) -> Option<Geography> {
     let geography = match name {
         b"region" => Geography::Region {
@@ -232,6 +243,7 @@ fn geography(name: &[u8], words: &mut Words) -> Option<Geography> {
     Some(geography)
 }
 
+// A number of latencies on one stream.
 fn latency(words: &mut Words) -> Option<Latency> {
     Some(Latency {
         key: stream_key(words)?,
@@ -243,6 +255,7 @@ fn latency(words: &mut Words) -> Option<Latency> {
     })
 }
 
+// A conversion of seconds.
 fn seconds(name: &[u8], words: &mut Words) -> Option<Seconds> {
     let seconds = match name {
         b"nanos" => Seconds::Nanos {
@@ -280,6 +293,7 @@ fn draw(name: &[u8], words: &mut Words) -> Option<Draw> {
     Some(draw)
 }
 
+// A number of draws on one stream.
 fn draws(words: &mut Words) -> Option<Draws> {
     let name = words.next()?;
     Some(Draws {
@@ -311,6 +325,7 @@ fn plain<'a>(name: &[u8], words: &mut Words) -> Option<Call<'a>> {
     Some(Call::Seconds(seconds))
 }
 
+// The call of a line, with its words.
 fn call<'a>(words: &mut Words, room: &'a mut [u8]) -> Option<Call<'a>> {
     let call = match words.next()? {
         b"accept" => Call::Accept(accept(words, room)?),

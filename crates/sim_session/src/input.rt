@@ -4,6 +4,7 @@ use std::io::Read;
 
 // Where the reading stands: the piece's bytes from `at` up to `end` are still to come; the line has n bytes so far; more than its buffer
 // holds and it is too long; the input has ended. A carried script stands in the first piece whole, and is read from nowhere.
+// Flags, no enum of cases: a line that is too long can be the last one too, and a carried script stays one.
 #[derive(Clone, Copy)]
 pub struct Input {
     pub at: usize,

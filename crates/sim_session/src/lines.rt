@@ -1,8 +1,9 @@
 // A line of a script: its words, read, and what is to be done with it.
 use crate::progress::Clock;
 use crate::{opens, progress};
+use ask_refusal::Refusal;
 use sim_openings::Opening;
-use sim_outcome::Outcome;
+use sim_outcome::{Outcome, done};
 use sim_printer::Printer;
 use sim_script::Call;
 
@@ -64,26 +65,26 @@ pub fn admitted<'a>(line: Line<'a>, r: Session) -> Line<'a> {
 }
 
 // The run behind an opening.
-pub fn begun(page: &mut Printer, r: Session, number: u64) -> Session {
-    sim_answers::done(page, "open", number);
-    let mut next = r;
-    if number == 0 {
-        next.opened = true;
+pub fn begun(page: &mut Printer, r: Session, answer: Result<(), Refusal>) -> Session {
+    done(page, b"open", answer);
+    Session {
+        opened: r.opened || answer.is_ok(),
+        ..r
     }
-    next
 }
 
 // What is left to answer behind a call: here it is known whether its line was bad.
 pub fn called(page: &mut Printer, r: Session, o: Outcome) {
-    if o.number == sim_outcome::BAD {
+    if let Outcome::Bad = o {
         sim_answers::bad(page, r.lines);
     }
 }
 
 // One line more; a long run tells how far it is.
 pub fn counted(rt: &impl std::rt::Clock, r: Session) -> Session {
-    let mut next = r;
-    next.clock = progress::told(rt, r.lines, r.clock);
-    next.lines = std::num::wrapping_add_u64(r.lines, 1);
-    next
+    Session {
+        clock: progress::told(rt, r.lines, r.clock),
+        lines: r.lines.wrapping_add(1),
+        ..r
+    }
 }

@@ -3,10 +3,10 @@
 // The descriptor of standard error.
 const STDERR: i32 = 2;
 
-// Lines between two looks at the clock, and seconds between two reports.
+// Lines between two looks at the clock, and ticks between two reports.
 const LINES: u64 = 4096;
 
-const SECONDS: u64 = 2;
+const BETWEEN_REPORTS: u64 = 2;
 
 // The second of the last look, and how many seconds have gone by in which there was one.
 #[derive(Clone, Copy)]
@@ -15,6 +15,7 @@ pub struct Clock {
     pub ticks: u64,
 }
 
+// The second of the clock; -1 where it cannot be read.
 fn now(rt: &impl std::rt::Clock) -> i64 {
     match rt.since_1970() {
         Ok(t) => t.as_secs().cast_signed(),
@@ -22,6 +23,7 @@ fn now(rt: &impl std::rt::Clock) -> i64 {
     }
 }
 
+// Before the first line.
 pub fn start(rt: &impl std::rt::Clock) -> Clock {
     Clock {
         second: now(rt),
@@ -29,8 +31,9 @@ pub fn start(rt: &impl std::rt::Clock) -> Clock {
     }
 }
 
+// Every second tick, so many lines.
 fn report(lines: u64, ticks: u64) {
-    if ticks % SECONDS == 0 {
+    if ticks % BETWEEN_REPORTS == 0 {
         io::print_decimal(STDERR, lines);
         io::write_all(STDERR, b" lines\n");
     }
@@ -45,7 +48,7 @@ pub fn told(rt: &impl std::rt::Clock, lines: u64, c: Clock) -> Clock {
     if second == c.second {
         return c;
     }
-    let ticks = std::num::wrapping_add_u64(c.ticks, 1);
+    let ticks = c.ticks.wrapping_add(1);
     report(lines, ticks);
     Clock { second, ticks }
 }

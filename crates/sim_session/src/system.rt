@@ -20,12 +20,9 @@ fn is_missing(rt: &impl Env, k: usize) -> bool {
 
 // How many words there are, the program's name among them.
 pub fn arg_count(rt: &impl Env) -> usize {
-    for k in 0..usize::MAX {
-        if is_missing(rt, k) {
-            return k;
-        }
-    }
-    usize::MAX
+    (0..usize::MAX)
+        .find(|k| is_missing(rt, *k))
+        .unwrap_or(usize::MAX)
 }
 
 // The file of that name, to read; a name that is not UTF-8 is an error.
@@ -52,4 +49,11 @@ pub fn fail(what: &[u8], e: Error) {
     io::write_all(STDERR, b": ");
     io::write_all(STDERR, why.as_bytes());
     io::write_all(STDERR, b"\n");
+}
+
+// The line on standard output above what the file of that name gives.
+pub fn head(what: &[u8], name: &[u8]) {
+    io::write_all(sim_printer::STDOUT, what);
+    io::write_all(sim_printer::STDOUT, name);
+    io::write_all(sim_printer::STDOUT, b"\n");
 }

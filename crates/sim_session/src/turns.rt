@@ -13,7 +13,8 @@ pub struct Turn<'a> {
     pub line: Line<'a>,
 }
 
-// Bytes, keys and names go to `room`, masks to `masks`.
+// Bytes, keys and names go to `room`, masks to `masks`. The buffers come one by one: `room` is lent as long as the line that is read, `masks` is
+// the network's own; in one struct it would be lent as long, and no call could be made on the network.
 pub fn next<'a, R: Clock, S: Read>(
     rt: &R,
     from: &mut S,

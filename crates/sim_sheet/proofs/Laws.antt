@@ -9,9 +9,8 @@ use lib.Dec.{eqb}
 use lib.ListN.{length}
 use Rattle.sim_printer.specs.Printer.{Page, gathered, blanks, Spelled}
 use Rattle.sim_comparison.specs.declared.Pair.{Pair}
-use Rattle.sim_comparison.specs.Compared.{agreed, within}
 use Rattle.sim_sheet.specs.Sheet.{Piece, text, spaces, figure, Prints, label_wide, figure_wide, bytes, newline}
-use Rattle.sim_sheet.specs.Sheet.{labelled, at_right, line_of, verdict_in, verdict_line, compared_lines, bounded_lines, table_of, four_of, three_of}
+use Rattle.sim_sheet.specs.Sheet.{labelled, at_right, line_of, verdict_in, verdict_line, judged_lines, compared_lines, bounded_lines, table_of, four_of, three_of}
 
 pub onward : (xs ys : List Piece) (p m q : Page) → Prints xs p m → Prints ys m q → Prints (xs ++ ys) p q
 unfolding Prints
@@ -56,19 +55,14 @@ agreeing p q same width e a = subst (λ (b : Bool). Prints (verdict_in b width) 
 pub differing : (p q : Page) (same : Bool) (width : ℕ) → same ≡ false → Prints (at_right (bytes "DIFFERS") width) p q → Prints (verdict_in same width) p q
 differing p q same width e a = subst (λ (b : Bool). Prints (verdict_in b width) p q) (sym e) a
 
-pub compares :
-    (p m k q : Page) (c : Pair) (left other : List ℕ) (same : Bool) → same ≡ agreed c → Prints (line_of left c.left) p m → Prints (line_of other c.right) m k
-    → Prints (verdict_line same) k q → Prints (compared_lines c left other) p q
-compares p m k q c left other same e a b v =
-    onward (line_of left c.left) (line_of other c.right ++ verdict_line (agreed c)) p m q a
-    (onward (line_of other c.right) (verdict_line (agreed c)) m k q b (subst (λ (x : Bool). Prints (verdict_line x) k q) e v))
+pub judges :
+    (p m k q : Page) (c : Pair) (left other : List ℕ) (same : Bool) → Prints (line_of left c.left) p m → Prints (line_of other c.right) m k → Prints (verdict_line same) k q
+    → Prints (judged_lines c same left other) p q
+judges p m k q c left other same a b v =
+    onward (line_of left c.left) (line_of other c.right ++ verdict_line same) p m q a (onward (line_of other c.right) (verdict_line same) m k q b v)
 
-pub bounds :
-    (p m k q : Page) (c : Pair) (left other : List ℕ) (same : Bool) → same ≡ within c → Prints (line_of left c.left) p m → Prints (line_of other c.right) m k
-    → Prints (verdict_line same) k q → Prints (bounded_lines c left other) p q
-bounds p m k q c left other same e a b v =
-    onward (line_of left c.left) (line_of other c.right ++ verdict_line (within c)) p m q a
-    (onward (line_of other c.right) (verdict_line (within c)) m k q b (subst (λ (x : Bool). Prints (verdict_line x) k q) e v))
+pub judged_by : (p q : Page) (c : Pair) (left other : List ℕ) (same right : Bool) → same ≡ right → Prints (judged_lines c same left other) p q → Prints (judged_lines c right left other) p q
+judged_by p q c left other same right e a = subst (λ (b : Bool). Prints (judged_lines c b left other) p q) e a
 
 -- ---- Rows
 

@@ -64,12 +64,16 @@ verdict_in same width = at_right (verdict_word same) width
 abbrev pub verdict_line : Bool → List Piece
 verdict_line same = verdict_in same wide ++ newline
 
--- the two figures of a comparison, and whether they are the same; whether the left one is at most the right one
+-- the two figures of a comparison, and a verdict
+abbrev pub judged_lines : Pair → Bool → (left other : List ℕ) → List Piece
+judged_lines p same left other = line_of left p.left ++ (line_of other p.right ++ verdict_line same)
+
+-- are they the same? Is the left one at most the right one?
 abbrev pub compared_lines : Pair → (left other : List ℕ) → List Piece
-compared_lines p left other = line_of left p.left ++ (line_of other p.right ++ verdict_line (agreed p))
+compared_lines p left other = judged_lines p (agreed p) left other
 
 abbrev pub bounded_lines : Pair → (left other : List ℕ) → List Piece
-bounded_lines p left other = line_of left p.left ++ (line_of other p.right ++ verdict_line (within p))
+bounded_lines p left other = judged_lines p (within p) left other
 
 -- ---- Tables: the rows 0 to n - 1
 

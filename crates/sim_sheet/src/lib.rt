@@ -3,7 +3,7 @@
 #![tactic(auto)]
 
 ghost use Rattle.std.specs.Prelude.{◌≡◌, ◌∷◌, [], min};
-ghost use Rattle.sim_sheet.specs.Sheet.{Prints, text, labelled, line_of, at_right, verdict_in, verdict_line, compared_lines, bounded_lines, four_of, three_of};
+ghost use Rattle.sim_sheet.specs.Sheet.{Prints, text, labelled, line_of, at_right, verdict_in, verdict_line, judged_lines, compared_lines, bounded_lines, four_of, three_of};
 
 use sim_comparison::Pair;
 use sim_figures::{Figures, MOST_TILLS};
@@ -67,22 +67,27 @@ pub fn verdict(page: &mut Printer, same: bool)
     say(page, b"\n");
 }
 
-// The two figures of a comparison, and whether they agree.
-pub fn compared(page: &mut Printer, p: Pair, left: &[u8], other: &[u8])
-    ensures { Prints (compared_lines p left.now other.now) page.old page.new }
+// The two figures of a comparison, and whether they are as they should be.
+fn judged(page: &mut Printer, p: Pair, same: bool, left: &[u8], other: &[u8])
+    ensures { Prints (judged_lines p same left.now other.now) page.old page.new }
 {
     line(page, left, p.left);
     line(page, other, p.right);
-    verdict(page, p.agrees());
+    verdict(page, same);
+}
+
+// Do the two agree?
+pub fn compared(page: &mut Printer, p: Pair, left: &[u8], other: &[u8])
+    ensures { Prints (compared_lines p left.now other.now) page.old page.new }
+{
+    judged(page, p, p.agrees(), left, other);
 }
 
 // The same where the left one may be less.
 pub fn bounded(page: &mut Printer, p: Pair, left: &[u8], other: &[u8])
     ensures { Prints (bounded_lines p left.now other.now) page.old page.new }
 {
-    line(page, left, p.left);
-    line(page, other, p.right);
-    verdict(page, p.is_within());
+    judged(page, p, p.is_within(), left, other);
 }
 
 // A row of four figures behind a name of four columns.

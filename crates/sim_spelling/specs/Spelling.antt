@@ -1,5 +1,6 @@
 -- What the words of a script's line stand for. A digit is a letter or a figure of the hexadecimal system, in either case.
-use Rattle.std.specs.Prelude.{ℕ, ◌+◌, ◌-◌, ◌*◌, ◌^◌, Bool, true, false, cond, ◌&&◌, List, [], ◌∷◌, length, take, drop, ◌==◌, nat_le, nat_lt, Option, Some, None, option_and_then}
+use Rattle.std.specs.Prelude.{ℕ, ◌+◌, ◌-◌, ◌*◌, ◌^◌, Bool, true, false, cond, ◌&&◌, List, [], ◌∷◌, length, take, drop, ◌==◌, nat_le, nat_lt, Option, Some, None, option_and_then, ◌||◌}
+use Rattle.std.specs.List.{filter, slice_split}
 
 -- the value of a digit
 unfoldable pub digit_of : ℕ → Option ℕ
@@ -32,9 +33,25 @@ bits_of s = cond (length s == 16) (number_of 16 s) None
 unfoldable pub part_of : List ℕ → ℕ → ℕ → List ℕ
 part_of s a e = cond (nat_le e (length s) && nat_le a e) (take (e - a) (drop a s)) []
 
--- are two texts alike?
-unfoldable pub same_text : List ℕ → List ℕ → Bool
-same_text [] [] = true
-same_text (a ∷ s) (b ∷ t) = a == b && same_text s t
-same_text [] (b ∷ t) = false
-same_text (a ∷ s) [] = false
+-- space, tab and carriage return
+unfoldable pub blank : ℕ → Bool
+blank b = b == 32 || b == 9 || b == 13
+
+-- is there a byte?
+abbrev pub has_bytes : List ℕ → Bool
+has_bytes [] = false
+has_bytes (b ∷ w) = true
+
+-- the words of a text: what stands between two blanks, where that is not empty
+unfoldable pub words_in : List ℕ → List (List ℕ)
+words_in s = filter has_bytes (slice_split blank s)
+
+-- a remark begins with `#` (35)
+abbrev pub remark : List ℕ → Bool
+remark [] = false
+remark (b ∷ w) = b == 35
+
+-- is a line of these words blank, or a remark?
+abbrev pub skipped : List (List ℕ) → Bool
+skipped [] = true
+skipped (w ∷ ws) = remark w

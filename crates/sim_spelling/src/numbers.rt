@@ -2,17 +2,11 @@
 ghost use Rattle.std.specs.Prelude.{◌≡◌, option_and_then};
 ghost use Rattle.sim_spelling.specs.Spelling.{digit_of, more_of, number_of, bits_of};
 
-const DECIMAL: u64 = 10;
-
-const HEXADECIMAL: u64 = 16;
-
 // Digits of the bits of a 64-bit number.
 const BITS: usize = 16;
 
-// The scope of a global entry, and one that no shard has.
+// The scope of a global entry; a shard's is its number, below, and no entry has one above. A number, as the engine's calls take it from C.
 const GLOBAL: u64 = 16;
-
-const NOWHERE: u64 = 17;
 
 // The value of a digit.
 #[tactic(auto, unfolding(crate::specs::Spelling::digit_of))]
@@ -39,6 +33,7 @@ fn more(v: u64, b: u8, base: u64) -> Option<u64>
     v.checked_mul(base)?.checked_add(d)
 }
 
+// The number that digits of a base stand for.
 #[tactic(auto, unfolding(crate::specs::Spelling::digits_of, crate::specs::Spelling::number_of))]
 fn of_base(s: &[u8], base: u64) -> Option<u64>
     ensures { result ≡ number_of base s.now }
@@ -53,16 +48,18 @@ fn of_base(s: &[u8], base: u64) -> Option<u64>
     Some(v)
 }
 
+// The number of decimal digits.
 pub fn decimal(s: &[u8]) -> Option<u64>
     ensures { result ≡ number_of 10 s.now }
 {
-    of_base(s, DECIMAL)
+    of_base(s, 10)
 }
 
+// The number of hexadecimal digits.
 pub fn hex(s: &[u8]) -> Option<u64>
     ensures { result ≡ number_of 16 s.now }
 {
-    of_base(s, HEXADECIMAL)
+    of_base(s, 16)
 }
 
 // The bits of a number, all 16 digits of them.
@@ -91,7 +88,7 @@ pub fn target(s: &[u8]) -> Option<u64> {
         b"g" => Some(GLOBAL),
         [b's', shard @ ..] => {
             let n = decimal(shard)?;
-            Some(if n < GLOBAL { n } else { NOWHERE })
+            Some(if n < GLOBAL { n } else { GLOBAL + 1 })
         }
         _ => None,
     }

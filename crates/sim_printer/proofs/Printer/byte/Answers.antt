@@ -1,4 +1,3 @@
-use Rattle.std.proofs.Common.{◌≡◌}
 use Rattle.sim_printer.proofs.Laws.{behind, first, nowhere}
 use Rattle.sim_printer.proofs.Printer.byte.Goals as goal
 
