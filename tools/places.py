@@ -259,11 +259,12 @@ POINTS = [("1a", point_1a), ("1b", point_1b), ("1c", point_1c), ("1d", point_1d)
           ("5a", point_5a), ("5b", point_5b), ("6a", point_6a), ("6b", point_6b), ("7", point_7), ("8", point_8)]
 
 
-def main(args):
+def show(points, args):
+    """prints how many places each point has, and with --list each place; points is a list of a key and what finds the places, lines from 0"""
     listed = "--list" in args
     tree = args[args.index("--tree") + 1] if "--tree" in args else os.path.dirname(os.path.dirname(os.path.realpath(__file__)))
     asked = [a for a in args if not a.startswith("--") and a != tree]
-    for key, places in POINTS:
+    for key, places in points:
         if asked and key not in asked:
             continue
         found = list(places(tree))
@@ -274,4 +275,4 @@ def main(args):
 
 
 if __name__ == "__main__":
-    main(sys.argv[1:])
+    show(POINTS, sys.argv[1:])

@@ -12,6 +12,8 @@ import os
 import re
 import sys
 
+from places import show
+
 INTEGER = ("u8", "u16", "u32", "u64", "usize", "i64", "u128")
 KEYWORDS = {"if", "else", "while", "loop", "for", "in", "let", "mut", "return", "match", "as", "true", "false", "fn", "self", "break"}
 
@@ -21,7 +23,7 @@ def words_of(text):
     found = []
     for m in re.finditer(r'//[^\n]*|"(?:[^"\\]|\\.)*"|[A-Za-z_]\w*|\d\w*|::|->|=>|==|!=|<=|>=|&&|\|\||[^\s\w]', text):
         if not m.group(0).startswith("//"):
-            found.append((m.group(0), text[: m.start()].count("\n") + 1))
+            found.append((m.group(0), text[: m.start()].count("\n")))
     return found
 
 
@@ -132,7 +134,7 @@ def point_1(tree):
         for m in re.finditer(r"(?:^(?:pub )?const (\w+): (?:u64|u8|u32) = (\d+);\n(?:\n|//.*\n)*){3,}", text, re.M):
             values = [int(v) for v in re.findall(r"= (\d+);", m.group(0))]
             if all(b - a == 1 for a, b in zip(values, values[1:])):
-                yield path, text[: m.start()].count("\n") + 1, "%d constants in a row" % len(values)
+                yield path, text[: m.start()].count("\n"), "%d constants in a row" % len(values)
 
 
 def shape(body):
@@ -235,25 +237,11 @@ def point_8(tree):
         if "/proofs" in folder and "/out/" not in folder:
             for name in sorted(files):
                 if name.endswith(".antt"):
-                    yield os.path.relpath(os.path.join(folder, name), os.path.join(tree, "crates")), 1, "a file"
+                    yield os.path.relpath(os.path.join(folder, name), os.path.join(tree, "crates")), 0, "a file"
 
 
-POINTS = {"1": point_1, "2": point_2, "3": point_3, "4": point_4, "5a": point_5a, "5b": point_5b, "6": point_6, "7": point_7, "8": point_8}
-
-
-def main(args):
-    listed = "--list" in args
-    tree = args[args.index("--tree") + 1] if "--tree" in args else os.path.dirname(os.path.dirname(os.path.realpath(__file__)))
-    asked = [a for a in args if a in POINTS]
-    for key, places in POINTS.items():
-        if asked and key not in asked:
-            continue
-        found = list(places(tree))
-        print("%-3s %5d  %s" % (key, len(found), places.__doc__))
-        if listed:
-            for path, line, what in found:
-                print("      %s:%d  %s" % (path, line, what))
+POINTS = [("1", point_1), ("2", point_2), ("3", point_3), ("4", point_4), ("5a", point_5a), ("5b", point_5b), ("6", point_6), ("7", point_7), ("8", point_8)]
 
 
 if __name__ == "__main__":
-    main(sys.argv[1:])
+    show(POINTS, sys.argv[1:])
