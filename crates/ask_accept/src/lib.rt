@@ -97,13 +97,13 @@ fn link_fresh(words: &[u64], from: u64, to: usize) -> bool
     words[from as usize * ask_tables::LINK_ROW + to] < ask_tables::MOST_WORDS
 }
 
-// Question 10, of one till: has it this id, or a free seen slot?
+// Question 10, of one till: has it a free seen slot, or this id? In this order, since few tills are full, and only a full one's marks need a search.
 // `to < tills` is what call_offer's marked asks for the place of the till's ids; the loop over the tills gives it, and a till as a type would be made there anew for each.
 fn slot_free(setup: &[u64], seen: &[u64], id: u64, to: usize) -> bool
     requires { (length setup.now ≡ setup_width) × SeenHeld (sizes_at setup.now) seen.now × (to < (sizes_at setup.now).tills) }
     ensures { result ≡ slot_at setup.now seen.now id to }
 {
-    call_offer::marked(setup, seen, to, id) || seen[to] < setup[ask_tables::SEEN_SLOTS]
+    seen[to] < setup[ask_tables::SEEN_SLOTS] || call_offer::marked(setup, seen, to, id)
 }
 
 // Does every selected till pass the test?

@@ -13,12 +13,13 @@ pub fn clear(s: &mut [u64], n: usize)
     s[0..n].fill(0);
 }
 
-// The word counts of the 64 by 64 ordered pairs of tills.
+// The word counts of the 64 by 64 ordered pairs of tills: the array of 4,096 that the scope names.
 pub fn clear_words(words: &mut [u64])
     requires { length words.old ≡ links }
     ensures { words.new ≡ replicate links 0 }
 {
-    words.fill(0);
+    let zeros = [0u64; 4096];
+    words.copy_from_slice(&zeros);
 }
 
 // All tills up, a mask of shards for each.

@@ -49,6 +49,15 @@ blocks_added ws n e r z =
     let h = block_room n z in
     ap (λ (l : List ℕ). blocks_of l (n + 1)) (sym (yes _ _ _ _ (lt-ltb n block_slots h) refl)) ∙ rows_snoc block_width first_block alone ws (words e) n refl (omega (arith, h))
 
+-- a refusal leaves the table as found
+full : (ws : List ℕ) (n : ℕ) (e : BlockWindow) (b : Bool) → ltb n block_slots ≡ b → (◌≡◌ {A = ℕ} (cond b 0 12) 0 → ⊥) → ws ≡ cond b (put_at ws (n * block_width) e) ws
+full ws n e true q h = absurd (h refl)
+full ws n e false q h = refl
+
+pub block_refused : (ws : List ℕ) (n : ℕ) (e : BlockWindow) → (block_number n ≡ 0 → ⊥) → ws ≡ block_table ws n e
+unfolding block_table block_number
+block_refused ws n e h = full ws n e (ltb n block_slots) refl h
+
 -- every window of the pair is gone, the others stay in order
 pub blocks_unblocked : (from to : ℕ) (ws : List ℕ) (n : ℕ) → blocks_of (unblock_table from to ws n) (open_count from to ws n) ≡ unblocked from to (blocks_of ws n)
 unfolding unblock_table open_count

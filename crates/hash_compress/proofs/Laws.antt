@@ -2,33 +2,31 @@
 use Prim.Native.Nat.{ℕ, suc, ◌+◌, ◌-◌, ◌<◌, ◌≤◌}
 use native.Mathlib.Omega.{arith}
 use Rattle.std.specs.Prelude.{◌%◌, ◌^◌, bit_xor}
-use Rattle.std.specs.Int.{w32, rotate_right}
-use Rattle.math_word.specs.Word.{add32, xor32}
-use Rattle.math_word.proofs.Laws.{rotr_is}
+use Rattle.math_word.specs.Word.{add32, xor32, rotr32}
 use mathlib.Core.Path.{◌≡◌, refl, ap, ap₂, sym, ◌∙◌}
 use mathlib.Core.List.{List, [], ◌∷◌}
 use lib.ListN.{length}
 use Rattle.math_word.specs.declared.Quad.{Quad}
 use Rattle.hash_compress.specs.Compress.{half_of, mix_of, put_quad, mix_at, columns, diagonals, permuted, round_of, rounds, folded, compressed}
 
--- half of G, by std's rotation
-half_made : (q : Quad) (m s t : ℕ) {d b : ℕ} → 0 < s → s < 32 → 0 < t → t < 32
-    → d ≡ rotate_right w32 (bit_xor q.d (((q.a + q.b) % 2 ^ 32 + m) % 2 ^ 32)) s → b ≡ rotate_right w32 (bit_xor q.b ((q.c + d) % 2 ^ 32)) t
+-- half of G
+half_made : (q : Quad) (m s t : ℕ) {d b : ℕ}
+    → d ≡ rotr32 (bit_xor q.d (((q.a + q.b) % 2 ^ 32 + m) % 2 ^ 32)) s → b ≡ rotr32 (bit_xor q.b ((q.c + d) % 2 ^ 32)) t
     → ◌≡◌ {A = Quad} (record { a = ((q.a + q.b) % 2 ^ 32 + m) % 2 ^ 32; b = b; c = (q.c + d) % 2 ^ 32; d = d }) (half_of q m s t)
 unfolding half_of add32 xor32
-half_made q m s t h0 h1 k0 k1 p r = cc (rotr_is _ s h0 h1, rotr_is _ t k0 k1)
+half_made q m s t p r = cc (p, r)
 
 -- G
 pub mix_made : (a b c d x y : ℕ) {d1 b1 d2 b2 : ℕ}
-    → d1 ≡ rotate_right w32 (bit_xor d (((a + b) % 2 ^ 32 + x) % 2 ^ 32)) 16 → b1 ≡ rotate_right w32 (bit_xor b ((c + d1) % 2 ^ 32)) 12
-    → d2 ≡ rotate_right w32 (bit_xor d1 (((((a + b) % 2 ^ 32 + x) % 2 ^ 32 + b1) % 2 ^ 32 + y) % 2 ^ 32)) 8
-    → b2 ≡ rotate_right w32 (bit_xor b1 (((c + d1) % 2 ^ 32 + d2) % 2 ^ 32)) 7
+    → d1 ≡ rotr32 (bit_xor d (((a + b) % 2 ^ 32 + x) % 2 ^ 32)) 16 → b1 ≡ rotr32 (bit_xor b ((c + d1) % 2 ^ 32)) 12
+    → d2 ≡ rotr32 (bit_xor d1 (((((a + b) % 2 ^ 32 + x) % 2 ^ 32 + b1) % 2 ^ 32 + y) % 2 ^ 32)) 8
+    → b2 ≡ rotr32 (bit_xor b1 (((c + d1) % 2 ^ 32 + d2) % 2 ^ 32)) 7
     → ◌≡◌ {A = Quad} (record { a = ((((a + b) % 2 ^ 32 + x) % 2 ^ 32 + b1) % 2 ^ 32 + y) % 2 ^ 32; b = b2; c = ((c + d1) % 2 ^ 32 + d2) % 2 ^ 32; d = d2 })
     (mix_of (record { a = a; b = b; c = c; d = d }) x y)
 unfolding mix_of
 mix_made a b c d x y p0 p1 p2 p3 =
-    let first = half_made (record { a = a; b = b; c = c; d = d }) x 16 12 (omega arith) (omega arith) (omega arith) (omega arith) p0 p1 in
-    half_made _ y 8 7 (omega arith) (omega arith) (omega arith) (omega arith) p2 p3 ∙ ap (λ q. half_of q y 8 7) first
+    let first = half_made (record { a = a; b = b; c = c; d = d }) x 16 12 p0 p1 in
+    half_made _ y 8 7 p2 p3 ∙ ap (λ q. half_of q y 8 7) first
 
 -- the state after the four diagonals, in its order
 unfoldable pub laid : Quad → Quad → Quad → Quad → List ℕ

@@ -6,7 +6,7 @@ ghost use Rattle.std.specs.Prelude.{◌≡◌};
 ghost use Rattle.hash_compress.specs.Compress.{mix_of, round_of, permuted, rounds, initial, folded, compressed};
 ghost use Rattle.math_word.specs.Words.{list_of};
 
-use math_word::{Quad, Words};
+use math_word::{Quad, Words, rotr};
 
 // The initial chaining value.
 pub const IV: [u32; 8] = [
@@ -18,13 +18,13 @@ fn mix(a: u32, b: u32, c: u32, d: u32, x: u32, y: u32) -> Quad
     ensures { result ≡ mix_of (record { a = a; b = b; c = c; d = d }) x y }
 {
     let a = a.wrapping_add(b).wrapping_add(x);
-    let d = (d ^ a).rotate_right(16);
+    let d = rotr(d ^ a, 16);
     let c = c.wrapping_add(d);
-    let b = (b ^ c).rotate_right(12);
+    let b = rotr(b ^ c, 12);
     let a = a.wrapping_add(b).wrapping_add(y);
-    let d = (d ^ a).rotate_right(8);
+    let d = rotr(d ^ a, 8);
     let c = c.wrapping_add(d);
-    let b = (b ^ c).rotate_right(7);
+    let b = rotr(b ^ c, 7);
     Quad { a, b, c, d }
 }
 

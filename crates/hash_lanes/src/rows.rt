@@ -3,7 +3,7 @@ ghost use Rattle.std.specs.Prelude.{◌≡◌, ◌<◌};
 ghost use Rattle.math_word.specs.Words.{list_of};
 ghost use Rattle.hash_lanes.specs.Rows.{sums_of, rotated_of, half_rows, diagonals_of, columns_of, flat};
 
-use math_word::{Quad, Words};
+use math_word::{Quad, Words, rotr};
 
 // The rows of a state: words 0 to 3, 4 to 7, 8 to 11, 12 to 15.
 #[derive(Clone, Copy)]
@@ -32,10 +32,10 @@ fn rotated(x: Quad, y: Quad, n: u32) -> Quad
     ensures { result ≡ rotated_of x y n }
 {
     Quad {
-        a: (x.a ^ y.a).rotate_right(n),
-        b: (x.b ^ y.b).rotate_right(n),
-        c: (x.c ^ y.c).rotate_right(n),
-        d: (x.d ^ y.d).rotate_right(n),
+        a: rotr(x.a ^ y.a, n),
+        b: rotr(x.b ^ y.b, n),
+        c: rotr(x.c ^ y.c, n),
+        d: rotr(x.d ^ y.d, n),
     }
 }
 

@@ -50,6 +50,10 @@ module _ (key : List ℕ) (count n : ℕ) (f rate : Float) (t : ℕ) (A : Admitt
           most : (p : ℕ) → p ≤ 180 * second → p ≤ longest
           most p h = omega arith
 
+  -- so a delivery time fits 64 bits
+  pub delivery_fits : (at : ℕ) → at ≤ 2 ^ 60 → at + latency_at key count n f rate t < 2 ^ 64
+  delivery_fits at h = omega (arith, latency_limits.1)
+
 pub latency_words_most : (key : List ℕ) (count n : ℕ) (f rate : Float) → latency_words key count n f rate ≤ 6
 unfolding latency_words
 latency_words_most key count n f rate = go (jitter_words (seconds n) f) (hit_words rate) (hits_at key (spike_count count n f) rate) (jitter_most (seconds n) f) (hit_most rate)

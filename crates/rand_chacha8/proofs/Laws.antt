@@ -1,9 +1,7 @@
 -- Laws of a double round, and of the loop over the rounds.
 use Prim.Native.Nat.{ℕ, ◌+◌, ◌/◌, ◌%◌, ◌<◌, ◌≤◌}
 use Rattle.std.specs.Prelude.{◌^◌, bit_xor}
-use Rattle.std.specs.Int.{w32, rotate_left}
-use Rattle.math_word.specs.Word.{add32, xor32}
-use Rattle.math_word.proofs.Laws.{rotl_is}
+use Rattle.math_word.specs.Word.{add32, xor32, rotl32}
 use mathlib.Core.Path.{◌≡◌, refl, ap, ap₂, sym, ◌∙◌}
 use mathlib.Core.List.{List, [], ◌∷◌}
 use lib.ListN.{get_or}
@@ -12,22 +10,22 @@ use native.Mathlib.Numerals.{add-one}
 use Rattle.math_word.specs.declared.Quad.{Quad}
 use Rattle.rand_chacha8.specs.Chacha.{half_of, quarter_of, put_quad, quarter_at, columns, diagonals, double_rounds, initial, sums, block_of, word_at}
 
--- half of a quarter-round, by std's rotation
-half_made : (q : Quad) (s t : ℕ) {d b : ℕ} → 0 < s → s < 32 → 0 < t → t < 32
-    → d ≡ rotate_left w32 (bit_xor q.d ((q.a + q.b) % 2 ^ 32)) s → b ≡ rotate_left w32 (bit_xor q.b ((q.c + d) % 2 ^ 32)) t
+-- half of a quarter-round
+half_made : (q : Quad) (s t : ℕ) {d b : ℕ}
+    → d ≡ rotl32 (bit_xor q.d ((q.a + q.b) % 2 ^ 32)) s → b ≡ rotl32 (bit_xor q.b ((q.c + d) % 2 ^ 32)) t
     → ◌≡◌ {A = Quad} (record { a = (q.a + q.b) % 2 ^ 32; b = b; c = (q.c + d) % 2 ^ 32; d = d }) (half_of q s t)
 unfolding half_of add32 xor32
-half_made q s t h0 h1 k0 k1 p r = cc (rotl_is _ s h0 h1, rotl_is _ t k0 k1)
+half_made q s t p r = cc (p, r)
 
 -- a quarter-round
 pub quarter_made : (a b c d : ℕ) {d1 b1 d2 b2 : ℕ}
-    → d1 ≡ rotate_left w32 (bit_xor d ((a + b) % 2 ^ 32)) 16 → b1 ≡ rotate_left w32 (bit_xor b ((c + d1) % 2 ^ 32)) 12
-    → d2 ≡ rotate_left w32 (bit_xor d1 (((a + b) % 2 ^ 32 + b1) % 2 ^ 32)) 8 → b2 ≡ rotate_left w32 (bit_xor b1 (((c + d1) % 2 ^ 32 + d2) % 2 ^ 32)) 7
+    → d1 ≡ rotl32 (bit_xor d ((a + b) % 2 ^ 32)) 16 → b1 ≡ rotl32 (bit_xor b ((c + d1) % 2 ^ 32)) 12
+    → d2 ≡ rotl32 (bit_xor d1 (((a + b) % 2 ^ 32 + b1) % 2 ^ 32)) 8 → b2 ≡ rotl32 (bit_xor b1 (((c + d1) % 2 ^ 32 + d2) % 2 ^ 32)) 7
     → ◌≡◌ {A = Quad} (record { a = ((a + b) % 2 ^ 32 + b1) % 2 ^ 32; b = b2; c = ((c + d1) % 2 ^ 32 + d2) % 2 ^ 32; d = d2 }) (quarter_of (record { a = a; b = b; c = c; d = d }))
 unfolding quarter_of
 quarter_made a b c d p0 p1 p2 p3 =
-    let first = half_made (record { a = a; b = b; c = c; d = d }) 16 12 (omega arith) (omega arith) (omega arith) (omega arith) p0 p1 in
-    half_made _ 8 7 (omega arith) (omega arith) (omega arith) (omega arith) p2 p3 ∙ ap (λ q. half_of q 8 7) first
+    let first = half_made (record { a = a; b = b; c = c; d = d }) 16 12 p0 p1 in
+    half_made _ 8 7 p2 p3 ∙ ap (λ q. half_of q 8 7) first
 
 -- the matrix after the four diagonals, in its order
 unfoldable pub laid : Quad → Quad → Quad → Quad → List ℕ

@@ -6,20 +6,20 @@ ghost use Rattle.std.specs.Prelude.{◌≡◌, ◌/◌, ◌%◌};
 ghost use Rattle.rand_chacha8.specs.Chacha.{quarter_of, columns, diagonals, double_rounds, initial, sums, block_of, word_at};
 ghost use Rattle.math_word.specs.Words.{list_of};
 
-use math_word::{Quad, Words, low_half};
+use math_word::{Quad, Words, low_half, rotl};
 
 // The quarter-round, its two halves written out as the paper has them: a half with its turns as parameters would ask `0 < n` and `n < 32` of each.
 fn quarter(a: u32, b: u32, c: u32, d: u32) -> Quad
     ensures { result ≡ quarter_of (record { a = a; b = b; c = c; d = d }) }
 {
     let a = a.wrapping_add(b);
-    let d = (d ^ a).rotate_left(16);
+    let d = rotl(d ^ a, 16);
     let c = c.wrapping_add(d);
-    let b = (b ^ c).rotate_left(12);
+    let b = rotl(b ^ c, 12);
     let a = a.wrapping_add(b);
-    let d = (d ^ a).rotate_left(8);
+    let d = rotl(d ^ a, 8);
     let c = c.wrapping_add(d);
-    let b = (b ^ c).rotate_left(7);
+    let b = rotl(b ^ c, 7);
     Quad { a, b, c, d }
 }
 

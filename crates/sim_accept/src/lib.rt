@@ -48,6 +48,9 @@ fn id_in(names: &[u8], kind: usize, scope: usize, wire: &[u8]) -> Option<u64> {
     Some(call_message::id_of(names, kind, scope, wire))
 }
 
+// Digits of an id.
+const ID: usize = 16;
+
 // The five counts, the id, and the network's own counts.
 fn accepted(page: &mut Printer, counts: Counts, id: u64, net: &[u64]) -> Outcome
     ensures { result ≡ Accepted (five_of counts) }
@@ -59,11 +62,15 @@ fn accepted(page: &mut Printer, counts: Counts, id: u64, net: &[u64]) -> Outcome
         loss,
         fault,
     } = counts;
-    page.print(format_args!("accept sent={sent} dedup={deduplicated}"));
-    page.print(format_args!(" partition={partition} loss={loss} fault={fault}"));
-    let sequence = cell(net, ask_tables::SEQUENCE);
-    let waiting = cell(net, ask_tables::WAITING);
-    page.print(format_args!(" id={id:016x} sequence={sequence} waiting={waiting}\n"));
+    page.labelled(b"accept sent=", sent);
+    page.labelled(b" dedup=", deduplicated);
+    page.labelled(b" partition=", partition);
+    page.labelled(b" loss=", loss);
+    page.labelled(b" fault=", fault);
+    page.text(b" id=");
+    page.hex(id, ID);
+    page.labelled(b" sequence=", cell(net, ask_tables::SEQUENCE));
+    page.ended(b" waiting=", cell(net, ask_tables::WAITING));
     Outcome::Accepted(Five {
         sent,
         deduplicated,

@@ -5,6 +5,6 @@ mod plain;
 mod rows_text;
 mod tables;
 
-pub use plain::{Hexes, bad, ids};
+pub use plain::{bad, hexes, ids};
 pub use rows_text::{copies, flushed, records};
 pub use tables::{blocks, rings, rules, tills, words};

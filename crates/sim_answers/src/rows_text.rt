@@ -1,6 +1,6 @@
 // Copies, rows and records, field by field.
+use crate::plain::id;
 use sim_printer::Printer;
-use std::fmt;
 use table_delivery::Delivery;
 use table_rows::Row;
 use table_waiting::Copy;
@@ -10,91 +10,68 @@ const GOSSIP: usize = table_waiting::WIDTH;
 
 const HOST: usize = table_waiting::WIDTH + 1;
 
-// A shard, or `-` for global.
-#[derive(Drop)]
-pub struct Scope(pub u64);
-
-impl fmt::Display for Scope {
-    fn fmt<W: fmt::Write>(&self, f: &mut fmt::Formatter<W>) -> fmt::Result {
-        let shard = self.0;
-        if shard == ask_tables::GLOBAL {
-            return f.write_str("-");
-        }
-        write!(f, "{shard}")
+// A space, and a shard or `-` for global.
+pub fn scope(page: &mut Printer, scope: u64) {
+    if scope == ask_tables::GLOBAL {
+        page.text(b" -");
+        return;
     }
+    page.labelled(b" ", scope);
 }
 
 // The eight fields of a delivery, a space before each.
-#[derive(Drop)]
-struct Eight(Delivery);
-
-impl fmt::Display for Eight {
-    fn fmt<W: fmt::Write>(&self, f: &mut fmt::Formatter<W>) -> fmt::Result {
-        let Delivery {
-            from,
-            to,
-            kind,
-            class,
-            sent,
-            time,
-            scope,
-            wire,
-        } = self.0;
-        let scope = Scope(scope);
-        write!(
-            f,
-            " {from} {to} {kind} {class} {sent} {time} {scope} {wire}"
-        )
+fn eight(page: &mut Printer, delivery: Delivery) {
+    let Delivery {
+        from,
+        to,
+        kind,
+        class,
+        sent,
+        time,
+        wire,
+        ..
+    } = delivery;
+    for n in [from, to, kind, class, sent, time] {
+        page.labelled(b" ", n);
     }
+    scope(page, delivery.scope);
+    page.labelled(b" ", wire);
 }
 
-// The id of an original, or `-`.
-#[derive(Drop)]
-struct Identity(Copy);
-
-impl fmt::Display for Identity {
-    fn fmt<W: fmt::Write>(&self, f: &mut fmt::Formatter<W>) -> fmt::Result {
-        let Copy { original, id, .. } = self.0;
-        if original == 0 {
-            return f.write_str("-");
-        }
-        write!(f, "{id:016x}")
+// A space, and the id of an original or `-`.
+fn identity(page: &mut Printer, copy: Copy) {
+    if copy.original == 0 {
+        page.text(b" -");
+        return;
     }
+    id(page, copy.id);
 }
 
 // The eleven fields of a copy.
-#[derive(Drop)]
-struct Eleven(Copy);
-
-impl fmt::Display for Eleven {
-    fn fmt<W: fmt::Write>(&self, f: &mut fmt::Formatter<W>) -> fmt::Result {
-        let Copy {
-            delivery,
-            sequence,
-            tag,
-            ..
-        } = self.0;
-        let delivery = Eight(delivery);
-        let identity = Identity(self.0);
-        write!(f, "{delivery} {sequence} {identity} {tag}")
-    }
+fn eleven(page: &mut Printer, copy: Copy) {
+    eight(page, copy.delivery);
+    page.labelled(b" ", copy.sequence);
+    identity(page, copy);
+    page.labelled(b" ", copy.tag);
 }
 
 // Waiting copies, a line each.
 pub fn copies(page: &mut Printer, rows: &[u64]) {
     let (rows, _) = rows.as_chunks::<{ table_waiting::WIDTH }>();
     for row in rows {
-        let copy = Eleven(Copy::get(row, 0));
-        page.print(format_args!("copy{copy}\n"));
+        page.text(b"copy");
+        eleven(page, Copy::get(row, 0));
+        page.text(b"\n");
     }
 }
 
-// Records of the log, a line each. Not one function with `copies`: it would take the width, the Row and the Display of a line as parameters for four lines.
+// Records of the log, a line each. Not one function with `copies`: it would take the width, the Row and the fields of a line as parameters for five lines.
 pub fn records(page: &mut Printer, rows: &[u64]) {
     let (rows, _) = rows.as_chunks::<{ table_delivery::WIDTH }>();
     for row in rows {
-        let record = Eight(Delivery::get(row, 0));
-        page.print(format_args!("record{record}\n"));
+        page.text(b"record");
+        eight(page, Delivery::get(row, 0));
+        page.text(b"\n");
     }
 }
 
@@ -113,15 +90,18 @@ fn takers(row: &FlushRow) -> &'static str {
 
 // A row that was handed out, with its takers.
 fn row_line(page: &mut Printer, row: &FlushRow) {
-    let copy = Eleven(Copy::get(row, 0));
-    let takers = takers(row);
-    page.print(format_args!("row{copy} {takers}\n"));
+    page.text(b"row");
+    eleven(page, Copy::get(row, 0));
+    page.text(b" ");
+    page.text(takers(row).as_bytes());
+    page.text(b"\n");
 }
 
 // A copy that was dropped.
 fn drop_line(page: &mut Printer, copy: Copy) {
-    let copy = Eleven(copy);
-    page.print(format_args!("drop{copy}\n"));
+    page.text(b"drop");
+    eleven(page, copy);
+    page.text(b"\n");
 }
 
 // The due copies in flush order; the rows stand in `out`, in that order too. A copy without a row was dropped.

@@ -2,12 +2,21 @@
 ghost use Rattle.std.specs.Prelude.{◌+◌, ◌*◌, ◌≤◌, length};
 ghost use Rattle.table_rings.specs.Rings.{head_width, span};
 
-use crate::rows_text::Scope;
+use crate::rows_text::scope;
 use ask_tables::Till;
 use fault_blocks::BlockWindow;
 use fault_rules::FaultRule;
 use sim_printer::Printer;
 use table_rows::Row;
+
+// Digits of a mask.
+const MASK: usize = 4;
+
+// A stroke and a mask.
+fn mask(page: &mut Printer, mask: u64) {
+    page.text(b"/");
+    page.hex(mask, MASK);
+}
 
 // The tills on a line.
 pub fn tills(page: &mut Printer, tills: &[u64]) {
@@ -20,7 +29,10 @@ pub fn tills(page: &mut Printer, tills: &[u64]) {
             host,
             shards,
         } = Till::get(row, 0);
-        page.print(format_args!(" {up}/{shards:04x}/{gossip:04x}/{host:04x}"));
+        page.labelled(b" ", up);
+        mask(page, shards);
+        mask(page, gossip);
+        mask(page, host);
     }
     page.text(b"\n");
 }
@@ -28,11 +40,11 @@ pub fn tills(page: &mut Printer, tills: &[u64]) {
 // The rules on a line: id and fired count.
 pub fn rules(page: &mut Printer, rules: &[u64]) {
     let (rows, _) = rules.as_chunks::<{ fault_rules::WIDTH }>();
-    let n = rows.len();
-    page.print(format_args!("rules {n}"));
+    page.labelled(b"rules ", rows.len() as u64);
     for row in rows {
         let FaultRule { id, fired, .. } = FaultRule::get(row, 0);
-        page.print(format_args!(" {id}:{fired}"));
+        page.labelled(b" ", id);
+        page.labelled(b":", fired);
     }
     page.text(b"\n");
 }
@@ -64,19 +76,20 @@ fn edges(windows: &[Window]) -> usize {
 // How many pairs of tills the windows have, and how many windows there are.
 pub fn blocks(page: &mut Printer, blocks: &[u64]) {
     let (windows, _) = blocks.as_chunks::<{ fault_blocks::WIDTH }>();
-    let edges = edges(windows);
-    let n = windows.len();
-    page.print(format_args!("blocks edges={edges} windows={n}\n"));
+    page.labelled(b"blocks edges=", edges(windows) as u64);
+    page.ended(b" windows=", windows.len() as u64);
 }
 
 // The word count of the fault stream, and those of the links that have some.
 pub fn words(page: &mut Printer, words: &[u64], fault: u64) {
-    page.print(format_args!("words fault={fault}\n"));
+    page.ended(b"words fault=", fault);
     for (i, n) in words.iter().enumerate() {
         if *n != 0 {
             let from = i / ask_tables::LINK_ROW;
             let to = i % ask_tables::LINK_ROW;
-            page.print(format_args!("word {from} {to} {n}\n"));
+            page.labelled(b"word ", from as u64);
+            page.labelled(b" ", to as u64);
+            page.ended(b" ", *n);
         }
     }
 }
@@ -103,10 +116,9 @@ fn entry(page: &mut Printer, rings: &[u64], r: usize, k: usize) {
     let n = rings_in(rings);
     if r < n {
         let e = table_rings::get(rings, n, r, k);
-        let class = e.class;
-        let wire = e.wire;
-        let tag = e.tag;
-        page.print(format_args!(" {class}/{wire}/{tag}"));
+        page.labelled(b" ", e.class);
+        page.labelled(b"/", e.wire);
+        page.labelled(b"/", e.tag);
     }
 }
 
@@ -116,9 +128,9 @@ fn ring(page: &mut Printer, rings: &[u64], r: usize) {
     if n == 0 {
         return;
     }
-    let kind = r / table_rings::SCOPES;
-    let scope = Scope((r % table_rings::SCOPES) as u64);
-    page.print(format_args!("ring {kind} {scope} {n}"));
+    page.labelled(b"ring ", (r / table_rings::SCOPES) as u64);
+    scope(page, (r % table_rings::SCOPES) as u64);
+    page.labelled(b" ", n);
     for k in 0..n {
         entry(page, rings, r, k as usize);
     }
@@ -142,8 +154,7 @@ fn kept(rings: &[u64]) -> usize {
 
 // The rings that are not empty, by type, global before the shards.
 pub fn rings(page: &mut Printer, rings: &[u64], types: usize) {
-    let kept = kept(rings);
-    page.print(format_args!("rings {kept}\n"));
+    page.ended(b"rings ", kept(rings) as u64);
     for i in 0..types {
         rings_of_type(page, rings, i.wrapping_mul(table_rings::SCOPES));
     }

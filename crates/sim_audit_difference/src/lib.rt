@@ -101,7 +101,10 @@ fn words(page: &mut Printer, recorded: &[u8], book: &[u8]) {
     let mut shown = 0;
     for k in 0..recorded.len().max(book.len()) {
         let (a, b) = (told.next(), own.next());
-        if a != b && shown < WORDS {
+        if WORDS <= shown || (a.is_none() && b.is_none()) {
+            return;
+        }
+        if a != b {
             beside(page, book, a, b, k);
             shown += 1;
         }

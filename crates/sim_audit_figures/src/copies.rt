@@ -14,8 +14,13 @@ pub(crate) struct CopyTold {
     pub(crate) is_original: bool,
 }
 
+// Is the copy an original? An echo has a dash for an id.
+pub(crate) fn is_original(line: &[u8]) -> bool {
+    !matches!(word_at(line, 10), b"-")
+}
+
 impl CopyTold {
-    // The copy that a line tells of. An echo has a dash for an id.
+    // The copy that a line tells of.
     pub(crate) fn of(line: &[u8]) -> CopyTold {
         CopyTold {
             from: field(line, 1),
@@ -24,7 +29,7 @@ impl CopyTold {
             delivered: field(line, 6),
             bytes: field(line, 8),
             sequence: field(line, 9),
-            is_original: !matches!(word_at(line, 10), b"-"),
+            is_original: is_original(line),
         }
     }
 }

@@ -1,7 +1,7 @@
 // The figures of one side: of the recorded answers, or of the book's. They wrap.
 ghost use Rattle.std.specs.Prelude.{◌≡◌, ◌-◌, min};
 
-use crate::copies::{CopyTold, recipients_of};
+use crate::copies::{CopyTold, is_original, recipients_of};
 use crate::numbers::{behind_sign, field, value, word_at};
 use sim_figures::{Five, Kinds, Said, Tally};
 
@@ -167,9 +167,7 @@ impl Side {
             b"drop" => self.dropped(CopyTold::of(line)),
             b"accept" => self.accepted(line, first),
             b"flush" => self.flushed(line, first),
-            b"copy" => self
-                .waiting
-                .count(u64::from(CopyTold::of(line).is_original)),
+            b"copy" => self.waiting.count(u64::from(is_original(line))),
             b"seen" => self.marks = self.marks.wrapping_add(field(line, 2)),
             b"transit" => self.transit = self.transit.wrapping_add(field(line, 1)),
             b"drain" => self.drained(line),

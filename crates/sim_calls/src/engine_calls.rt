@@ -22,7 +22,9 @@ fn decided(page: &mut Printer, answer: Result<bool, Refusal>, words: u64) -> Out
     match answer {
         Ok(drops) => {
             let said = if drops { "drop" } else { "pass" };
-            page.print(format_args!("decide {said} words={words}\n"));
+            page.text(b"decide ");
+            page.text(said.as_bytes());
+            page.ended(b" words=", words);
             Outcome::Done
         }
         Err(refusal) => refused(page, b"decide", refusal),

@@ -23,7 +23,8 @@ fn next(page: &mut Printer, answer: Result<Option<u64>, Refusal>) -> Outcome {
 
 // The marks of a till.
 fn marks(page: &mut Printer, t: u64, marks: &[u64]) -> Outcome {
-    page.print(format_args!("seen {t} {}", marks.len()));
+    page.labelled(b"seen ", t);
+    page.labelled(b" ", marks.len() as u64);
     sim_answers::ids(page, marks);
     page.text(b"\n");
     Outcome::Done
@@ -54,7 +55,7 @@ fn waiting_list(
 ) -> Outcome {
     match call_waiting::waiting_copies(setup, net, waiting, out) {
         Ok(n) => {
-            page.print(format_args!("waiting {n}\n"));
+            page.ended(b"waiting ", n);
             sim_answers::copies(page, rows(out, table_waiting::WIDTH, n));
             Outcome::Done
         }

@@ -38,10 +38,9 @@ fn flushed(page: &mut Printer, moved: Moved, due: &[u64], out: &[u64]) -> Outcom
         delivered: moved.delivered as u64,
         dropped: moved.dropped as u64,
     };
-    page.print(format_args!(
-        "flush delivered={} dropped={} rows={}\n",
-        said.delivered, said.dropped, said.rows
-    ));
+    page.labelled(b"flush delivered=", said.delivered);
+    page.labelled(b" dropped=", said.dropped);
+    page.ended(b" rows=", said.rows);
     sim_answers::flushed(page, due, rows(out, call_flush_pass::ROW, said.rows));
     Outcome::Flushed {
         said,
@@ -85,7 +84,8 @@ pub fn flush(network: Network<'_>, flush: Flush, due: &mut [u64], page: &mut Pri
 fn tally_list(page: &mut Printer, tallies: &[u64; call_log::TALLY_CELLS]) {
     for (i, tally) in tallies.chunks_exact(2).enumerate() {
         let comma = if i == 0 { "" } else { "," };
-        page.print(format_args!("{comma}{}:{}", cell(tally, 0), cell(tally, 1)));
+        page.labelled(comma.as_bytes(), cell(tally, 0));
+        page.labelled(b":", cell(tally, 1));
     }
 }
 
@@ -94,10 +94,9 @@ fn drained(page: &mut Printer, emptied: Emptied, out: &[u64]) -> Outcome
     ensures { result ≡ Done }
 {
     let records = emptied.records;
-    page.print(format_args!(
-        "drain records={records} dropped={} tallies=",
-        emptied.forced
-    ));
+    page.labelled(b"drain records=", records);
+    page.labelled(b" dropped=", emptied.forced);
+    page.text(b" tallies=");
     tally_list(page, &emptied.tallies);
     page.text(b"\n");
     sim_answers::records(page, rows(out, table_delivery::WIDTH, records));

@@ -5,7 +5,7 @@ ghost use Rattle.math_time.specs.Seconds.{InRange};
 use ask_refusal::Refusal;
 use math_time::Time;
 use rand_streams::Cursor;
-use sim_answers::Hexes;
+use sim_answers::hexes;
 use sim_outcome::{Outcome, refused};
 use sim_printer::Printer;
 use sim_script::{Draw, Draws, Seconds};
@@ -67,12 +67,18 @@ fn draw(what: Draw, c: &mut Cursor) -> u64 {
     }
 }
 
-// Hexadecimal but for whole numbers.
+// Digits of 32 and of 64 bits.
+const WORD: usize = 8;
+
+const LONG: usize = 16;
+
+// A space and a value: hexadecimal but for whole numbers.
 fn shown(page: &mut Printer, what: Draw, value: u64) {
+    page.text(b" ");
     match what {
-        Draw::Word => page.print(format_args!(" {value:08x}")),
-        Draw::Whole { .. } | Draw::Index { .. } => page.print(format_args!(" {value}")),
-        _ => page.print(format_args!(" {value:016x}")),
+        Draw::Word => page.hex(value, WORD),
+        Draw::Whole { .. } | Draw::Index { .. } => page.decimal(value),
+        _ => page.hex(value, LONG),
     }
 }
 
@@ -107,15 +113,14 @@ pub fn draws(call: Draws, page: &mut Printer) -> Outcome {
     if ask_tables::MOST_WORDS <= call.count {
         return refused(page, b"draw", Refusal::Words);
     }
-    let name = name(what);
-    page.print(format_args!("draw {name}"));
+    page.text(b"draw ");
+    page.text(name(what).as_bytes());
     let mut c = Cursor::at(call.key, call.count);
     for _ in 0..call.times {
         let value = draw(what, &mut c);
         shown(page, what, value);
     }
-    let count = c.count;
-    page.print(format_args!(" words={count}\n"));
+    page.ended(b" words=", c.count);
     Outcome::Done
 }
 
@@ -123,7 +128,9 @@ pub fn draws(call: Draws, page: &mut Printer) -> Outcome {
 pub fn digest(input: &[u8], page: &mut Printer) -> Outcome {
     match hash_digest::digest(input) {
         Ok(words) => {
-            page.print(format_args!("digest {}\n", Hexes(words)));
+            page.text(b"digest ");
+            hexes(page, words);
+            page.text(b"\n");
             Outcome::Done
         }
         Err(_) => refused(page, b"digest", Refusal::Length),
@@ -132,7 +139,9 @@ pub fn digest(input: &[u8], page: &mut Printer) -> Outcome {
 
 // Seconds, by their bits.
 fn bits_call(page: &mut Printer, bits: u64) -> Outcome {
-    page.print(format_args!("secs {bits:016x}\n"));
+    page.text(b"secs ");
+    page.hex(bits, LONG);
+    page.text(b"\n");
     Outcome::Done
 }
 
@@ -149,7 +158,7 @@ fn nanos_call(x: f64, page: &mut Printer) -> Outcome {
         return Outcome::Bad;
     }
     let t = Time::from_secs_f64(x);
-    page.print(format_args!("nanos {}\n", t.ns));
+    page.ended(b"nanos ", t.ns);
     Outcome::Done
 }
 
@@ -159,7 +168,7 @@ fn times_call(t: Time, by: f64, page: &mut Printer) -> Outcome {
         return Outcome::Bad;
     }
     let r = t.mul_f64(by);
-    page.print(format_args!("times {}\n", r.ns));
+    page.ended(b"times ", r.ns);
     Outcome::Done
 }
 

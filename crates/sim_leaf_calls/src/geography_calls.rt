@@ -4,7 +4,7 @@ use ask_tables::{LATEST, LONGEST_WIRE, MOST_WORDS, cell, put};
 use link_geography::{Cost, Link};
 use math_time::Time;
 use rand_streams::Cursor;
-use sim_answers::Hexes;
+use sim_answers::hexes;
 use sim_lend::Network;
 use sim_outcome::{Outcome, refused, valued};
 use sim_printer::Printer;
@@ -70,7 +70,7 @@ fn region_call(t: u32, setup: &[u64], page: &mut Printer) -> Outcome {
         page.text(b"region -\n");
         return Outcome::Done;
     }
-    page.print(format_args!("region {}\n", region(setup, t)));
+    page.ended(b"region ", region(setup, t));
     Outcome::Done
 }
 
@@ -82,7 +82,8 @@ fn link_call(from: u32, to: u32, setup: &[u64], prices: &[u64], page: &mut Print
     }
     let l = link(setup, prices, from, to);
     let base = l.base;
-    page.print(format_args!("link base={} rate={}\n", base.ns, l.rate));
+    page.labelled(b"link base=", base.ns);
+    page.ended(b" rate=", l.rate);
     Outcome::Done
 }
 
@@ -94,16 +95,21 @@ fn transmission(
     setup: &[u64],
     prices: &[u64],
 ) -> Result<u64, Refusal> {
+    if !is_planned(setup) {
+        wire_time(bytes, 0)?;
+        return Ok(0);
+    }
     let l = link(setup, prices, from, to);
-    let ns = wire_time(bytes, l.rate)?;
-    if is_planned(setup) { Ok(ns) } else { Ok(0) }
+    wire_time(bytes, l.rate)
 }
 
 // The key of the stream of a link.
 fn key_call(from: u32, to: u32, setup: &[u64], page: &mut Printer) -> Outcome {
     let seed = cell(setup, ask_tables::SEED);
     let key = rand_streams::link_key(seed, from, to);
-    page.print(format_args!("linkkey {}\n", Hexes(key)));
+    page.text(b"linkkey ");
+    hexes(page, key);
+    page.text(b"\n");
     Outcome::Done
 }
 
@@ -205,23 +211,24 @@ pub fn latency(network: Network<'_>, call: Latency, page: &mut Printer) -> Outco
         return refused(page, b"latency", Refusal::Words);
     }
     page.text(b"latency");
-    let cost = cost(setup, prices, from, to, call.bytes);
+    let cost = match call.times {
+        0 => no_cost(),
+        _ => cost(setup, prices, from, to, call.bytes),
+    };
     let mut cursor = Cursor::at(call.key, call.count);
     for _ in 0..call.times {
         let ns = sampled(setup, &mut cursor, cost);
-        page.print(format_args!(" {ns}"));
+        page.labelled(b" ", ns);
     }
-    let count = cursor.count;
-    page.print(format_args!(" words={count}\n"));
+    page.ended(b" words=", cursor.count);
     Outcome::Done
 }
 
 // Stops a block at that time, or a down till?
 fn is_stopped(setup: &[u64], net: &[u64], tills: &[u64], blocks: &[u64], m: Message) -> bool {
     let blocked = call_block::is_blocked(setup, net, blocks, m.from, m.to, m.at);
-    let from = call_till::is_down(setup, tills, m.from);
-    let to = call_till::is_down(setup, tills, m.to);
-    matches!(blocked, Ok(true)) || matches!(from, Ok(true)) || matches!(to, Ok(true))
+    let is_down = |t: u64| matches!(call_till::is_down(setup, tills, t), Ok(true));
+    matches!(blocked, Ok(true)) || is_down(m.from) || is_down(m.to)
 }
 
 // The questions of a message from till to till: 4, 6, 7 and 8. Its tills, where none refuses it.
@@ -269,9 +276,10 @@ fn drawn(
 // The latency of a message, or that it would not arrive; and the words that its link's stream has given.
 fn told(page: &mut Printer, latency: Option<u64>, count: u64) -> Outcome {
     match latency {
-        Some(ns) => page.print(format_args!("should {ns} words={count}\n")),
-        None => page.print(format_args!("should - words={count}\n")),
+        Some(ns) => page.labelled(b"should ", ns),
+        None => page.text(b"should -"),
     }
+    page.ended(b" words=", count);
     Outcome::Done
 }
 

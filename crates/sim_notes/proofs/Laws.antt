@@ -1,5 +1,5 @@
 -- A note is its parts in a row: each law takes the equation of every part, over plain lists.
-use Rattle.std.proofs.Common.{◌≡◌, ℕ, ◌+◌, ◌*◌, ◌%◌, ◌^◌, ◌≤◌, min, List, get_or, take, sym, refl, ap, ◌∙◌, add-one, arith, eq-eqb, ne_eqb}
+use Rattle.std.proofs.Common.{◌≡◌, ℕ, ◌+◌, ◌*◌, ◌%◌, ◌^◌, ◌≤◌, min, List, get_or, take, sym, refl, ◌-◌, ap, ◌∙◌, add-one, arith, eq-eqb, ne_eqb}
 use Rattle.table_waiting.specs.Waiting as waiting
 use Rattle.spec_network.specs.Opening.{most_tills, most_classes, most_slots}
 use Rattle.spec_network.specs.Tables.{cell, waiting_at}
@@ -7,6 +7,12 @@ use Rattle.call_reply.specs.declared.Value.{Value}
 use Rattle.call_waiting.specs.Call.{Reads, DoesTransit}
 use Rattle.call_log.specs.Call.{DoesTally}
 use Rattle.call_log.specs.declared.Tallied.{Tallied}
+use Rattle.ask_refusal.specs.declared.Refusal.{Refusal}
+use Rattle.sim_script.specs.declared.calls.Call.{Call}
+use Rattle.sim_script.specs.declared.calls.Call.TheVariants.{Flush as FlushCall}
+use Rattle.sim_script.specs.declared.calls.Flush.{Flush}
+use Rattle.sim_outcome.specs.declared.Outcome.{Outcome}
+use Rattle.sim_outcome.specs.declared.Outcome.TheVariants.{Bad, Refused, Done, Accepted, Flushed}
 use Rattle.sim_figures.specs.declared.Said.{Said}
 use Rattle.sim_figures.specs.declared.Tally.{Tally}
 use Rattle.sim_figures.specs.declared.Figures.{Figures}
@@ -23,6 +29,8 @@ use Rattle.sim_notes.specs.Noted.{
   due_notes,
   rows_words,
   flush_note,
+  taken_note,
+  after_note,
   waits_of,
   transit_in,
   till_transit,
@@ -169,3 +177,28 @@ pub ends :
     → e₃ ≡ tallies_note e₂ setup log → m ≡ marks_in setup seen → e₄ ≡ standing_note e₃ m → e₄ ≡ end_note d setup net seen copies log
 unfolding end_note
 ends d e₁ e₂ e₃ e₄ setup net seen copies log k n m ek en p t q em r = cc
+
+-- ---- A call that no question refused, and what is noted behind a line
+
+pub flush_noted : (l l' : Figures) (due : List ℕ) (call : Call) (told : Outcome) (gone : ℕ) (net out : List ℕ) (flush : Flush) (said : Said) (n : ℕ)
+    → call ≡ FlushCall flush → told ≡ Flushed said n → l' ≡ flush_note l due said n gone out → l' ≡ taken_note l due call told gone net out
+unfolding taken_note
+flush_noted l l' due call told gone net out flush said n ec et e = rw (ec, et) e
+
+pub bad_noted : (l : Figures) (due : List ℕ) (call : Call) (told : Outcome) (stood : ℕ) (setup net seen out : List ℕ)
+    → told ≡ Bad → l ≡ after_note l due call told stood setup net seen out
+unfolding after_note
+bad_noted l due call told stood setup net seen out e = rw e refl
+
+pub taken_noted : (l l' : Figures) (due : List ℕ) (call : Call) (told : Outcome) (stood m gone : ℕ) (setup net seen out : List ℕ)
+    → (told ≡ Bad → ⊥) → ((r : Refusal) → told ≡ Refused r → ⊥) → m ≡ marks_in setup seen → gone ≡ stood - m
+    → l' ≡ taken_note l due call told gone net out → l' ≡ after_note l due call told stood setup net seen out
+unfolding after_note
+taken_noted l l' due call Bad stood m gone setup net seen out b r em eg e = absurd (b refl)
+taken_noted l l' due call (Refused w) stood m gone setup net seen out b r em eg e = absurd (r w refl)
+taken_noted l l' due call Done stood m gone setup net seen out b r em eg e =
+    e ∙ ap (λ (g : ℕ). taken_note l due call Done g net out) (eg ∙ ap (λ (k : ℕ). stood - k) em)
+taken_noted l l' due call (Accepted five) stood m gone setup net seen out b r em eg e =
+    e ∙ ap (λ (g : ℕ). taken_note l due call (Accepted five) g net out) (eg ∙ ap (λ (k : ℕ). stood - k) em)
+taken_noted l l' due call (Flushed said n) stood m gone setup net seen out b r em eg e =
+    e ∙ ap (λ (g : ℕ). taken_note l due call (Flushed said n) g net out) (eg ∙ ap (λ (k : ℕ). stood - k) em)

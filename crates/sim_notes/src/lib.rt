@@ -170,11 +170,13 @@ pub fn after(
     ensures { figures.new ≡ noted.after_note figures.old due.now call.entry told stood
         network.now.setup.now network.now.net.now network.now.seen.now network.now.out.now }
 {
-    let gone = stood.saturating_sub(marks(network.setup, network.seen));
     match told {
         Outcome::Bad => {}
         Outcome::Refused(refusal) => figures.refused(refusal.number()),
-        _ => taken(figures, due, call, told, gone, network),
+        _ => {
+            let gone = stood.saturating_sub(marks(network.setup, network.seen));
+            taken(figures, due, call, told, gone, network)
+        }
     }
 }
 

@@ -31,3 +31,9 @@ pub record Spelled (base least width n : ℕ) (p q : Page) : Type 0 where
   pub places : ℕ
   pub fewest : IsDigitCount base least n places
   pub is : q ≡ gathered (gathered p (blanks (width - places))) (last_digits base places n)
+
+-- p, and then a line of the label and n in decimal
+pub record Ended (label : List ℕ) (n : ℕ) (p q : Page) : Type 0 where
+  pub before : Page
+  pub number : Spelled 10 1 0 n (gathered p label) before
+  pub is : q ≡ gathered before (10 ∷ [])

@@ -1,10 +1,9 @@
 // Text for standard output, gathered in a lent buffer and written when that is full.
 #![tactic(auto)]
 
-ghost use Rattle.std.specs.Prelude.{◌≡◌, min, max, take, Ok};
-ghost use Rattle.sim_printer.specs.Printer.{page, more, gathered, blanks, Spelled};
+ghost use Rattle.std.specs.Prelude.{◌≡◌, min, max, take};
+ghost use Rattle.sim_printer.specs.Printer.{page, more, gathered, blanks, Spelled, Ended};
 
-use std::fmt;
 use std::marker::Model;
 
 // The descriptor of standard output.
@@ -99,10 +98,20 @@ impl<'a> Printer<'a> {
         self.text(&digits[..k]);
     }
 
-    // What a value displays. No clause: std says only what a display leaves that did not fail (each piece by `write_str`), and the result is not
-    // kept; that no more counts than the buffer holds is the invariant.
-    pub fn print<D: fmt::Display + Drop>(&mut self, what: D) {
-        let _ = fmt::Write::write(self, what);
+    // A label, and n in decimal behind it.
+    pub fn labelled(&mut self, label: &[u8], n: u64)
+        ensures { Spelled 10 1 0 n (gathered self.old label.now) self.new }
+    {
+        self.text(label);
+        self.decimal(n);
+    }
+
+    // The same, and the end of a line.
+    pub fn ended(&mut self, label: &[u8], n: u64)
+        ensures { Ended label.now n self.old self.new }
+    {
+        self.labelled(label, n);
+        self.text(b"\n");
     }
 
     // Writes what was gathered; nothing counts then.
@@ -125,18 +134,5 @@ impl<'a> Printer<'a> {
         ensures { result.now ≡ take self.now.used self.now.held }
     {
         &self.buf[..self.used]
-    }
-}
-
-// What `write!` prints is gathered too; it never fails.
-impl<'a> fmt::Write for Printer<'a> {
-    ghost write_str_gives = { λ p t q. q ≡ gathered p t };
-
-    fn write_str(&mut self, s: &str) -> fmt::Result
-        ensures gathers { self.new ≡ gathered self.old s.now }
-        ensures ok { result ≡ Ok tt }
-    {
-        self.text(s.as_bytes());
-        Ok(())
     }
 }

@@ -209,3 +209,15 @@ region_before ws ws' b s n e h k k' =
     (let m : n ≤ b - s = omega arith in
     sym (ap (take n) (drop_take s b l (omega arith) q) ∙ take-take n (b - s) (drop s l) m)) in
     f ws' k' ∙ ap (λ (l : List ℕ). take n (drop s l)) e ∙ sym (f ws k)
+
+-- down by none nothing moves
+pub closed_still : (ws : List ℕ) (a z by : ℕ) → a ≤ z → by ≡ 0 → ws ≡ closed ws a z by
+unfolding closed
+closed_still ws a z by h e =
+    let p : a - by ≡ a = omega arith in
+    let q : z - by ≡ a + (z - a) = omega arith in
+    sym (ap (λ (i : ℕ). take i ws ++ (take (z - a) (drop a ws) ++ drop (z - by) ws)) p
+    ∙ ap (λ (j : ℕ). take a ws ++ (take (z - a) (drop a ws) ++ drop j ws)) q
+    ∙ ap (λ (x : List ℕ). take a ws ++ (take (z - a) (drop a ws) ++ x)) (sym (drop-drop (z - a) a ws))
+    ∙ ap (λ (x : List ℕ). take a ws ++ x) (take-append-drop (z - a) (drop a ws))
+    ∙ take-append-drop a ws)

@@ -32,10 +32,13 @@ pub fn move_up(ws: &mut [u64], from: usize, to: usize, by: usize)
     ws.copy_within(from..to, from + by);
 }
 
-// The words from..to move down by `by` places.
+// The words from..to move down by `by` places. By none nothing moves: `copy_within` would store each word where it stands, one by one.
 pub fn move_down(ws: &mut [u64], from: usize, to: usize, by: usize)
     requires { (by ≤ from) × (from ≤ to) × (to ≤ length ws.old) }
     ensures { ws.new ≡ closed ws.old from to by }
 {
+    if by == 0 {
+        return;
+    }
     ws.copy_within(from..to, from - by);
 }

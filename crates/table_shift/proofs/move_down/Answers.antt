@@ -4,7 +4,11 @@ use Prim.Native.Nat.{ℕ, ◌+◌, ◌-◌}
 use native.Mathlib.Omega.{arith}
 use lib.ListN.{take, drop}
 use Rattle.table_shift.specs.Shift.{closed}
+use Rattle.table_shift.proofs.Laws.{closed_still}
 use Rattle.table_shift.proofs.move_down.Goals as goal
+
+pub returns-then-by-eq0 : goal.returns-then-by-eq0
+returns-then-by-eq0 c = let a = c.args in closed_still a.ws.now a.from a.to a.by c.requires.1 c.if-by-eq0.true
 
 pub returns : goal.returns
 unfolding closed
