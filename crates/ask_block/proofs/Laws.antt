@@ -45,6 +45,18 @@ passed s n b from to rest h =
 -- ---- The ladders
 
 module _ (s n b : List ℕ) (from to rest : ℕ) where
+  pub not_lent : blocks_lent s n b ≡ false → 1 ≡ pair_number s n b from to rest
+  unfolding pair_number
+  not_lent h = no _ _ _ _ h refl
+
+  pub not_near : blocks_lent s n b ≡ true → (tills : ℕ) → tills ≡ cell s 0 → tills ≤ max from to → 4 ≡ pair_number s n b from to rest
+  unfolding pair_number
+  not_near h tills e k = yes _ _ _ _ h (no _ _ _ _ (le-ltb (max from to) (cell s 0) (omega (arith, k, e))) refl)
+
+  pub near : blocks_lent s n b ≡ true → (tills : ℕ) → tills ≡ cell s 0 → from < tills → to < tills → rest ≡ pair_number s n b from to rest
+  unfolding pair_number
+  near h tills e f t = yes _ _ _ _ h (yes _ _ _ _ (lt-ltb (max from to) (cell s 0) (omega (arith, f, t, e))) refl)
+
   -- what the first two questions refuse, whatever follows
   pub refused_first : (r : ℕ) → r ≡ pair_number s n b from to 0 → (r ≡ 0 → ⊥) → r ≡ pair_number s n b from to rest
   unfolding pair_number

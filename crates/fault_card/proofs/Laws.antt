@@ -1,15 +1,15 @@
 -- Bytes read one by one, little-endian; a card's places and fields; when a card is exact.
 use mathlib.Core.Path.{◌≡◌, refl, sym, ap, ◌∙◌}
-use mathlib.Core.Bool.{Bool, true, false, cond, ◌&&◌}
+use mathlib.Core.Bool.{Bool, true, false, cond, not, ◌&&◌, ◌||◌}
 use mathlib.Core.List.{List}
 use Prim.Native.Nat.{ℕ, suc, ◌+◌, ◌-◌, ◌*◌, ◌^◌, ◌<◌, ◌≤◌}
 use native.Mathlib.Nat.{pow-suc, pow-le-pow_right}
 use native.Mathlib.Omega.{arith}
-use lib.Dec.{lit<, eqb}
+use lib.Dec.{lit<, ltb, eqb}
 use lib.ListN.{length, get_or}
-use borrow.Author.Tests.{eq-eqb, ne_eqb, le-leb, lt-leb}
+use borrow.Author.Tests.{eq-eqb, ne_eqb, le-leb, lt-leb, lt-ltb, le-ltb}
 use Rattle.fault_rule.specs.declared.DropSpec.{DropSpec}
-use Rattle.fault_rule.specs.Rule.{kind_bit, from_bit, to_bit, tier_bit, probability_bit, window_bit}
+use Rattle.fault_rule.specs.Rule.{has, kind_bit, from_bit, to_bit, tier_bit, probability_bit, window_bit, closed_bit}
 use Rattle.fault_rule.proofs.Laws.{yes, no}
 use Rattle.std.specs.Prelude.{Option, Some, None}
 use Rattle.fault_card.specs.declared.Places.{Places}
@@ -54,6 +54,23 @@ pub read_fields : (s : List ℕ) (map : ℕ) (at : Places) (k f t i p b e : ℕ)
     → ◌≡◌ {A = DropSpec} (record { map = map; kind = k; from = f; to = t; tier = i; probability = p; start = b; end = e }) (spec_of s map at)
 unfolding spec_of
 read_fields s map at k f t i p b e hk hf ht hi hp hb he = cc
+
+-- ---- the ways through `map_exact`
+pub not_below : (map k : ℕ) → k ≤ map → ltb map k ≡ false
+not_below map k h = le-ltb map k h
+
+pub bit_7 : (map : ℕ) → 128 ≤ map → false ≡ map_exact map
+unfolding map_exact
+bit_7 map h = ap (λ (b : Bool). b && (has map window_bit || not (has map closed_bit))) (sym (le-ltb map 128 h))
+
+module _ (map : ℕ) (low : map < 128) where
+  pub beside_5 : has map window_bit ≡ true → true ≡ map_exact map
+  unfolding map_exact
+  beside_5 h = rw (lt-ltb map 128 low, h)
+
+  pub without_5 : has map window_bit ≡ false → (b : Bool) → b ≡ has map closed_bit → not b ≡ map_exact map
+  unfolding map_exact
+  without_5 h b e = rw (lt-ltb map 128 low, h, e)
 
 -- ---- the ways through `read`, whose first byte is m
 all_three : (a b c : Bool) → a ≡ true → b ≡ true → c ≡ true → a && b && c ≡ true

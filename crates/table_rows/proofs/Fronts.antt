@@ -24,8 +24,11 @@ module _ {A : Type 0} (q : A → Bool) where
       go true h = omega arith
       go false h = omega arith
 
-  zero_apart : (n : ℕ) → nat_eq 0 (suc n) ≡ false
-  zero_apart n = Prim.search (rules, common_steps)
+  apart : (k n : ℕ) → k < n → nat_eq k n ≡ false
+  apart k n h = Prim.search (rules, common_steps)
+
+  same : (k n : ℕ) → k ≡ n → nat_eq k n ≡ true
+  same k n e = Prim.search (rules, common_steps)
 
   -- all pass where as many stand at the front
   pub front_all : (l : List A) → nat_eq (length (front q l)) (length l) ≡ all_of q l
@@ -34,7 +37,7 @@ module _ {A : Type 0} (q : A → Bool) where
     where
       go : (b : Bool) → nat_eq (length (front q l)) (length l) ≡ all_of q l → nat_eq (length (cond b (a ∷ front q l) [])) (suc (length l)) ≡ (b && all_of q l)
       go true h = simp compare.suc-suc h
-      go false h = zero_apart (length l)
+      go false h = apart 0 (suc (length l)) (omega arith)
 
   pub last_le : (l : List A) → through_last q l ≤ length l
   last_le [] = omega arith
@@ -80,6 +83,19 @@ module _ {R : Type 0} (f : Form R) (q : R → Bool) (ws : List ℕ) (n : ℕ) wh
 
   pub front_end : (i : ℕ) → n ≤ i → Front i → i ≡ length (front q (rows_of f ws n))
   front_end i h d = let t = ap (λ (l : List R). length (front q l)) (rows_end_lem f.width f.read ws n i h) in omega (arith, t, d)
+
+  -- do all pass? not where row i fails; yes where none is left
+  pub all_failed : (i : ℕ) → i < n → q (row_of f ws i) ≡ false → Front i → false ≡ all_of q (rows_of f ws n)
+  all_failed i h e d =
+      let k = front_here i h e d in
+      let l = length_rows f.width f.read n ws in
+      sym (apart q _ _ (omega (arith, k, l))) ∙ front_all q (rows_of f ws n)
+
+  pub all_passed : (i : ℕ) → n ≤ i → i ≤ n → Front i → true ≡ all_of q (rows_of f ws n)
+  all_passed i h m d =
+      let k = front_end i h d in
+      let l = length_rows f.width f.read n ws in
+      sym (same q _ _ (omega (arith, k, l))) ∙ front_all q (rows_of f ws n)
 
   -- none passes from row i on
   abbrev pub NoneFrom : ℕ → Type 0
