@@ -1,5 +1,6 @@
 // A bad line, ids and digests.
 use sim_printer::Printer;
+use std::fmt;
 
 // A bad line, by its number.
 pub fn bad(page: &mut Printer, line: u64) {
@@ -22,12 +23,16 @@ pub fn ids(page: &mut Printer, ids: &[u64]) {
     }
 }
 
-// Digits of a word.
-const WORD: usize = 8;
-
 // The bytes of eight words, little-endian, two digits each.
-pub fn hexes(page: &mut Printer, words: [u32; 8]) {
-    for word in words {
-        page.hex(u64::from(word.swap_bytes()), WORD);
+#[derive(Drop)]
+pub struct Hexes(pub [u32; 8]);
+
+impl fmt::Display for Hexes {
+    fn fmt<W: fmt::Write>(&self, f: &mut fmt::Formatter<W>) -> fmt::Result {
+        for word in &self.0 {
+            let word = word.swap_bytes();
+            write!(f, "{word:08x}")?;
+        }
+        Ok(())
     }
 }

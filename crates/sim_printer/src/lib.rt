@@ -1,9 +1,10 @@
 // Text for standard output, gathered in a lent buffer and written when that is full.
 #![tactic(auto)]
 
-ghost use Rattle.std.specs.Prelude.{◌≡◌, min, max, take};
+ghost use Rattle.std.specs.Prelude.{◌≡◌, min, max, take, Ok};
 ghost use Rattle.sim_printer.specs.Printer.{page, more, gathered, blanks, Spelled, Ended};
 
+use std::fmt;
 use std::marker::Model;
 
 // The descriptor of standard output.
@@ -114,6 +115,12 @@ impl<'a> Printer<'a> {
         self.text(b"\n");
     }
 
+    // What a value displays. No clause: std says only what a display leaves that did not fail (each piece by `write_str`), and the result is not
+    // kept; that no more counts than the buffer holds is the invariant. The answers of a script go by the methods above, whose clauses say the digits.
+    pub fn print<D: fmt::Display + Drop>(&mut self, what: D) {
+        let _ = fmt::Write::write(self, what);
+    }
+
     // Writes what was gathered; nothing counts then.
     pub fn finish(&mut self)
         ensures { self.new ≡ page self.old.held 0 }
@@ -134,5 +141,44 @@ impl<'a> Printer<'a> {
         ensures { result.now ≡ take self.now.used self.now.held }
     {
         &self.buf[..self.used]
+    }
+}
+
+// What `write!` prints is gathered too; it never fails.
+impl<'a> fmt::Write for Printer<'a> {
+    ghost write_str_gives = { λ p t q. q ≡ gathered p t };
+
+    fn write_str(&mut self, s: &str) -> fmt::Result
+        ensures gathers { self.new ≡ gathered self.old s.now }
+        ensures ok { result ≡ Ok tt }
+    {
+        self.text(s.as_bytes());
+        Ok(())
+    }
+}
+
+#[cfg(test)]
+mod tests {
+    use super::*;
+
+    // Two values and what stands between them, in the order of the format.
+    #[test]
+    fn prints_what_is_displayed(rt: HostRuntime) {
+        let mut buf = [0u8; 16];
+        let mut page = Printer::new(&mut buf);
+        page.text(b"id ");
+        let id: u64 = 2748;
+        page.print(format_args!("{id:06x}, {id}"));
+        assert_eq!(rt; page.as_slice(), b"id 000abc, 2748".as_slice());
+    }
+
+    // A piece of text behind what is there.
+    #[test]
+    fn gathers_what_is_written(rt: HostRuntime) {
+        let mut buf = [0u8; 8];
+        let mut page = Printer::new(&mut buf);
+        page.decimal(41);
+        assert!(rt; fmt::Write::write_str(&mut page, " till").is_ok());
+        assert_eq!(rt; page.as_slice(), b"41 till".as_slice());
     }
 }
