@@ -1,4 +1,4 @@
-// Digests, on a line of answers. `Hexes` in `plain` is the same as a value, which any writer displays.
+// Digests, on a line of answers. `Hexes` in `plain` is the same as a value that can be displayed on any writer.
 use sim_printer::Printer;
 
 // Digits of a word.

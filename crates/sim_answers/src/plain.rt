@@ -23,7 +23,8 @@ pub fn ids(page: &mut Printer, ids: &[u64]) {
     }
 }
 
-// The bytes of eight words, little-endian, two digits each.
+// The bytes of eight words, little-endian, two digits each, on any writer. For other callers: the answers go by `hexes`, whose digits the printer's
+// clauses give. It stays beside `hexes` because it was public.
 #[derive(Drop)]
 pub struct Hexes(pub [u32; 8]);
 
